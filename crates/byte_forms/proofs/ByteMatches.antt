@@ -175,7 +175,7 @@ module _ (b : GraphBytes) (s : MatchBytes) {sizes : ℕ}
     sized = (
       by-graph,
       (
-        λ n. subst (λ (m : Matching). LargestMatch (graphRead b) m) (sym (stands n .1)) (match-largest (graphRead b) (stands n .0) (read-doubles b)),
+        λ n. subst (λ (m : Matching). LargestMatch (graphRead b .pattern) m) (sym (stands n .1)) (match-largest (graphRead b) (stands n .0) (read-doubles b)),
         (
           λ n w. subst (λ (m : Matching). Optimal (graphRead b) m) (sym (stands n .1)) (match-optimal (graphRead b) (stands n .0) w),
           λ n. subst (λ (m : Matching). Work (graphRead b) (m .stats)) (sym (stands n .1)) (match-work (graphRead b) (stands n .0) (read-doubles b)),

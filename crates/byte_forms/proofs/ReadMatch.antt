@@ -13,7 +13,8 @@ use lib.Ieee.{Float, nan, binary64, fits, ofBits}
 use lib.Ieee.Bits.{ofBits-fits}
 use Rattle.float64.specs.Number.{Number, unitsPerOne}
 use Rattle.hungarian.specs.declared.HungarianStats.{HungarianStats}
-use Rattle.hungarian.specs.Graph.{CostGraph, entries}
+use Rattle.sparse.specs.Pattern.{entries}
+use Rattle.hungarian.specs.Graph.{CostGraph}
 use Rattle.hungarian.specs.Accepted.{Accepted, Doubles}
 use Rattle.hungarian.specs.Init.{Pairs}
 use Rattle.hungarian.specs.Match.{Matching, finish, initial, searched, hungarianMatch}
@@ -43,8 +44,9 @@ record Held (n : ℕ) (m : Matching) : Type 0 where
   matched : m .matched < 2 ^ 64
 
 -- ---- a finished match is so
-module _ {g : CostGraph} (S : Setting Number unitsPerOne (costLimit (g .n)) g) where
-  finished : {s : Pairs} {u : List Float} (c : HungarianStats) → Matched g s → Bounded Number (costLimit (g .n)) g s u → Held (g .n) (finish g s u c)
+module _ {g : CostGraph} (S : Setting Number unitsPerOne (costLimit (g .pattern .n)) g) where
+  finished : {s : Pairs} {u : List Float} (c : HungarianStats) → Matched g s → Bounded Number (costLimit (g .pattern .n)) g s u
+      → Held (g .pattern .n) (finish g s u c)
   unfolding finish
   finished {s} {u} c M B = record {
     permCount = perm-length g (s .jperm) ∙ M .columnCount;
@@ -57,30 +59,31 @@ module _ {g : CostGraph} (S : Setting Number unitsPerOne (costLimit (g .n)) g) w
   }
 
 module _ (g : CostGraph) (a : Accepted g) (f : Doubles g) where
-  S : Setting Number unitsPerOne (costLimit (g .n)) g
+  S : Setting Number unitsPerOne (costLimit (g .pattern .n)) g
   S = near-setting g a f
 
-  held : Held (g .n) (hungarianMatch g)
+  held : Held (g .pattern .n) (hungarianMatch g)
   unfolding hungarianMatch searched
-  held = go (eqb (initial g .pairs .num) (g .n))
+  held = go (eqb (initial g .pairs .num) (g .pattern .n))
     where
       go : (b : Bool)
-          → Held (g .n) (cond b (finish g (initial g .pairs) (firstDuals g) (initial g .stats))
+          → Held (g .pattern .n) (cond b (finish g (initial g .pairs) (firstDuals g) (initial g .stats))
           (finish g (searched g (firstDuals g) (initial g) .pairs) (searched g (firstDuals g) (initial g) .u)
           (searched g (firstDuals g) (initial g) .stats)))
       go true = finished S (initial g .stats) (initial-matched S) (initial-bounded S)
-      go false = let R = turns S (exact-start S) (g .n) (le-refl (g .n)) in finished S (searched g (firstDuals g) (initial g) .stats) (R .matched) (R .bounded)
+      go false = let R = turns S (exact-start S) (g .pattern .n) (le-refl (g .pattern .n)) in
+          finished S (searched g (firstDuals g) (initial g) .stats) (R .matched) (R .bounded)
 
   -- ---- the counts
   counts-held : (m : Matching) → m .matched < 2 ^ 64 → Work g (m .stats) → (i : ℕ) → i < 8 → getD (countsOf (matchCounts m)) i 0 < 2 ^ 64
   counts-held m h w i l = go i l
     where
       touched : m .stats .«touched_total» ≤ 4096 * 4096
-      touched = let p = mul-le-mul {n₁ = m .stats .«augment_searches»} {m₁ = g .n} {n₂ = 4096} {m₂ = 4096} (omega (arith, w .searches, S .fewColumns))
+      touched = let p = mul-le-mul {n₁ = m .stats .«augment_searches»} {m₁ = g .pattern .n} {n₂ = 4096} {m₂ = 4096} (omega (arith, w .searches, S .fewColumns))
           (S .fewColumns) in omega (arith, w .touched)
 
       scans : m .stats .«main_loop_edge_scans» ≤ 4096 * 262144
-      scans = let p = mul-le-mul {n₁ = m .stats .«augment_searches»} {m₁ = entries g} {n₂ = 4096} {m₂ = 262144}
+      scans = let p = mul-le-mul {n₁ = m .stats .«augment_searches»} {m₁ = entries (g .pattern)} {n₂ = 4096} {m₂ = 262144}
           (omega (arith, w .searches, S .fewColumns)) (S .fewEntries) in omega (arith, w .scans)
 
       slots : m .stats .«heap_init_slots» < 2 ^ 64
@@ -97,17 +100,17 @@ module _ (g : CostGraph) (a : Accepted g) (f : Doubles g) where
       go (suc (suc (suc (suc (suc (suc (suc zero))))))) l = omega (arith, w .heap, S .fewColumns)
       go (suc (suc (suc (suc (suc (suc (suc (suc i)))))))) l = absurd (omega arith)
 
-  pub match-reads-back : matchRead (g .n) (matchLaid (hungarianMatch g)) ≡ hungarianMatch g
+  pub match-reads-back : matchRead (g .pattern .n) (matchLaid (hungarianMatch g)) ≡ hungarianMatch g
   unfolding matchRead matchLaid
   match-reads-back =
       let m = hungarianMatch g in
-      let p : words (wordBytes (m .perm)) (g .n) ≡ m .perm =
+      let p : words (wordBytes (m .perm)) (g .pattern .n) ≡ m .perm =
       subst (λ (n : ℕ). words (wordBytes (m .perm)) n ≡ m .perm) (held .permCount)
       (words-back (m .perm) (λ i h. held .rows i (omega (arith, held .permCount)))) in
-      let u : doubles (doubleBytes (m .u)) (g .n) ≡ m .u =
+      let u : doubles (doubleBytes (m .u)) (g .pattern .n) ≡ m .u =
       subst (λ (n : ℕ). doubles (doubleBytes (m .u)) n ≡ m .u) (held .rowCount)
       (doubles-back (m .u) (λ i h. held .rowDual i (omega (arith, held .rowCount)))) in
-      let v : doubles (doubleBytes (m .v)) (g .n) ≡ m .v =
+      let v : doubles (doubleBytes (m .v)) (g .pattern .n) ≡ m .v =
       subst (λ (n : ℕ). doubles (doubleBytes (m .v)) n ≡ m .v) (held .columnCount)
       (doubles-back (m .v) (λ i h. held .columnDual i (omega (arith, held .columnCount)))) in
       let c : longs (allBytes 8 (countsOf (matchCounts m))) 8 ≡ countsOf (matchCounts m) =

@@ -114,7 +114,7 @@ matchBytesResult b old = resultBy (bytesFault b old) (graphRead b) old
 
 -- of the match that the bytes left stand for: what holds for any accepted costs
 abbrev pub BytesMatch : GraphBytes → Outcome ℕ MatchBytes → Type 0
-BytesMatch b t = t .answer ≡ accepted → LargestMatch (graphRead b) (matchRead (b .n) (t .after))
+BytesMatch b t = t .answer ≡ accepted → LargestMatch (graphRead b .pattern) (matchRead (b .n) (t .after))
 
 -- demand 3, for whole costs
 abbrev pub BytesPromised : GraphBytes → Outcome ℕ MatchBytes → Type 0

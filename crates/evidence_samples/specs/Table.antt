@@ -19,7 +19,7 @@ use Rattle.byte_numbers.specs.Root.{rootBytes, rootNumber}
 use Rattle.whole_log.specs.Log.{wholeLog}
 use Rattle.whole_log.specs.declared.Log.{Log}
 use Rattle.whole_log.specs.declared.Log.the-variants as log
-use Rattle.hungarian.specs.Graph.{CostGraph}
+use Rattle.hungarian.specs.Graph.{CostGraph, graphOf}
 use Rattle.hungarian_match.specs.Call as Match
 use Rattle.hungarian_match.specs.Call.{matchOutcome, countsLeft}
 use Rattle.sparse.specs.Matrix.{Matrix, matrix}
@@ -56,7 +56,7 @@ pairsLent n =
 
 -- what the match does with a graph
 abbrev pub matchOf : CostGraph → Outcome Answer Match.Slices
-matchOf g = matchOutcome g (pairsLent (g .n))
+matchOf g = matchOutcome g (pairsLent (g .pattern .n))
 
 -- the number that it answers, and the count of pairs
 abbrev pub matchNumber : CostGraph → ℕ
@@ -75,8 +75,8 @@ matchIs g perm u v matched counts =
     && same (bits (found .after .u)) u
     && same (bits (found .after .v)) v
     && same (countsLeft (found .answer) []) (matched ∷ counts)
-    && same (found .after .work) (replicate (12 * g .n + 1) 0)
-    && same (bits (found .after .fwork)) (replicate (2 * g .n) 0)
+    && same (found .after .work) (replicate (12 * g .pattern .n + 1) 0)
+    && same (bits (found .after .fwork)) (replicate (2 * g .pattern .n) 0)
 
 -- ---- roots and logarithms
 -- a root with these bits, as eight bytes
@@ -203,7 +203,7 @@ abbrev minusInfinity : ℕ
 minusInfinity = 0xFFF0_0000_0000_0000
 
 abbrev pub graph : ℕ → List ℕ → List ℕ → List ℕ → CostGraph
-graph n colPtr rows costs = record { n = n; colPtr = colPtr; rowIdx = rows; cost = map (ofBits binary64) costs }
+graph n colPtr rows costs = graphOf n colPtr rows (map (ofBits binary64) costs)
 
 -- a graph of n columns, the first of which has one entry, and of this cost
 abbrev pub single : (n cost : ℕ) → CostGraph

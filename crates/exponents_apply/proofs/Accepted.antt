@@ -17,11 +17,11 @@ use Rattle.sparse.specs.Columns.{Columns}
 use Rattle.sparse.specs.Validate.{sizeFault, pointerFault}
 use Rattle.sparse.proofs.First.{or-none, or-zero, unless-holds, span-zero, all-zero}
 use Rattle.sparse.proofs.Accepted.{sizes-accepted, pointers-accepted, general-columns}
-use Rattle.hungarian.specs.Graph.{CostGraph, InColumn}
-use Rattle.hungarian.proofs.Columns.{column-is, in-column, in-entries}
+use Rattle.sparse.specs.Pattern.{Pattern, columnOf, InColumn}
+use Rattle.sparse.proofs.Columns.{column-is, in-column, in-entries}
 use Rattle.exponents_powers.specs.Power.{scalable, Exponents}
-use Rattle.exponents_apply.specs.Apply.{Pattern, exponentAt, lengthsFit, matrixFault, limitFault, placeFault, columnFault, valuesFault}
-use Rattle.exponents_apply.specs.Apply.{applyFault, columnOf, shiftAt}
+use Rattle.exponents_apply.specs.Apply.{exponentAt, lengthsFit, matrixFault, limitFault, placeFault, columnFault, valuesFault}
+use Rattle.exponents_apply.specs.Apply.{applyFault, shiftAt}
 
 pub record Accepted (m : Pattern) (e : Exponents) (values : List ℕ) : Type 0 where
   pub matrix : matrixFault m true ≡ 0
@@ -33,58 +33,54 @@ pub record Accepted (m : Pattern) (e : Exponents) (values : List ℕ) : Type 0 w
 -- ---- the matrix
 pub lengths-true : (m : Pattern) (t : Bool) → matrixFault m t ≡ 0 → t ≡ true
 unfolding matrixFault
-lengths-true m t h = sizes-accepted (m .n) maxGeneral (length (m .rows)) t .0 (or-zero (sizeFault (m .n) maxGeneral (length (m .rows)) t) _ h .0) .2
+lengths-true m t h = sizes-accepted (m .n) maxGeneral (length (m .rowIdx)) t .0 (or-zero (sizeFault (m .n) maxGeneral (length (m .rowIdx)) t) _ h .0) .2
 
-pub columns-are : (m : Pattern) → matrixFault m true ≡ 0 → Columns (m .n) (m .colPtr) (m .rows)
+pub columns-are : (m : Pattern) → matrixFault m true ≡ 0 → Columns (m .n) (m .colPtr) (m .rowIdx)
 unfolding matrixFault
 columns-are m h =
-    let z = or-zero (sizeFault (m .n) maxGeneral (length (m .rows)) true) _ h in
-    let p = or-zero (pointerFault (m .n) (m .colPtr) (length (m .rows))) _ (z .1) in
-    general-columns (pointers-accepted (m .n) (m .colPtr) (length (m .rows)) .0 (p .0)) .0 (p .1)
+    let z = or-zero (sizeFault (m .n) maxGeneral (length (m .rowIdx)) true) _ h in
+    let p = or-zero (pointerFault (m .n) (m .colPtr) (length (m .rowIdx))) _ (z .1) in
+    general-columns (pointers-accepted (m .n) (m .colPtr) (length (m .rowIdx)) .0 (p .0)) .0 (p .1)
 
 -- the four lengths
 pub record Lengths (m : Pattern) (e : Exponents) (values : ℕ) : Type 0 where
   pub colptrs : eqb (length (m .colPtr)) (m .n + 1) ≡ true
-  pub stored : eqb values (length (m .rows)) ≡ true
+  pub stored : eqb values (length (m .rowIdx)) ≡ true
   pub ofRows : length (e .rows) ≡ m .n
   pub ofColumns : length (e .columns) ≡ m .n
 
 pub lengths-are : (m : Pattern) (e : Exponents) (values : ℕ) → lengthsFit m e values ≡ true → Lengths m e values
 lengths-are m e values h =
     let a = both (eqb (length (m .colPtr)) (m .n + 1)) _ h in
-    let b = both (eqb values (length (m .rows))) _ (a .1) in
+    let b = both (eqb values (length (m .rowIdx))) _ (a .1) in
     let c = both (eqb (length (e .rows)) (m .n)) _ (b .1) in
     record { colptrs = a .0; stored = b .0; ofRows = eqb-true (length (e .rows)) (m .n) (c .0); ofColumns = eqb-true (length (e .columns)) (m .n) (c .1) }
 
 -- ---- the values
--- the graph of the pattern, whose columns `columnOf` counts
-abbrev pub graph : Pattern → CostGraph
-graph m = record { n = m .n; colPtr = m .colPtr; rowIdx = m .rows; cost = [] }
-
-module _ (m : Pattern) (e : Exponents) (values : List ℕ) (w : Columns (m .n) (m .colPtr) (m .rows)) where
-  each-scalable : length values ≡ length (m .rows) → valuesFault m e values ≡ 0 → (k : ℕ) → k < length values → scalable (getD values k 0)
+module _ (m : Pattern) (e : Exponents) (values : List ℕ) (w : Columns (m .n) (m .colPtr) (m .rowIdx)) where
+  each-scalable : length values ≡ length (m .rowIdx) → valuesFault m e values ≡ 0 → (k : ℕ) → k < length values → scalable (getD values k 0)
       (shiftAt m e k) ≡ true
   unfolding valuesFault columnFault
   each-scalable l h k i =
-      let c : InColumn (graph m) (columnOf m k) k = in-column (graph m) w k (omega arith) in
+      let c : InColumn m (columnOf m k) k = in-column m w k (omega arith) in
       let column = all-zero _ (m .n) .0 h (columnOf m k) (c .column) in
-      let place = span-zero (placeFault (m .rows) (e .rows) (exponentAt (e .columns) (columnOf m k)) values) (getD (m .colPtr) (columnOf m k) 0)
+      let place = span-zero (placeFault (m .rowIdx) (e .rows) (exponentAt (e .columns) (columnOf m k)) values) (getD (m .colPtr) (columnOf m k) 0)
       (getD (m .colPtr) (suc (columnOf m k)) 0) .0 column k (c .above) (c .below) in
       unless-holds _ valueNotNormal (omega arith) place
 
-  none-at-fault : ((k : ℕ) → k < length (m .rows) → scalable (getD values k 0) (shiftAt m e k) ≡ true) → valuesFault m e values ≡ 0
+  none-at-fault : ((k : ℕ) → k < length (m .rowIdx) → scalable (getD values k 0) (shiftAt m e k) ≡ true) → valuesFault m e values ≡ 0
   unfolding valuesFault columnFault
   none-at-fault h = all-zero _ (m .n) .1
-      (λ j i. span-zero (placeFault (m .rows) (e .rows) (exponentAt (e .columns) j) values) (getD (m .colPtr) j 0) (getD (m .colPtr) (suc j) 0) .1
+      (λ j i. span-zero (placeFault (m .rowIdx) (e .rows) (exponentAt (e .columns) j) values) (getD (m .colPtr) j 0) (getD (m .colPtr) (suc j) 0) .1
       (λ k a b. at j i k a b))
     where
-      at : (j : ℕ) → j < m .n → (k : ℕ) → getD (m .colPtr) j 0 ≤ k → k < getD (m .colPtr) (suc j) 0 → placeFault (m .rows) (e .rows)
+      at : (j : ℕ) → j < m .n → (k : ℕ) → getD (m .colPtr) j 0 ≤ k → k < getD (m .colPtr) (suc j) 0 → placeFault (m .rowIdx) (e .rows)
           (exponentAt (e .columns) j) values k ≡ 0
       at j i k a b =
-          let c : InColumn (graph m) j k = record { column = i; above = a; below = b } in
-          let s : scalable (getD values k 0) (exponentAt (e .rows) (getD (m .rows) k 0) +ℤ exponentAt (e .columns) j) ≡ true =
-          subst (λ (x : ℕ). scalable (getD values k 0) (exponentAt (e .rows) (getD (m .rows) k 0) +ℤ exponentAt (e .columns) x) ≡ true)
-          (column-is (graph m) w j k c) (h k (in-entries (graph m) w j k c)) in
+          let c : InColumn m j k = record { column = i; above = a; below = b } in
+          let s : scalable (getD values k 0) (exponentAt (e .rows) (getD (m .rowIdx) k 0) +ℤ exponentAt (e .columns) j) ≡ true =
+          subst (λ (x : ℕ). scalable (getD values k 0) (exponentAt (e .rows) (getD (m .rowIdx) k 0) +ℤ exponentAt (e .columns) x) ≡ true)
+          (column-is m w j k c) (h k (in-entries m w j k c)) in
           rw s refl
 
 -- ---- the call
@@ -101,13 +97,13 @@ accepted-is m e values h =
       lengths = l;
       rows = b .0;
       columns = c .0;
-      each = each-scalable m e values (columns-are m f) (eqb-true (length values) (length (m .rows)) (lengths-are m e (length values) l .stored)) (c .1);
+      each = each-scalable m e values (columns-are m f) (eqb-true (length values) (length (m .rowIdx)) (lengths-are m e (length values) l .stored)) (c .1);
     }
 
 pub is-accepted : (m : Pattern) (e : Exponents) (values : List ℕ) → Accepted m e values → applyFault m e values ≡ 0
 unfolding applyFault
 is-accepted m e values a =
-    let s : length values ≡ length (m .rows) = eqb-true (length values) (length (m .rows)) (lengths-are m e (length values) (a .lengths) .stored) in
+    let s : length values ≡ length (m .rowIdx) = eqb-true (length values) (length (m .rowIdx)) (lengths-are m e (length values) (a .lengths) .stored) in
     or-none (subst (λ (t : Bool). matrixFault m t ≡ 0) (sym (a .lengths)) (a .matrix))
     ∙ or-none (a .rows)
     ∙ or-none (a .columns)

@@ -17,9 +17,10 @@ use Rattle.sparse.specs.Fault.{unless}
 use Rattle.sparse.proofs.First.{unless-holds, all-zero}
 use Rattle.sparse.proofs.Listed.{Listed, test, or-listed, first-listed, within, part}
 use Rattle.sparse.proofs.Theorems.{sizeNumbers, sizes-listed, pointerNumbers, pointers-listed, columnNumbers, general-columns-listed}
+use Rattle.sparse.specs.Pattern.{Pattern}
 use Rattle.exponents_powers.specs.Power.{withinLimit, scalable, Exponents}
 use Rattle.exponents_powers.proofs.Exact.{scaled-exactly}
-use Rattle.exponents_apply.specs.Apply.{Pattern, exponentAt, lengthsFit, matrixFault, limitFault, columnFault, valuesFault, applyFault}
+use Rattle.exponents_apply.specs.Apply.{exponentAt, lengthsFit, matrixFault, limitFault, columnFault, valuesFault, applyFault}
 use Rattle.exponents_apply.specs.Apply.{scaledValues, applyExponents, Promises}
 use Rattle.exponents_apply.specs.inner.Steps.{Within, Tested, Written}
 use Rattle.exponents_apply.proofs.Accepted.{accepted-is, columns-are, lengths-true, lengths-are}
@@ -48,9 +49,9 @@ tested m e values f r c =
 pub numbered : (m : Pattern) (e : Exponents) (values : List ℕ) {fault : ℕ} → fault ≡ applyFault m e values → OneOf applyNumbers fault
 unfolding applyFault matrixFault limitFault valuesFault columnFault listed within
 numbered m e values q = subst (OneOf applyNumbers) (sym q)
-    (or-listed (or-listed (part sizeNumbers (sizes-listed (m .n) maxGeneral (length (m .rows)) (lengthsFit m e (length values))) refl)
-    (or-listed (part pointerNumbers (pointers-listed (m .n) (m .colPtr) (length (m .rows))) refl)
-    (part columnNumbers (general-columns-listed (m .n) (m .colPtr) (m .rows)) refl)))
+    (or-listed (or-listed (part sizeNumbers (sizes-listed (m .n) maxGeneral (length (m .rowIdx)) (lengthsFit m e (length values))) refl)
+    (or-listed (part pointerNumbers (pointers-listed (m .n) (m .colPtr) (length (m .rowIdx))) refl)
+    (part columnNumbers (general-columns-listed (m .n) (m .colPtr) (m .rowIdx)) refl)))
     (or-listed (limits (e .rows)) (or-listed (limits (e .columns)) places)) .is)
   where
     limits : (l : List ℤ) → Listed applyNumbers (limitFault l)
@@ -60,7 +61,7 @@ numbered m e values q = subst (OneOf applyNumbers) (sym q)
     places =
         first-listed (m .n) 0 refl
         (λ j. first-listed (getD (m .colPtr) (suc j) 0 - getD (m .colPtr) j 0) (getD (m .colPtr) j 0) refl
-        (λ k. test (scalable (getD values k 0) (exponentAt (e .rows) (getD (m .rows) k 0) +ℤ exponentAt (e .columns) j)) valueNotNormal refl refl))
+        (λ k. test (scalable (getD values k 0) (exponentAt (e .rows) (getD (m .rowIdx) k 0) +ℤ exponentAt (e .columns) j)) valueNotNormal refl refl))
 
 -- ---- a refusal, and an accepted call
 module _ (m : Pattern) (e : Exponents) (values : List ℕ) {fault : ℕ} (q : fault ≡ applyFault m e values) where
@@ -78,12 +79,12 @@ module _ (m : Pattern) (e : Exponents) (values : List ℕ) {fault : ℕ} (q : fa
       go (suc f) z = refl
 
 pub accepts : (m : Pattern) (e : Exponents) (before after : List ℕ) → applyFault m e before ≡ 0 → Written (scaledAt m e before) 0
-    (length (m .rows)) before after
+    (length (m .rowIdx)) before after
     → Promises m e before 0 after
 unfolding applyExponents
 accepts m e before after z w =
     let a = accepted-is m e before z in
-    let s : length before ≡ length (m .rows) = eqb-true _ _ (lengths-are m e (length before) (a .lengths) .stored) in
+    let s : length before ≡ length (m .rowIdx) = eqb-true _ _ (lengths-are m e (length before) (a .lengths) .stored) in
     record {
       outcome =
           ap (outcomeIs 0) (all-written m e before after s w)

@@ -8,12 +8,12 @@ use Rattle.slices.specs.Outcome.{outcomeIs}
 use Rattle.sparse.specs.Fault.{firstOf}
 use Rattle.sparse.specs.Validate.{sizeFault, pointerFault, generalColumns, generalColumn}
 use Rattle.matching.specs.Sum.{sumTo}
-use Rattle.hungarian.specs.Graph.{colOf}
+use Rattle.sparse.specs.Pattern.{Pattern, pattern, columnOf}
 use Rattle.exponents_powers.specs.Power.{withinLimit, scalable, scaledBits, Exponents, exponents}
 use Rattle.exponents_apply.specs.Apply
 
-abbrev one-entry : Apply.Pattern
-one-entry = Apply.pattern 1 (0 ∷ 1 ∷ []) (0 ∷ [])
+abbrev one-entry : Pattern
+one-entry = pattern 1 (0 ∷ 1 ∷ []) (0 ∷ [])
 
 abbrev halving : Exponents
 halving = exponents (negsuc 0 ∷ []) (pos 0 ∷ [])
@@ -29,5 +29,5 @@ pub one-order-refused : (Apply.applyExponents one-entry halving largest-power �
     × (Apply.applyExponents one-entry doubling (0x7FD0_0000_0000_0000 ∷ []) ≡ outcomeIs 0 largest-power)
     × (Apply.applyExponents one-entry doubling largest-power ≡ outcomeIs 46 largest-power)
 unfolding Apply.applyExponents Apply.applyFault Apply.matrixFault Apply.limitFault Apply.valuesFault Apply.columnFault Apply.scaledValues sizeFault
-    pointerFault generalColumns generalColumn firstOf tabulate colOf sumTo withinLimit scalable scaledBits
+    pointerFault generalColumns generalColumn firstOf tabulate columnOf sumTo withinLimit scalable scaledBits
 one-order-refused = (refl, refl, refl)

@@ -19,9 +19,10 @@ use Rattle.slices.specs.Outcome.{Outcome, outcomeIs, refusing, asNumber}
 use Rattle.sparse.specs.Fault.{unless}
 use Rattle.sparse.proofs.First.{all-zero, unless-holds}
 use Rattle.float64.proofs.Integers.{sum-parts, same-integer}
+use Rattle.sparse.specs.Pattern.{Pattern, columnOf}
 use Rattle.exponents_powers.specs.Power.{withinLimit, scalable, scaledBits, Exponents}
 use Rattle.exponents_powers.proofs.Twice.{scaled-twice, scaled-back}
-use Rattle.exponents_apply.specs.Apply.{Pattern, exponentAt, lengthsFit, limitFault, applyFault, columnOf, shiftAt, scaledValues, applyExponents}
+use Rattle.exponents_apply.specs.Apply.{exponentAt, lengthsFit, limitFault, applyFault, shiftAt, scaledValues, applyExponents}
 use Rattle.exponents_apply.specs.Sums.{added, negated, sumOf, oppositeOf}
 use Rattle.exponents_apply.proofs.Accepted.{Accepted, lengths-are, accepted-is, is-accepted}
 
@@ -51,7 +52,7 @@ lengths-fit : (m : Pattern) (d e : Exponents) (l k : ℕ) → l ≡ k → length
     → lengthsFit m e k ≡ true
 lengths-fit m d e l k s h r c =
     let a = lengths-are m d l h in
-    ap₂ _&&_ (a .colptrs) (ap₂ _&&_ (ap (λ (x : ℕ). eqb x (length (m .rows))) (sym s) ∙ a .stored)
+    ap₂ _&&_ (a .colptrs) (ap₂ _&&_ (ap (λ (x : ℕ). eqb x (length (m .rowIdx))) (sym s) ∙ a .stored)
     (ap₂ _&&_ (eq-eqb (length (e .rows)) (m .n) r) (eq-eqb (length (e .columns)) (m .n) c)))
 
 -- ---- sums and opposites of exponents
@@ -109,14 +110,14 @@ regroup a b c d =
 sum-shift : (m : Pattern) (d e : Exponents) → length (d .rows) ≡ length (e .rows) → length (d .columns) ≡ length (e .columns) → (k : ℕ)
     → shiftAt m (sumOf d e) k ≡ shiftAt m d k +ℤ shiftAt m e k
 sum-shift m d e r c k =
-    let i = getD (m .rows) k 0 in
+    let i = getD (m .rowIdx) k 0 in
     let j = columnOf m k in
     ap₂ _+ℤ_ (added-at (d .rows) (e .rows) r i) (added-at (d .columns) (e .columns) c j) ∙ regroup (exponentAt (d .rows) i) (exponentAt (d .columns) j)
     (exponentAt (e .rows) i) (exponentAt (e .columns) j)
 
 opposite-shift : (m : Pattern) (e : Exponents) (k : ℕ) → shiftAt m (oppositeOf e) k ≡ negℤ (shiftAt m e k)
 opposite-shift m e k =
-    let i = getD (m .rows) k 0 in
+    let i = getD (m .rowIdx) k 0 in
     let j = columnOf m k in
     ap₂ _+ℤ_ (negated-at (e .rows) i) (negated-at (e .columns) j) ∙ sym (negℤ-+ℤ (exponentAt (e .rows) i) (exponentAt (e .columns) j))
 

@@ -14,12 +14,11 @@ use Rattle.slices.proofs.Lists.{length-table, table-at}
 use Rattle.sparse.specs.Fault.{unless}
 use Rattle.sparse.specs.Columns.{Columns}
 use Rattle.sparse.proofs.First.{unless-holds, span-zero, all-zero}
-use Rattle.hungarian.specs.Graph.{InColumn}
-use Rattle.hungarian.proofs.Columns.{column-is}
+use Rattle.sparse.specs.Pattern.{Pattern, InColumn}
+use Rattle.sparse.proofs.Columns.{column-is}
 use Rattle.exponents_powers.specs.Power.{scalable, scaledBits, Exponents}
-use Rattle.exponents_apply.specs.Apply.{Pattern, exponentAt, placeFault, columnFault, valuesFault, shiftAt, scaledValues}
+use Rattle.exponents_apply.specs.Apply.{exponentAt, placeFault, columnFault, valuesFault, shiftAt, scaledValues}
 use Rattle.exponents_apply.specs.inner.Steps.{Written}
-use Rattle.exponents_apply.proofs.Accepted.{graph}
 
 -- ---- the places of one column
 pub none-written : (f : ℕ → ℕ) (k : ℕ) (values : List ℕ) → Written f k k values values
@@ -73,24 +72,24 @@ stretch-more {f} {g} {from} {to} {before} {now} {after} h e w v = record {
 abbrev pub scaledAt : Pattern → Exponents → List ℕ → ℕ → ℕ
 scaledAt m e values k = scaledBits (getD values k 0) (shiftAt m e k)
 
-module _ (m : Pattern) (e : Exponents) (before : List ℕ) (w : Columns (m .n) (m .colPtr) (m .rows)) where
+module _ (m : Pattern) (e : Exponents) (before : List ℕ) (w : Columns (m .n) (m .colPtr) (m .rowIdx)) where
   -- column j's own function is the definition's, at the column's places
   pub own-place : {now : List ℕ} (j : ℕ) → j < m .n → Written (scaledAt m e before) 0 (getD (m .colPtr) j 0) before now
       → (k : ℕ) → getD (m .colPtr) j 0 ≤ k → k < getD (m .colPtr) (suc j) 0
-      → scaledBits (getD now k 0) (exponentAt (e .rows) (getD (m .rows) k 0) +ℤ exponentAt (e .columns) j) ≡ scaledAt m e before k
+      → scaledBits (getD now k 0) (exponentAt (e .rows) (getD (m .rowIdx) k 0) +ℤ exponentAt (e .columns) j) ≡ scaledAt m e before k
   own-place {now} j h v k a b =
-      let c : InColumn (graph m) j k = record { column = h; above = a; below = b } in
-      ap₂ (λ (x i : ℕ). scaledBits x (exponentAt (e .rows) (getD (m .rows) k 0) +ℤ exponentAt (e .columns) i)) (v .over k a) (sym (column-is (graph m) w j k c))
+      let c : InColumn m j k = record { column = h; above = a; below = b } in
+      ap₂ (λ (x i : ℕ). scaledBits x (exponentAt (e .rows) (getD (m .rowIdx) k 0) +ℤ exponentAt (e .columns) i)) (v .over k a) (sym (column-is m w j k c))
 
   pub column-clean : {now : List ℕ} (j : ℕ) → j < m .n → valuesFault m e before ≡ 0 → Written (scaledAt m e before) 0 (getD (m .colPtr) j 0) before now
-      → columnFault (m .rows) (e .rows) (exponentAt (e .columns) j) now (getD (m .colPtr) j 0) (getD (m .colPtr) (suc j) 0) ≡ 0
+      → columnFault (m .rowIdx) (e .rows) (exponentAt (e .columns) j) now (getD (m .colPtr) j 0) (getD (m .colPtr) (suc j) 0) ≡ 0
   unfolding valuesFault
   column-clean {now} j h z v =
-      fault-kept (m .rows) (e .rows) (exponentAt (e .columns) j) before now (getD (m .colPtr) j 0) (getD (m .colPtr) (suc j) 0) (v .over)
+      fault-kept (m .rowIdx) (e .rows) (exponentAt (e .columns) j) before now (getD (m .colPtr) j 0) (getD (m .colPtr) (suc j) 0) (v .over)
       (all-zero _ (m .n) .0 z j h)
 
-pub all-written : (m : Pattern) (e : Exponents) (before after : List ℕ) → length before ≡ length (m .rows) → Written (scaledAt m e before) 0
-    (length (m .rows)) before after → after ≡ scaledValues m e before
+pub all-written : (m : Pattern) (e : Exponents) (before after : List ℕ) → length before ≡ length (m .rowIdx) → Written (scaledAt m e before) 0
+    (length (m .rowIdx)) before after → after ≡ scaledValues m e before
 unfolding scaledValues
 all-written m e before after s w =
     ext-getD 0 after (tabulate (length before) (scaledAt m e before)) (w .same ∙ sym (length-table (length before) (scaledAt m e before)))

@@ -2,8 +2,8 @@
 -- Values are taken by their bits. A refusal leaves them as they are.
 use mathlib.Core.Path.{_≡_}
 use mathlib.Core.Bool.{Bool, _&&_}
-use mathlib.Core.List.{List, []}
-use Prim.Native.Nat.{ℕ, suc, _+_, _-_, _<_}
+use mathlib.Core.List.{List}
+use Prim.Native.Nat.{ℕ, _+_, _-_, _<_}
 use lib.Dec.{eqb}
 use lib.IntN.{ℤ, pos, _+ℤ_}
 use lib.ListN.{length, getD}
@@ -12,19 +12,10 @@ use Rattle.refusal.specs.Refusal.{accepted, exponentRange, valueNotNormal}
 use Rattle.refusal.specs.Listed.{OneOf, applyNumbers}
 use Rattle.slices.specs.Lists.{tabulate}
 use Rattle.slices.specs.Outcome.{Outcome, outcomeIs, refusing, asNumber}
+use Rattle.sparse.specs.Pattern.{Pattern, rowOf, columnOf, start, end}
 use Rattle.sparse.specs.Fault.{unless, orElse, firstOf}
 use Rattle.sparse.specs.Validate.{sizeFault, pointerFault, generalColumns}
-use Rattle.hungarian.specs.Graph.{colOf}
 use Rattle.exponents_powers.specs.Power.{Exponents, withinLimit, scalable, scaledBits, ScaledExactly}
-
--- where the entries of a matrix of n columns stand
-pub record Pattern : Type 0 where
-  pub n : ℕ
-  pub colPtr : List ℕ
-  pub rows : List ℕ
-
-abbrev pub pattern : ℕ → List ℕ → List ℕ → Pattern
-pattern n colPtr rows = record { n = n; colPtr = colPtr; rows = rows }
 
 abbrev pub exponentAt : List ℤ → ℕ → ℤ
 exponentAt l i = getD l i (pos 0)
@@ -34,14 +25,14 @@ exponentAt l i = getD l i (pos 0)
 abbrev pub lengthsFit : Pattern → Exponents → ℕ → Bool
 lengthsFit m e values =
     eqb (length (m .colPtr)) (m .n + 1)
-    && (eqb values (length (m .rows)) && (eqb (length (e .rows)) (m .n) && eqb (length (e .columns)) (m .n)))
+    && (eqb values (length (m .rowIdx)) && (eqb (length (e .rows)) (m .n) && eqb (length (e .columns)) (m .n)))
 
 -- 1, 2, 3, 4, then each entry's 5 and 7: what `general::validate` finds, with the lengths of all slices in the place of
 -- 3
 unfoldable pub matrixFault : Pattern → Bool → ℕ
 matrixFault m lengths =
-    orElse (sizeFault (m .n) maxGeneral (length (m .rows)) lengths)
-    (orElse (pointerFault (m .n) (m .colPtr) (length (m .rows))) (generalColumns (m .n) (m .colPtr) (m .rows)))
+    orElse (sizeFault (m .n) maxGeneral (length (m .rowIdx)) lengths)
+    (orElse (pointerFault (m .n) (m .colPtr) (length (m .rowIdx))) (generalColumns (m .n) (m .colPtr) (m .rowIdx)))
 
 -- 43 of one list
 unfoldable pub limitFault : List ℤ → ℕ
@@ -58,8 +49,7 @@ columnFault rows r e values from to = firstOf (to - from) (placeFault rows r e v
 unfoldable pub valuesFault : Pattern → Exponents → List ℕ → ℕ
 valuesFault m e values =
     firstOf (m .n)
-    (λ j. columnFault (m .rows) (e .rows) (exponentAt (e .columns) j) values (getD (m .colPtr) j 0)
-    (getD (m .colPtr) (suc j) 0))
+    (λ j. columnFault (m .rowIdx) (e .rows) (exponentAt (e .columns) j) values (start m j) (end m j))
     0
 
 unfoldable pub applyFault : Pattern → Exponents → List ℕ → ℕ
@@ -69,13 +59,9 @@ applyFault m e values =
 
 -- ---- what is left
 
--- the column of place k: as many columns end at or before it
-abbrev pub columnOf : Pattern → ℕ → ℕ
-columnOf m k = colOf (record { n = m .n; colPtr = m .colPtr; rowIdx = m .rows; cost = [] }) k
-
 -- the exponents of the row and of the column of place k, added
 abbrev pub shiftAt : Pattern → Exponents → ℕ → ℤ
-shiftAt m e k = exponentAt (e .rows) (getD (m .rows) k 0) +ℤ exponentAt (e .columns) (columnOf m k)
+shiftAt m e k = exponentAt (e .rows) (rowOf m k) +ℤ exponentAt (e .columns) (columnOf m k)
 
 unfoldable pub scaledValues : Pattern → Exponents → List ℕ → List ℕ
 scaledValues m e values = tabulate (length values) (λ k. scaledBits (getD values k 0) (shiftAt m e k))

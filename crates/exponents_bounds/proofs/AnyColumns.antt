@@ -27,12 +27,13 @@ use Rattle.sparse.specs.Matrix.{Matrix}
 use Rattle.sparse.specs.Fault.{unless}
 use Rattle.sparse.proofs.Accepted.{sizes-accepted}
 use Rattle.sparse.proofs.First.{or-none, all-zero}
+use Rattle.sparse.specs.Pattern.{columnOf, rowOf}
 use Rattle.matching.specs.Pairing.{pairedEntries}
-use Rattle.hungarian.specs.Graph.{CostGraph, rowOf, colOf, costOf}
+use Rattle.hungarian.specs.Graph.{CostGraph, costOf}
 use Rattle.hungarian.specs.Accepted.{Accepted}
 use Rattle.hungarian.specs.Match.{Matching, hungarianMatch}
 use Rattle.hungarian.specs.Optimal.{WholeCosts, DualsWithin, amount}
-use Rattle.hungarian.proofs.Columns.{in-entries, column-is}
+use Rattle.sparse.proofs.Columns.{in-entries, column-is}
 use Rattle.hungarian.proofs.Theorems.{match-below}
 use Rattle.match_check.specs.Check.{Claim, claim, rowFor, rowDual, columnDual}
 use Rattle.match_check.specs.Call.{Certified, pairs}
@@ -47,7 +48,7 @@ use Rattle.exponents_powers.specs.Power.{Exponents, exponents}
 use Rattle.exponents.specs.Exponent.{floorOf, exponentOf, factorFits}
 use Rattle.exponents.specs.Call.{Duals, duals, differences, lengthsFit, factorsFault, exponentsFault, makeExponents, setOf}
 use Rattle.exponents.proofs.Calling.{differences-length, difference-at}
-use Rattle.exponents_apply.specs.Apply.{exponentAt, columnOf}
+use Rattle.exponents_apply.specs.Apply.{exponentAt}
 use Rattle.exponents_bounds.specs.Bounds.{patternOf, KeptEntry, entryMagnitude, BelowTwo, AboveQuarter, Scaled}
 use Rattle.exponents_bounds.proofs.Numbers.{Logged, ValueLog, largest-logged, parts-within, size-apart, difference-whole, small-fits, exponent-is}
 use Rattle.exponents_bounds.proofs.Numbers.{LogAtMost, LogTight, log-at-most, log-tight, scaled-below, scaled-above}
@@ -177,13 +178,13 @@ module _ (n : ℕ) (g : GraphColumns) (values logs : List Float) (L : LoggedColu
     -- the pair of a column is an entry
     pub pair-made : (j : ℕ) → j < n → (e : ℕ) × (p : ℕ) × Made-of e j p × (rowFor s j ≡ g .row j p)
     pair-made j h =
-        let (e, w, q) = entry-at graph (s .perm) (L .rising) (C .complete) j h in
-        let (p, E) = made-of n g logs (L .rising) e (in-entries graph (L .rising) j e w) in
-        let F : Made-of e j p = subst (λ (c : ℕ). Made-of e c p) (column-is graph (L .rising) j e w) E in
+        let (e, w, q) = entry-at (graph .pattern) (s .perm) (L .rising) (C .complete) j h in
+        let (p, E) = made-of n g logs (L .rising) e (in-entries (graph .pattern) (L .rising) j e w) in
+        let F : Made-of e j p = subst (λ (c : ℕ). Made-of e c p) (column-is (graph .pattern) (L .rising) j e w) E in
         (e, p, F, sym q ∙ F .row)
 
     -- an entry in the row of its column's pair is that pair
-    is-pair : {e c p : ℕ} → Made-of e c p → rowFor s c ≡ g .row c p → T (pairs graph s e)
+    is-pair : {e c p : ℕ} → Made-of e c p → rowFor s c ≡ g .row c p → T (pairs (graph .pattern) s e)
     unfolding pairedEntries
     is-pair E q = eq→eqb (ap (rowFor s) (E .column) ∙ q ∙ sym (E .row))
 
@@ -195,7 +196,7 @@ module _ (n : ℕ) (g : GraphColumns) (values logs : List Float) (L : LoggedColu
         let (d, o, D, p) = pair-made i h in
         let (e, k, E, q) = pair-made j l in
         let same : d ≡ e = C .complete .matching .rows d e (D .within) (E .within) (is-pair D p) (is-pair E q) (D .row ∙ sym p ∙ r ∙ q ∙ sym (E .row)) in
-        sym (D .column) ∙ ap (colOf graph) same ∙ E .column
+        sym (D .column) ∙ ap (columnOf (graph .pattern)) same ∙ E .column
 
     some-place : (c : ℕ) → c < n → 0 < length (g .places c)
     some-place c h = some (pair-made c h .2)
@@ -236,7 +237,8 @@ module _ (n : ℕ) (g : GraphColumns) (values logs : List Float) (L : LoggedColu
           (exponent-is (differences (s .v) largests) c ∙ ap (λ (x : Float). floorOf (wholeOf x)) (factor-at c (E .inside))
           ∙ ap floorOf (whole-of _ _ (factor-whole c (E .inside))))
 
-      sum-is : wholeOf (rowDual s (rowOf graph e)) +ℤ wholeOf (columnDual s (colOf graph e)) ≡ wholeOf (rowDual s row) +ℤ wholeOf (columnDual s c)
+      sum-is : wholeOf (rowDual s (rowOf (graph .pattern) e)) +ℤ wholeOf (columnDual s (columnOf (graph .pattern) e)) ≡ wholeOf (rowDual s row) +ℤ wholeOf
+          (columnDual s c)
       sum-is = ap₂ (λ (i j : ℕ). wholeOf (rowDual s i) +ℤ wholeOf (columnDual s j)) (E .row) (E .column)
 
       duals-below : (wholeOf (rowDual s row) +ℤ wholeOf (columnDual s c)) ≤ℤ (wholeOf (top c) +ℤ negℤ (wholeOf (getD logs p nan)))

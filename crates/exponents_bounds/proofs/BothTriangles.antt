@@ -10,9 +10,10 @@ use lib.Ieee.{Float, nan}
 use lib.ListN.{length, getD}
 use Rattle.float64.specs.Number.{magnitude}
 use Rattle.sparse.specs.Matrix.{Matrix}
+use Rattle.sparse.specs.Pattern.{columnOf}
 use Rattle.mc64_general.specs.Graph.{isKept}
 use Rattle.exponents_powers.specs.Power.{Exponents}
-use Rattle.exponents_apply.specs.Apply.{exponentAt, columnOf, shiftAt}
+use Rattle.exponents_apply.specs.Apply.{exponentAt, shiftAt}
 use Rattle.exponents_bounds.specs.Bounds.{patternOf, KeptEntry, IsMatched, IsMirrorMatched, entryMagnitude, BelowTwo, AboveQuarter, Scaled}
 use Rattle.exponents_bounds.specs.Bounds.{Bounded, swapped, SymmetricBounded, HoldsAt, HoldsEntry, HoldsMirror, GeneralForm}
 

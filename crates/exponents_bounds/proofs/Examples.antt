@@ -16,7 +16,8 @@ use Rattle.sparse.specs.Matrix.{Matrix, matrix}
 use Rattle.sparse.specs.Validate.{sizeFault, pointerFault, generalColumns, generalColumn, frameFault, lowerColumn, risingColumn, symmetricColumns}
 use Rattle.sparse.specs.Validate.{symmetricFault, generalFault}
 use Rattle.matching.specs.Sum.{sumTo}
-use Rattle.hungarian.specs.Graph.{CostGraph, colOf, graphOf}
+use Rattle.sparse.specs.Pattern.{columnOf}
+use Rattle.hungarian.specs.Graph.{CostGraph, graphOf}
 use Rattle.hungarian.specs.Test.{graphFault, costFault}
 use Rattle.hungarian.specs.Match.{hungarianMatch}
 use Rattle.hungarian_match.specs.Call as Match
@@ -89,7 +90,7 @@ unfolding wholeGeneralGraph generalInputFault finiteFault frameFault generalFaul
     largestLog largest largestFrom normalised wholeLog Match.matchOutcome Match.finished Match.matchLengths hungarianMatch graphFault costFault inRange
     sizeFault pointerFault firstOf generalColumns generalColumn magnitude unitsPerOne ofInt ofBits lt le eq ne add sub neg makeExponents
     exponentsFault lengthsFit factorsFault factorFits isWhole withinLimit exponentOf floorOf wholeOf differences applyExponents applyFault
-    matrixFault limitFault valuesFault columnFault scaledValues tabulate colOf sumTo scalable scaledBits
+    matrixFault limitFault valuesFault columnFault scaledValues tabulate columnOf sumTo scalable scaledBits
 small-scaled = (refl, refl, refl, refl, refl)
 
 -- ---- a symmetric matrix of two columns: 3 and 1 in the first, whose mirror is 1 in the second, which has no other
@@ -123,5 +124,5 @@ unfolding wholeSymmetricGraph symmetricInputFault finiteFault frameFault symmetr
     Graphs.built Graphs.joined placesTo atMost largest largestFrom normalised wholeLog Match.matchOutcome Match.finished Match.matchLengths
     hungarianMatch graphFault costFault inRange sizeFault pointerFault firstOf generalColumns generalColumn magnitude unitsPerOne ofInt ofBits lt
     le eq ne add sub neg makeExponents exponentsFault lengthsFit factorsFault factorFits isWhole withinLimit exponentOf floorOf wholeOf
-    differences applyExponents applyFault matrixFault limitFault valuesFault columnFault scaledValues tabulate colOf sumTo scalable scaledBits
+    differences applyExponents applyFault matrixFault limitFault valuesFault columnFault scaledValues tabulate columnOf sumTo scalable scaledBits
 triangle-scaled = (refl, refl, refl, refl, refl, refl)

@@ -15,8 +15,8 @@ use Rattle.slices.proofs.Lists.{getD-last}
 use Rattle.sparse.specs.Columns.{Columns}
 use Rattle.sparse.specs.Matrix.{Matrix}
 use Rattle.sparse.proofs.Accepted.{general-accepted}
-use Rattle.hungarian.specs.Graph.{InColumn}
-use Rattle.hungarian.proofs.Columns.{in-column, column-is, simple}
+use Rattle.sparse.specs.Pattern.{columnOf, InColumn}
+use Rattle.sparse.proofs.Columns.{in-column, column-is, simple}
 use Rattle.match_check.specs.Check.{Claim, rowFor}
 use Rattle.match_check.specs.Call.{Certified}
 use Rattle.mc64_columns.specs.Columns.{valueLogs}
@@ -29,8 +29,7 @@ use Rattle.whole_graphs.specs.Graphs.{wholeGeneralFault}
 use Rattle.whole_graphs.proofs.Theorems.{Doubles, all-finite, tests, general-ready}
 use Rattle.exponents_powers.specs.Power.{Exponents}
 use Rattle.exponents.specs.Call.{duals, setOf}
-use Rattle.exponents_apply.specs.Apply.{columnOf, shiftAt}
-use Rattle.exponents_apply.proofs.Accepted.{graph as pattern-graph}
+use Rattle.exponents_apply.specs.Apply.{shiftAt}
 use Rattle.exponents_bounds.specs.Bounds.{patternOf, KeptEntry, IsMatched, Within, Bounded}
 use Rattle.exponents_bounds.proofs.Numbers.{ValueLog, LogAtMost, LogTight, kept-log, below-if-kept, some-kept, largest-of-some}
 use Rattle.exponents_bounds.proofs.AnyColumns.{LoggedColumns, EntryAt, Alone, LogPotentials, rowPotential, columnPotential}
@@ -99,13 +98,13 @@ module _ (n : ℕ) (m : Matrix) (s : Slices) (fine : wholeGeneralFault n m s ≡
   placed : (k : ℕ) → KeptEntry m k → (e : ℕ) × Made-of e (columnOf (patternOf n m) k) k
   placed k K =
       let c = columnOf (patternOf n m) k in
-      let w : InColumn (pattern-graph (patternOf n m)) c k = in-column (pattern-graph (patternOf n m)) columns k (K .stored) in
+      let w : InColumn (patternOf n m) c k = in-column (patternOf n m) columns k (K .stored) in
       let from = getD (m .colPtr) c 0 in
       let (i, l, q) = number-of (m .values) from k (K .nonzero) (w .above) (getD (m .colPtr) (suc c) 0 - from) (omega (arith, w .above, w .below)) in
       (keptBefore (keptColumns m) c + i, made-at n (keptColumns m) logs (general-columns .rising) c i (w .column) l k q)
 
   pub general-alone : Alone m (EntryAt n m)
-  general-alone i j k l h g a b = simple (pattern-graph (patternOf n m)) columns k l h g (a .0 ∙ sym (b .0)) (a .1 ∙ sym (b .1))
+  general-alone i j k l h g a b = simple (patternOf n m) columns k l h g (a .0 ∙ sym (b .0)) (a .1 ∙ sym (b .1))
 
   module _ (c : Claim) (C : Certified (graphBy n (keptColumns m) logs) c) where
     abbrev set : Exponents
@@ -123,14 +122,14 @@ module _ (n : ℕ) (m : Matrix) (s : Slices) (fine : wholeGeneralFault n m s ≡
     pair-entry j h =
         let (e, k, E, q) = pair-made n (keptColumns m) (m .values) logs general-columns c C j h in
         let p = place-in n m columns j (E .number) h (E .stands) in
-        let w : InColumn (pattern-graph (patternOf n m)) j k =
+        let w : InColumn (patternOf n m) j k =
         record {
           column = h;
           above = subst (λ (x : ℕ). getD (m .colPtr) j 0 ≤ x) (E .place) (p .0);
           below =
               subst (λ (x : ℕ). x < getD (m .colPtr) (suc j) 0) (E .place) (p .1);
         } in
-        let d : columnOf (patternOf n m) k ≡ j = column-is (pattern-graph (patternOf n m)) columns j k w in
+        let d : columnOf (patternOf n m) k ≡ j = column-is (patternOf n m) columns j k w in
         (k, subst (KeptEntry m) (E .place) (place-kept j (E .number) h (E .stands)), d, ap (rowFor c) d ∙ q)
 
     pub general-set : Bounded n m (c .perm) set

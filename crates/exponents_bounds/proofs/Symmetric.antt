@@ -17,8 +17,8 @@ use Rattle.float64.specs.Number.{magnitude}
 use Rattle.slices.proofs.Bools.{both}
 use Rattle.sparse.specs.Columns.{Columns}
 use Rattle.sparse.specs.Matrix.{Matrix}
-use Rattle.hungarian.specs.Graph.{InColumn}
-use Rattle.hungarian.proofs.Columns.{column-is, simple}
+use Rattle.sparse.specs.Pattern.{columnOf, InColumn}
+use Rattle.sparse.proofs.Columns.{column-is, simple}
 use Rattle.match_check.specs.Check.{Claim, rowFor}
 use Rattle.match_check.specs.Call.{Certified}
 use Rattle.mc64_columns.specs.Columns.{valueLogs}
@@ -34,8 +34,7 @@ use Rattle.whole_graphs.specs.Graphs.{wholeSymmetricFault}
 use Rattle.whole_graphs.proofs.Theorems.{Doubles, all-finite, parts, symmetric-ready}
 use Rattle.exponents_powers.specs.Power.{Exponents}
 use Rattle.exponents.specs.Call.{duals, setOf}
-use Rattle.exponents_apply.specs.Apply.{exponentAt, columnOf, shiftAt}
-use Rattle.exponents_apply.proofs.Accepted.{graph as pattern-graph}
+use Rattle.exponents_apply.specs.Apply.{exponentAt, shiftAt}
 use Rattle.exponents_bounds.specs.Bounds.{patternOf, KeptEntry, IsMatched, IsMirrorMatched, BelowTwo, AboveQuarter, Scaled, Within, swapped}
 use Rattle.exponents_bounds.specs.Bounds.{SymmetricBounded}
 use Rattle.exponents_bounds.proofs.Numbers.{ValueLog, LogAtMost, LogTight, kept-log, below-if-kept, some-kept}
@@ -65,9 +64,9 @@ module _ (n : ℕ) (m : Matrix) (s : Slices) (fine : wholeSymmetricFault n m s �
   column-same : (k : ℕ) → k < length (m .rows) → columnOf (patternOf n m) k ≡ placeColumn m k
   column-same k h =
       let i = stands m triangle k h in
-      let w : InColumn (pattern-graph (patternOf n m)) (placeColumn m k) k =
+      let w : InColumn (patternOf n m) (placeColumn m k) k =
       record { column = omega (arith, i .column, size); above = i .from; below = i .to } in
-      column-is (pattern-graph (patternOf n m)) columns (placeColumn m k) k w
+      column-is (patternOf n m) columns (placeColumn m k) k w
 
   -- a value that is not zero is kept, and the other way
   is-kept : (k : ℕ) → k < length (m .rows) → kept m k ≡ true → KeptEntry m k
@@ -111,7 +110,7 @@ module _ (n : ℕ) (m : Matrix) (s : Slices) (fine : wholeSymmetricFault n m s �
   lower k h = let i = stands m triangle k h in omega (arith, column-same k h, triangle .lower .below (placeColumn m k) k (i .column) (i .from) (i .to))
 
   pub symmetric-alone : Alone m (EitherAt n m)
-  symmetric-alone i j k l h g a b = let (r, d) = same a b in simple (pattern-graph (patternOf n m)) columns k l h g r d
+  symmetric-alone i j k l h g a b = let (r, d) = same a b in simple (patternOf n m) columns k l h g r d
     where
       same : EitherAt n m k i j → EitherAt n m l i j → (getD (m .rows) k 0 ≡ getD (m .rows) l 0) × (columnOf (patternOf n m) k ≡ columnOf (patternOf n m) l)
       same (inl (r, d)) (inl (q, e)) = (r ∙ sym q, d ∙ sym e)

@@ -18,6 +18,7 @@ use Rattle.float64.specs.Number.{magnitude}
 use Rattle.slices.specs.Outcome.{outcomeIs, Outcome, refusing, asNumber}
 use Rattle.slices.proofs.Lists.{table-at}
 use Rattle.sparse.specs.Matrix.{Matrix}
+use Rattle.sparse.specs.Pattern.{Pattern}
 use Rattle.hungarian.specs.Graph.{CostGraph}
 use Rattle.hungarian.specs.Match.{hungarianMatch}
 use Rattle.hungarian_match.specs.Call as Match
@@ -41,7 +42,7 @@ use Rattle.whole_graphs.proofs.Theorems.{Doubles, left-is, left-built, general-
 use Rattle.exponents_powers.specs.Power.{scaledBits, Exponents, exponents}
 use Rattle.exponents_powers.proofs.Exact.{scaled-exactly}
 use Rattle.exponents.specs.Call.{duals, makeExponents, setOf}
-use Rattle.exponents_apply.specs.Apply.{Pattern, shiftAt, applyFault, scaledValues, applyExponents, Exact}
+use Rattle.exponents_apply.specs.Apply.{shiftAt, applyFault, scaledValues, applyExponents, Exact}
 use Rattle.exponents_apply.proofs.Accepted.{lengths-are, accepted-is}
 use Rattle.exponents_bounds.specs.Bounds.{patternOf, entryMagnitude, Within, Bounded, SymmetricBounded, LeftWithin, Scales, ScalesSymmetric}
 use Rattle.exponents_bounds.proofs.AnyColumns.{LoggedColumns, EntryAt, EitherAt, Alone, LogPotentials, made-set, ours-accepted}
@@ -62,10 +63,10 @@ record Found (g : CostGraph) (left : Match.Slices) : Type 0 where
   perm : left .perm ≡ hungarianMatch g .perm
   u : left .u ≡ hungarianMatch g .u
   v : left .v ≡ hungarianMatch g .v
-  full : hungarianMatch g .matched ≡ g .n
+  full : hungarianMatch g .matched ≡ g .pattern .n
 
 found : (g : CostGraph) (before left : Match.Slices) (answer : Answer) (old : List ℕ) → outcomeIs answer left ≡ Match.matchOutcome g before
-    → Match.numberOf answer ≡ accepted → getD (Match.countsLeft answer old) 0 0 ≡ g .n → Found g left
+    → Match.numberOf answer ≡ accepted → getD (Match.countsLeft answer old) 0 0 ≡ g .pattern .n → Found g left
 unfolding Match.matchOutcome Match.finished
 found g before left answer old o e count = go (Match.matchFault g before) o
   where
@@ -104,12 +105,12 @@ module _ (n : ℕ) (after : Slices) (W : WholeGraph (graphLeft n after)) where
 
 -- `apply_exponents` that accepts scaled every place exactly
 applied-exact : (m : Pattern) (e : Exponents) (bits values : List ℕ) (number : ℕ) → outcomeIs number values ≡ applyExponents m e bits → number ≡ accepted
-    → (length bits ≡ length (m .rows)) × Exact m e bits number values
+    → (length bits ≡ length (m .rowIdx)) × Exact m e bits number values
 unfolding applyExponents scaledValues
 applied-exact m e bits values number o z = go (applyFault m e bits) refl o
   where
     go : (f : ℕ) → applyFault m e bits ≡ f → outcomeIs number values ≡ refusing asNumber f (outcomeIs 0 (scaledValues m e bits)) bits
-        → (length bits ≡ length (m .rows)) × Exact m e bits number values
+        → (length bits ≡ length (m .rowIdx)) × Exact m e bits number values
     go zero fine q =
         let a = accepted-is m e bits fine in (
           eqb-true _ _ (lengths-are m e (length bits) (a .lengths) .stored),

@@ -12,10 +12,11 @@ use lib.ListN.{length, getD}
 use Rattle.slices.specs.Outcome.{outcomeIs}
 use Rattle.float64.specs.Number.{unitsPerOne, magnitude}
 use Rattle.sparse.specs.Matrix.{Matrix}
+use Rattle.sparse.specs.Pattern.{Pattern, pattern, columnOf}
 use Rattle.mc64_general.specs.Graph.{isKept}
 use Rattle.refusal.specs.Refusal.{accepted}
 use Rattle.exponents_powers.specs.Power.{Exponents, exponents}
-use Rattle.exponents_apply.specs.Apply.{Pattern, pattern, columnOf, shiftAt}
+use Rattle.exponents_apply.specs.Apply.{shiftAt}
 use Rattle.exponents_apply.specs.Apply.{applyExponents}
 
 -- ---- entries

@@ -17,7 +17,7 @@ use Rattle.sparse.specs.Matrix.{Matrix, matrix}
 use Rattle.sparse.specs.Validate.{sizeFault, pointerFault, frameFault, generalFault, generalColumns, generalColumn}
 use Rattle.sparse.specs.Validate.{symmetricFault, symmetricColumns, lowerColumn, risingColumn}
 use Rattle.matching.specs.Sum.{sumTo}
-use Rattle.hungarian.specs.Graph.{colOf}
+use Rattle.sparse.specs.Pattern.{columnOf}
 use Rattle.hungarian.specs.Test.{graphFault, costFault}
 use Rattle.hungarian.specs.Match.{hungarianMatch}
 use Rattle.hungarian_match.specs.Call as Match
@@ -60,12 +60,12 @@ pub even-matched : (Graphs.numberOf (even-builds .answer) ≡ accepted) × (Matc
     × (getD (Match.countsLeft (even-matches .answer) []) 0 0 ≡ 2) × (even-matches .after .perm ≡ 1 ∷ 0 ∷ [])
 unfolding wholeGeneralGraph generalInputFault finiteFault frameFault generalFault Graphs.slicesFit Graphs.built Graphs.joined keptPlaces isKept
     largestLog largest largestFrom normalised wholeLog Match.matchOutcome Match.finished Match.matchLengths hungarianMatch graphFault
-    costFault inRange sizeFault pointerFault firstOf generalColumns generalColumn magnitude unitsPerOne ofInt ofBits lt le eq ne add sub neg colOf sumTo
+    costFault inRange sizeFault pointerFault firstOf generalColumns generalColumn magnitude unitsPerOne ofInt ofBits lt le eq ne add sub neg columnOf sumTo
 even-matched = (refl, refl, refl, refl)
 
 pub even-products : (productOf 2 (generalSize 2 even) (rowsOf (1 ∷ 0 ∷ [])) ≡ lesser * lesser)
     × (productOf 2 (generalSize 2 even) (rowsOf (0 ∷ 1 ∷ [])) ≡ greater * greater)
-unfolding magnitude unitsPerOne ofBits colOf sumTo sizeBy productTo lesser greater
+unfolding magnitude unitsPerOne ofBits columnOf sumTo sizeBy productTo lesser greater
 even-products = (refl, refl)
 
 -- a power too large to compute, by its fourth root: (c / d) ^ N is above 2, and (b / a) ^ 4 at least c / d
@@ -114,5 +114,5 @@ pub triangle-matched : (Graphs.numberOf (triangle-builds .answer) ≡ accepted) 
 unfolding wholeSymmetricGraph symmetricInputFault finiteFault frameFault symmetricFault symmetricColumns lowerColumn risingColumn Graphs.slicesFit
     Graphs.built Graphs.joined placesTo atMost largest largestFrom normalised wholeLog Match.matchOutcome Match.finished
     Match.matchLengths hungarianMatch graphFault costFault inRange sizeFault pointerFault firstOf generalColumns generalColumn magnitude
-    unitsPerOne ofInt ofBits lt le eq ne add sub neg colOf sumTo sizeBy productTo
+    unitsPerOne ofInt ofBits lt le eq ne add sub neg columnOf sumTo sizeBy productTo
 triangle-matched = (refl, refl, refl, refl, refl, refl)

@@ -15,6 +15,7 @@ use Rattle.refusal.specs.Refusal.{accepted}
 use Rattle.slices.specs.Outcome.{outcomeIs}
 use Rattle.slices.proofs.Bools.{both}
 use Rattle.sparse.specs.Matrix.{Matrix}
+use Rattle.sparse.specs.Pattern.{columnOf}
 use Rattle.hungarian.proofs.Rows.{or-l, or-r, or-cases}
 use Rattle.hungarian_match.specs.Call as Match
 use Rattle.hungarian_match.specs.declared.Answer.{Answer}
@@ -26,7 +27,6 @@ use Rattle.mc64_columns.specs.Graphs.{Slices, numberOf}
 use Rattle.mc64_columns.specs.declared.Built.{Built}
 use Rattle.whole_graphs.specs.Graphs.{wholeGeneralGraph, wholeSymmetricGraph, graphLeft}
 use Rattle.whole_graphs.proofs.Theorems.{Doubles}
-use Rattle.exponents_apply.specs.Apply.{columnOf}
 use Rattle.exponents_bounds.specs.Bounds.{patternOf, entryMagnitude}
 use Rattle.exponents_bounds.proofs.AnyColumns.{EntryAt, EitherAt, LogPotentials}
 use Rattle.exponents_bounds.proofs.Theorems.{left-certified, checked-certified, general-once, symmetric-once, general-left, symmetric-left}

@@ -9,7 +9,7 @@ use lib.Dec.{eqb}
 use lib.ListN.{length, getD}
 use Rattle.matching.specs.Sum.{sumTo, orZero}
 use Rattle.sparse.specs.Matrix.{Matrix}
-use Rattle.exponents_apply.specs.Apply.{columnOf}
+use Rattle.sparse.specs.Pattern.{columnOf}
 use Rattle.exponents_bounds.specs.Bounds.{patternOf, entryMagnitude}
 
 -- ---- what stands at (i, j)

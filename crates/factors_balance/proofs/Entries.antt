@@ -15,7 +15,8 @@ use Rattle.slices.specs.Lists.{keep}
 use Rattle.slices.proofs.Lists.{getD-last}
 use Rattle.sparse.specs.Matrix.{Matrix}
 use Rattle.matching.proofs.Mirror.{Mirror, Symmetric}
-use Rattle.hungarian.specs.Graph.{CostGraph, bipartite, rowOf, colOf, costOf, entries, graphOf}
+use Rattle.sparse.specs.Pattern.{bipartite, rowOf, columnOf, entries}
+use Rattle.hungarian.specs.Graph.{CostGraph, costOf, graphOf}
 use Rattle.mc64_columns.specs.Columns.{largest}
 use Rattle.mc64_columns.specs.Graphs.{logsOf, keptBefore, graphPointers, graphRows, graphCosts}
 use Rattle.mc64_columns.proofs.Entries as Columns
@@ -88,10 +89,10 @@ module _ (n : ℕ) (m : Matrix) (logs : List Float) (t : Triangle m) (size : col
 
   -- entry e of column c is made of place p
   pub record MadeOf (e c p : ℕ) : Type 0 where
-    pub within : e < entries graph
+    pub within : e < entries (graph .pattern)
     pub inside : c < n
-    pub column : colOf graph e ≡ c
-    pub row : rowOf graph e ≡ otherEnd m c p
+    pub column : columnOf (graph .pattern) e ≡ c
+    pub row : rowOf (graph .pattern) e ≡ otherEnd m c p
     pub cost : costOf graph e ≡ sub binary64 (topOf m logs c) (getD logs p nan)
     pub some : 0 < length (placesOf m c)
     pub place : KeptEntry m p
@@ -114,9 +115,9 @@ module _ (n : ℕ) (m : Matrix) (logs : List Float) (t : Triangle m) (size : col
       }
 
   -- every entry is made of a place
-  pub made : (e : ℕ) → e < entries graph → (p : ℕ) × MadeOf e (colOf graph e) p
+  pub made : (e : ℕ) → e < entries (graph .pattern) → (p : ℕ) × MadeOf e (columnOf (graph .pattern) e) p
   made e h =
-      let c = colOf graph e in
+      let c = columnOf (graph .pattern) e in
       let (p, E) = Columns.made n (mirroredColumns m) logs (graph-rises n m t size) e h in
       let q = E .place in (
         getD (placesOf m c) (E .number) 0,
@@ -139,12 +140,13 @@ module _ (n : ℕ) (m : Matrix) (logs : List Float) (t : Triangle m) (size : col
           (λ (e : placeColumn m p ≡ c). omega (arith, size, stands m t p (K .stored) .column)) u
 
   -- the mirror of an entry is made of the same place
-  pub mirror-made : (e p : ℕ) → MadeOf e (colOf graph e) p → (l : ℕ) × Mirror (bipartite graph) e l × MadeOf l (rowOf graph e) p
+  pub mirror-made : (e p : ℕ) → MadeOf e (columnOf (graph .pattern) e) p → (l : ℕ) × Mirror (bipartite (graph .pattern)) e l × MadeOf l
+      (rowOf (graph .pattern) e) p
   mirror-made e p M =
-      let o = other-takes m p (colOf graph e) (M .takes) in
-      let u : Takes m (rowOf graph e) p = subst (λ (x : ℕ). Takes m x p) (sym (M .row)) (o .0) in
-      let (l, L) = makes (rowOf graph e) p (M .place) u in
+      let o = other-takes m p (columnOf (graph .pattern) e) (M .takes) in
+      let u : Takes m (rowOf (graph .pattern) e) p = subst (λ (x : ℕ). Takes m x p) (sym (M .row)) (o .0) in
+      let (l, L) = makes (rowOf (graph .pattern) e) p (M .place) u in
       (l, record { within = L .within; row = L .row ∙ ap (λ (x : ℕ). otherEnd m x p) (M .row) ∙ o .1; col = L .column }, L)
 
-  pub mirrors : Symmetric (bipartite graph)
+  pub mirrors : Symmetric (bipartite (graph .pattern))
   mirrors e h = let (p, M) = made e h in let (l, q, L) = mirror-made e p M in (l, q)

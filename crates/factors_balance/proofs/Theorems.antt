@@ -35,11 +35,12 @@ use Rattle.matching.proofs.Matchings.{Potentials}
 use Rattle.matching.proofs.Pairings.{all-matched}
 use Rattle.matching.proofs.Mirror.{Mirror, Mirrors, mirror-tight, rows-covered}
 use Rattle.matching.specs.Match.{Match, matchOf}
-use Rattle.hungarian.specs.Graph.{CostGraph, bipartite, rowOf, colOf, costOf, entries}
+use Rattle.sparse.specs.Pattern.{bipartite, rowOf, columnOf, entries}
+use Rattle.hungarian.specs.Graph.{CostGraph, costOf}
 use Rattle.hungarian.specs.Accepted.{Accepted}
 use Rattle.hungarian.specs.Match.{Matching, hungarianMatch}
 use Rattle.hungarian.specs.Optimal.{Optimal, WholeCosts, IsEntry, matchedEntries, rowFor, rowDual, columnDual}
-use Rattle.hungarian.proofs.Columns.{in-range, simple}
+use Rattle.sparse.proofs.Columns.{in-range, simple}
 use Rattle.hungarian.proofs.Optimum.{number-key}
 use Rattle.hungarian.proofs.Theorems.{match-optimal, match-small}
 use Rattle.mc64_columns.specs.Graphs.{Slices, graphLargest}
@@ -135,18 +136,18 @@ module _ (n : ℕ) (m : Matrix) (logs : List Float) (t : Triangle m) (size : col
   graph = symmetricGraph n m logs
 
   abbrev matched : ℕ → Bool
-  matched = matchedEntries graph M
+  matched = matchedEntries (graph .pattern) M
 
-  complete : Complete (bipartite graph) matched
+  complete : Complete (bipartite (graph .pattern)) matched
   complete = record { matching = O .ranged .matching; full = O .ranged .pairCount ∙ full }
 
   -- every column has a row, and every row a column
   has-row : (j : ℕ) → j < n → rowFor M j ≢ none
   has-row = all-matched none n (rowFor M) (sym (O .ranged .counted) ∙ full)
 
-  matched-row : (k : ℕ) → T (matched k) → rowFor M (colOf graph k) ≡ rowOf graph k
+  matched-row : (k : ℕ) → T (matched k) → rowFor M (columnOf (graph .pattern) k) ≡ rowOf (graph .pattern) k
   unfolding matchedEntries pairedEntries
-  matched-row k u = eqb→eq (rowFor M (colOf graph k)) (rowOf graph k) u
+  matched-row k u = eqb→eq (rowFor M (columnOf (graph .pattern) k)) (rowOf (graph .pattern) k) u
 
   has-column : (i : ℕ) → i < n → isMatchedRow (M .perm) i n ≡ true
   has-column i h = go (isMatchedRow (M .perm) i n) refl
@@ -154,13 +155,14 @@ module _ (n : ℕ) (m : Matrix) (logs : List Float) (t : Triangle m) (size : col
       go : (b : Bool) → isMatchedRow (M .perm) i n ≡ b → isMatchedRow (M .perm) i n ≡ true
       go true e = e
       go false e =
-          absurd (rows-covered (in-range graph (graph-rises n m t size)) complete i h
-          (λ k l u q. unmarked (M .perm) i n e (colOf graph k) (in-range graph (graph-rises n m t size) .cols k l) (matched-row k u ∙ q)))
+          absurd (rows-covered (in-range (graph .pattern) (graph-rises n m t size)) complete i h
+          (λ k l u q. unmarked (M .perm) i n e (columnOf (graph .pattern) k) (in-range (graph .pattern) (graph-rises n m t size) .cols k l)
+          (matched-row k u ∙ q)))
 
   -- so no column is empty
   some-place : (c : ℕ) → c < n → 0 < length (placesOf m c)
   some-place c h =
-      let e : IsEntry graph (rowFor M c) c = O .ranged .pairs c h (has-row c h) in
+      let e : IsEntry (graph .pattern) (rowFor M c) c = O .ranged .pairs c h (has-row c h) in
       let (p, E) = made n m logs t size (e .entry) (e .within) in
       subst (λ (x : ℕ). 0 < length (placesOf m x)) (e .column) (E .some)
 
@@ -168,47 +170,53 @@ module _ (n : ℕ) (m : Matrix) (logs : List Float) (t : Triangle m) (size : col
   top c h = top-short n m logs t size whole ranges c h (some-place c h)
 
   -- ---- duals in keys
-  potentials : Potentials (bipartite graph) (λ k. position (costOf graph k)) matched (λ i. position (rowDual M i)) (λ j. position (columnDual M j)) origin
+  potentials : Potentials (bipartite (graph .pattern)) (λ k. position (costOf graph k)) matched (λ i. position (rowDual M i))
+      (λ j. position (columnDual M j)) origin
   potentials = record {
-    below = λ k h. keys-below (rowDual M (rowOf graph k)) (columnDual M (colOf graph k)) (costOf graph k) (rows k h) (columns k h) (costs k h)
+    below = λ k h. keys-below (rowDual M (rowOf (graph .pattern) k)) (columnDual M (columnOf (graph .pattern) k)) (costOf graph k) (rows k h) (columns k h)
+        (costs k h)
         (O .feasible k h);
-    tight = λ k h u. keys-equal (rowDual M (rowOf graph k)) (columnDual M (colOf graph k)) (costOf graph k) (rows k h) (columns k h) (costs k h)
+    tight = λ k h u. keys-equal (rowDual M (rowOf (graph .pattern) k)) (columnDual M (columnOf (graph .pattern) k)) (costOf graph k) (rows k h) (columns k h)
+        (costs k h)
         (O .tight k h u);
   }
     where
-      rows : (k : ℕ) → k < entries graph → IsWhole (rowDual M (rowOf graph k))
-      rows k h = O .rowsWhole (rowOf graph k) (in-range graph (graph-rises n m t size) .rows k h)
+      rows : (k : ℕ) → k < entries (graph .pattern) → IsWhole (rowDual M (rowOf (graph .pattern) k))
+      rows k h = O .rowsWhole (rowOf (graph .pattern) k) (in-range (graph .pattern) (graph-rises n m t size) .rows k h)
 
-      columns : (k : ℕ) → k < entries graph → IsWhole (columnDual M (colOf graph k))
-      columns k h = O .columnsWhole (colOf graph k) (in-range graph (graph-rises n m t size) .cols k h)
+      columns : (k : ℕ) → k < entries (graph .pattern) → IsWhole (columnDual M (columnOf (graph .pattern) k))
+      columns k h = O .columnsWhole (columnOf (graph .pattern) k) (in-range (graph .pattern) (graph-rises n m t size) .cols k h)
 
-      costs : (k : ℕ) → k < entries graph → IsWhole (costOf graph k)
+      costs : (k : ℕ) → k < entries (graph .pattern) → IsWhole (costOf graph k)
       costs = costs-whole n m logs t size whole ranges
 
   -- the entries whose mirrors are matched
   turned : ℕ → Bool
-  turned k = eqb (rowFor M (rowOf graph k)) (colOf graph k)
+  turned k = eqb (rowFor M (rowOf (graph .pattern) k)) (columnOf (graph .pattern) k)
 
-  turned-mirrors : Mirrors (bipartite graph) matched turned
+  turned-mirrors : Mirrors (bipartite (graph .pattern)) matched turned
   unfolding matchedEntries pairedEntries turned
   turned-mirrors k l h q = ap₂ eqb (ap (rowFor M) (sym (q .col))) (sym (q .row))
 
   -- a cost and its mirror's differ as the largest logs of their rows do
-  costs-mirrored : (k l : ℕ) → k < entries graph → Mirror (bipartite graph) k l → position (costOf graph k) + position (topOf m logs (rowOf graph k)) ≡ position
-      (costOf graph l) + position (topOf m logs (rowOf graph l))
+  costs-mirrored : (k l : ℕ) → k < entries (graph .pattern) → Mirror (bipartite (graph .pattern)) k l
+      → position (costOf graph k) + position (topOf m logs (rowOf (graph .pattern) k)) ≡ position
+      (costOf graph l) + position (topOf m logs (rowOf (graph .pattern) l))
   costs-mirrored k l h q =
       let (p, E) = made n m logs t size k h in
       let (l', q', L) = mirror-made n m logs t size k p E in
-      let same : l' ≡ l = simple graph (graph-rises n m t size) l' l (q' .within) (q .within) (q' .row ∙ sym (q .row)) (q' .col ∙ sym (q .col)) in
+      let same : l' ≡ l = simple (graph .pattern) (graph-rises n m t size) l' l (q' .within) (q .within) (q' .row ∙ sym (q .row)) (q' .col ∙ sym (q .col)) in
       let e = cost-key n m logs t size whole ranges E in
       let f = cost-key n m logs t size whole ranges L in
       let s : position (costOf graph l') ≡ position (costOf graph l) = ap (λ (x : ℕ). position (costOf graph x)) same in
-      let r : position (topOf m logs (colOf graph k)) ≡ position (topOf m logs (rowOf graph l)) = ap (λ (x : ℕ). position (topOf m logs x)) (sym (q .row)) in
+      let r : position (topOf m logs (columnOf (graph .pattern) k)) ≡ position (topOf m logs (rowOf (graph .pattern) l)) = ap
+      (λ (x : ℕ). position (topOf m logs x)) (sym (q .row)) in
       omega (arith, e, f, s, r)
 
-  turned-tight : (k : ℕ) → k < entries graph → T (turned k) → position (rowDual M (rowOf graph k)) + position (columnDual M (colOf graph k)) ≡ position
+  turned-tight : (k : ℕ) → k < entries (graph .pattern) → T (turned k) → position (rowDual M (rowOf (graph .pattern) k)) + position
+      (columnDual M (columnOf (graph .pattern) k)) ≡ position
       (costOf graph k) + origin
-  turned-tight = mirror-tight (in-range graph (graph-rises n m t size)) (simple graph (graph-rises n m t size))
+  turned-tight = mirror-tight (in-range (graph .pattern) (graph-rises n m t size)) (simple (graph .pattern) (graph-rises n m t size))
       (mirrors n m logs t size) turned-mirrors (λ i. position (topOf m logs i)) costs-mirrored complete potentials
 
   -- ---- the factors
@@ -265,10 +273,10 @@ module _ (n : ℕ) (m : Matrix) (logs : List Float) (t : Triangle m) (size : col
       other : (e : ℕ) × MadeOf n m logs t size e row k
       other = makes n m logs t size row k K (inl refl)
 
-      own-row : rowOf graph (own .0) ≡ row
+      own-row : rowOf (graph .pattern) (own .0) ≡ row
       own-row = own .1 .row ∙ from-column m k
 
-      other-row : rowOf graph (other .0) ≡ column
+      other-row : rowOf (graph .pattern) (other .0) ≡ column
       other-row = other .1 .row ∙ from-row m k
 
       row-inside : row < n
@@ -280,11 +288,12 @@ module _ (n : ℕ) (m : Matrix) (logs : List Float) (t : Triangle m) (size : col
       abbrev sum : ℕ
       sum = position (getD factors row nan) + position (getD factors column nan) + position (getD logs k nan)
 
-      own-keys : position (rowDual M (rowOf graph (own .0))) + position (columnDual M (colOf graph (own .0))) ≡ position (rowDual M row) + position
+      own-keys : position (rowDual M (rowOf (graph .pattern) (own .0))) + position (columnDual M (columnOf (graph .pattern) (own .0))) ≡ position
+          (rowDual M row) + position
           (columnDual M column)
       own-keys = ap₂ (λ (i j : ℕ). position (rowDual M i) + position (columnDual M j)) own-row (own .1 .column)
 
-      other-keys : position (rowDual M (rowOf graph (other .0))) + position (columnDual M (colOf graph (other .0))) ≡ position
+      other-keys : position (rowDual M (rowOf (graph .pattern) (other .0))) + position (columnDual M (columnOf (graph .pattern) (other .0))) ≡ position
           (rowDual M column) + position (columnDual M row)
       other-keys = ap₂ (λ (i j : ℕ). position (rowDual M i) + position (columnDual M j)) other-row (other .1 .column)
 
@@ -342,9 +351,9 @@ module _ (n : ℕ) (m : Matrix) (logs : List Float) (t : Triangle m) (size : col
     -- the pair of a column is an entry
     pair-entry : (j : ℕ) → j < n → (k : ℕ) × KeptEntry m k × Joins m k (rowFor M j) j
     pair-entry j h =
-        let e : IsEntry graph (rowFor M j) j = O .ranged .pairs j h (has-row j h) in
+        let e : IsEntry (graph .pattern) (rowFor M j) j = O .ranged .pairs j h (has-row j h) in
         let (k, E) = made n m logs t size (e .entry) (e .within) in
-        (k, E .place, joins k (colOf graph (e .entry)) (rowOf graph (e .entry)) (E .takes) (E .row) (e .row) (e .column))
+        (k, E .place, joins k (columnOf (graph .pattern) (e .entry)) (rowOf (graph .pattern) (e .entry)) (E .takes) (E .row) (e .row) (e .column))
       where
         joins : (k c r : ℕ) → Takes m c k → r ≡ otherEnd m c k → r ≡ rowFor M j → c ≡ j → Joins m k (rowFor M j) j
         joins k c r (inl q) e f g = inr (q ∙ g, sym (ap (λ (x : ℕ). otherEnd m x k) (sym q) ∙ from-row m k) ∙ sym e ∙ f)

@@ -28,11 +28,12 @@ spread : (n C : ℕ) → (n + 2) * (C + 4) ≡ n * C + 4 * n + (2 * C + 8)
 spread n C = add-mul n 2 (C + 4) ∙ ap (λ (x : ℕ). x + 2 * (C + 4)) (mul-add n C 4 ∙ ap (λ (x : ℕ). n * C + x) (mul-comm n 4))
     ∙ (let e : n * C + 4 * n + 2 * (C + 4) ≡ n * C + 4 * n + (2 * C + 8) = omega arith in e)
 
-pub level-most : {Good : Float → Type 0} {err C : ℕ} {g : CostGraph} → Setting Good err C g → 0 < g .n → level C (g .n + 2) ≤ 2 ^ 50 * unitsPerOne
+pub level-most : {Good : Float → Type 0} {err C : ℕ} {g : CostGraph} → Setting Good err C g → 0 < g .pattern .n
+    → level C (g .pattern .n + 2) ≤ 2 ^ 50 * unitsPerOne
 unfolding level
 level-most {C = C} {g = g} S h =
-    le-trans (le-of-eq (sym (mul-assoc (g .n + 2) (C + 4) unitsPerOne)))
-    (mul-le-mul-right unitsPerOne (small (g .n) C h (S .fewColumns) (S .product)))
+    le-trans (le-of-eq (sym (mul-assoc (g .pattern .n + 2) (C + 4) unitsPerOne)))
+    (mul-le-mul-right unitsPerOne (small (g .pattern .n) C h (S .fewColumns) (S .product)))
   where
     small : (n C : ℕ) → 0 < n → n ≤ 4096 → n * C ≤ 2 ^ 48 + n → (n + 2) * (C + 4) ≤ 2 ^ 50
     small n C h few prod =

@@ -30,29 +30,30 @@ raised-under : (r u e p d t s w m E L : ℕ) → 2 * (u + e) ≤ 2 * (r + m) + E
     → 2 * m ≤ 2 * r + 4 * L + 4 * E
 raised-under r u e p d t s w m E L a b f h i j k = omega arith
 
-module _ {Good : Float → Type 0} {err C : ℕ} {g : CostGraph} (S : Setting Good err C g) (some : 0 < g .n) where
-  top : level C (g .n + 2) ≤ 2 ^ 50 * unitsPerOne
+module _ {Good : Float → Type 0} {err C : ℕ} {g : CostGraph} (S : Setting Good err C g) (some : 0 < g .pattern .n) where
+  top : level C (g .pattern .n + 2) ≤ 2 ^ 50 * unitsPerOne
   top = level-most S some
 
   -- one more than the highest level of a search
-  step : level C (suc (g .n + 1)) ≡ level C (g .n + 1) + C * unitsPerOne + 4 * unitsPerOne
-  step = level-step C (g .n + 1)
+  step : level C (suc (g .pattern .n + 1)) ≡ level C (g .pattern .n + 1) + C * unitsPerOne + 4 * unitsPerOne
+  step = level-step C (g .pattern .n + 1)
 
-  same-level : level C (suc (g .n + 1)) ≡ level C (g .n + 2)
-  same-level = ap (level C) (let e : suc (g .n + 1) ≡ g .n + 2 = omega arith in e)
+  same-level : level C (suc (g .pattern .n + 1)) ≡ level C (g .pattern .n + 2)
+  same-level = ap (level C) (let e : suc (g .pattern .n + 1) ≡ g .pattern .n + 2 = omega arith in e)
 
   -- t - u is within 2 ^ 53
-  pub distance-room : (p : ℕ) (t u : Float) → p ≤ g .n + 2 → Small Good (level C p) t → Small Good (dualBound (g .n) C) u
+  pub distance-room : (p : ℕ) (t u : Float) → p ≤ g .pattern .n + 2 → Small Good (level C p) t → Small Good (dualBound (g .pattern .n) C) u
       → Apart (wholeLimit * unitsPerOne) (position t) (position u)
   unfolding dualBound
   distance-room p t u h x y =
-      let m : level C p ≤ level C (g .n + 2) = level-mono C p (g .n + 2) h in
+      let m : level C p ≤ level C (g .pattern .n + 2) = level-mono C p (g .pattern .n + 2) h in
       record { above = omega (arith, x .size .above, y .size .under, top); under = omega (arith, x .size .under, y .size .above, top) }
 
-  pub distance : (p : ℕ) (t u : Float) → p ≤ g .n + 2 → Small Good (level C p) t → Small Good (dualBound (g .n) C) u → Distance Good err t u (sub binary64 t u)
+  pub distance : (p : ℕ) (t u : Float) → p ≤ g .pattern .n + 2 → Small Good (level C p) t → Small Good (dualBound (g .pattern .n) C) u
+      → Distance Good err t u (sub binary64 t u)
   unfolding dualBound
   distance p t u h x y =
-      let m : level C p ≤ level C (g .n + 2) = level-mono C p (g .n + 2) h in
+      let m : level C p ≤ level C (g .pattern .n + 2) = level-mono C p (g .pattern .n + 2) h in
       let r = distance-room p t u h x y in
       let n : Apart err (2 * (position (sub binary64 t u) + position u)) (2 * (position t + origin)) = S .laws .minus-near t u (x .good) (y .good) r in
       let k : Good (sub binary64 t u) = S .laws .minus t u (x .good) (y .good) r in
@@ -63,10 +64,11 @@ module _ {Good : Float → Type 0} {err C : ℕ} {g : CostGraph} (S : Setting Go
       }
 
   -- ---- the offset (d - c) + u
-  module _ (p : ℕ) (t u d c : Float) (h : p ≤ g .n + 1) (x : Small Good (level C p) t) (y : Small Good (dualBound (g .n) C) u) (z : Cost Good C c)
+  module _ (p : ℕ) (t u d c : Float) (h : p ≤ g .pattern .n + 1) (x : Small Good (level C p) t) (y : Small Good (dualBound (g .pattern .n) C) u)
+      (z : Cost Good C c)
       (w : Distance Good err t u d) where
-    low : level C p ≤ level C (g .n + 1)
-    low = level-mono C p (g .n + 1) h
+    low : level C p ≤ level C (g .pattern .n + 1)
+    low = level-mono C p (g .pattern .n + 1) h
 
     pub cost-room : Apart (wholeLimit * unitsPerOne) (position d) (position c)
     unfolding dualBound
@@ -98,16 +100,16 @@ module _ {Good : Float → Type 0} {err C : ℕ} {g : CostGraph} (S : Setting Go
         }
 
   -- the next t: the offset and an entry's cost
-  pub next-room : (p : ℕ) (t c v e : Float) → p ≤ g .n + 1 → Small Good (level C p) t → Cost Good C c → Cost Good C e → Offset Good err t c v
+  pub next-room : (p : ℕ) (t c v e : Float) → p ≤ g .pattern .n + 1 → Small Good (level C p) t → Cost Good C c → Cost Good C e → Offset Good err t c v
       → Apart (wholeLimit * unitsPerOne) (position v + position e) (origin + origin)
   next-room p t c v e h x y z w =
-      let m : level C p ≤ level C (g .n + 1) = level-mono C p (g .n + 1) h in
+      let m : level C p ≤ level C (g .pattern .n + 1) = level-mono C p (g .pattern .n + 1) h in
       record {
         above = omega (arith, w .near .above, x .size .above, y .low, z .high, top, step, same-level, S .fine);
         under = omega (arith, w .near .under, x .size .under, y .high, z .low, top, step, same-level, S .fine);
       }
 
-  pub next : (p : ℕ) (t c v e : Float) → p ≤ g .n + 1 → Small Good (level C p) t → Cost Good C c → Cost Good C e → Offset Good err t c v
+  pub next : (p : ℕ) (t c v e : Float) → p ≤ g .pattern .n + 1 → Small Good (level C p) t → Cost Good C c → Cost Good C e → Offset Good err t c v
       → Small Good (level C (suc p)) (add binary64 v e) × Apart err (2 * (position (add binary64 v e) + origin)) (2 * (position v + position e))
   next p t c v e h x y z w =
       let r = next-room p t c v e h x y z w in
@@ -123,17 +125,18 @@ module _ {Good : Float → Type 0} {err C : ℕ} {g : CostGraph} (S : Setting Go
       )
 
   -- within the bound of a dual
-  wide-above : (r : ℕ) → 2 * r ≤ 2 * origin + 4 * level C (g .n + 1) + 2 * (C * unitsPerOne) + 4 * err → err ≤ unitsPerOne → r ≤ origin + dualBound (g .n) C
+  wide-above : (r : ℕ) → 2 * r ≤ 2 * origin + 4 * level C (g .pattern .n + 1) + 2 * (C * unitsPerOne) + 4 * err → err ≤ unitsPerOne
+      → r ≤ origin + dualBound (g .pattern .n) C
   unfolding dualBound
   wide-above r h f = omega (arith, step, same-level)
 
-  wide-under : (r : ℕ) → 2 * origin ≤ 2 * r + 4 * level C (g .n + 1) + 4 * err → err ≤ unitsPerOne → origin ≤ r + dualBound (g .n) C
+  wide-under : (r : ℕ) → 2 * origin ≤ 2 * r + 4 * level C (g .pattern .n + 1) + 4 * err → err ≤ unitsPerOne → origin ≤ r + dualBound (g .pattern .n) C
   unfolding dualBound
   wide-under r h f = omega (arith, step, same-level)
 
   -- the dual of a popped row after a path of cost p = s - w, w the dual of a free row: its old dual cancels
-  module _ (t u d s w p : Float) (x : Small Good (level C (g .n + 1)) t) (y : Small Good (dualBound (g .n) C) u) (z : Distance Good err t u d)
-      (x' : Small Good (level C (g .n + 1)) s) (y' : Cost Good C w) (z' : Distance Good err s w p) where
+  module _ (t u d s w p : Float) (x : Small Good (level C (g .pattern .n + 1)) t) (y : Small Good (dualBound (g .pattern .n) C) u) (z : Distance Good err t u d)
+      (x' : Small Good (level C (g .pattern .n + 1)) s) (y' : Cost Good C w) (z' : Distance Good err s w p) where
     abbrev e : Float
     e = sub binary64 d p
 
@@ -156,7 +159,7 @@ module _ {Good : Float → Type 0} {err C : ℕ} {g : CostGraph} (S : Setting Go
       under = omega (arith, gained .under, z .near .under, x .size .under, z' .near .above, x' .size .above, y' .low, top, step, same-level, S .fine);
     }
 
-    pub raised : Small Good (dualBound (g .n) C) (add binary64 u e) × Apart (2 * err) (2 * (position (add binary64 u e) + position p))
+    pub raised : Small Good (dualBound (g .pattern .n) C) (add binary64 u e) × Apart (2 * err) (2 * (position (add binary64 u e) + position p))
         (2 * (position u + position d))
     unfolding dualBound
     raised =
@@ -166,14 +169,14 @@ module _ {Good : Float → Type 0} {err C : ℕ} {g : CostGraph} (S : Setting Go
           record {
             good = S .laws .plus u e (y .good) gain-good raised-room;
             size = record {
-              above = (let b : 2 * position (add binary64 u e) ≤ 2 * origin + 4 * level C (g .n + 1) + 2 * (C * unitsPerOne) + 4 * err =
+              above = (let b : 2 * position (add binary64 u e) ≤ 2 * origin + 4 * level C (g .pattern .n + 1) + 2 * (C * unitsPerOne) + 4 * err =
                   raised-above (position (add binary64 u e)) (position u) (position e) (position p) (position d) (position t) (position s)
                   (position w) origin err
-                  (level C (g .n + 1)) (C * unitsPerOne) (k .above) (n .above) (z .near .above) (z' .near .under) (x .size .above) (x' .size .under)
+                  (level C (g .pattern .n + 1)) (C * unitsPerOne) (k .above) (n .above) (z .near .above) (z' .near .under) (x .size .above) (x' .size .under)
                   (y' .high) in wide-above (position (add binary64 u e)) b (S .fine));
-              under = (let b : 2 * origin ≤ 2 * position (add binary64 u e) + 4 * level C (g .n + 1) + 4 * err =
+              under = (let b : 2 * origin ≤ 2 * position (add binary64 u e) + 4 * level C (g .pattern .n + 1) + 4 * err =
                   raised-under (position (add binary64 u e)) (position u) (position e) (position p) (position d) (position t) (position s)
-                  (position w) origin err (level C (g .n + 1)) (k .under)
+                  (position w) origin err (level C (g .pattern .n + 1)) (k .under)
                   (n .under) (z .near .under) (z' .near .above) (x .size .under) (x' .size .above) (y' .low) in
                   wide-under (position (add binary64 u e)) b (S .fine));
             };

@@ -17,7 +17,8 @@ use Rattle.float64.specs.inner.Keys.{position}
 use Rattle.float64.specs.inner.Arithmetic.{Apart}
 use Rattle.float64.specs.Constants.{rinf}
 use Rattle.hungarian.specs.declared.HungarianStats.{HungarianStats}
-use Rattle.hungarian.specs.Graph.{CostGraph, rowOf, InColumn}
+use Rattle.sparse.specs.Pattern.{rowOf, InColumn}
+use Rattle.hungarian.specs.Graph.{CostGraph}
 use Rattle.hungarian.specs.Counts.{searchBegun}
 use Rattle.hungarian.specs.Init.{Pairs}
 use Rattle.hungarian.specs.Search.{Tree, among, raise}
@@ -27,7 +28,7 @@ use Rattle.hungarian.specs.inner.Between.{at, Matched, Bounded, Tight, F
 use Rattle.hungarian.specs.inner.SearchTree.{Among, Order, dual-of, cost-of, Grown, PathEnd, Reached, Scanned}
 use Rattle.hungarian.specs.inner.Runs.{Runs}
 use Rattle.hungarian.proofs.Bounds.{once-at-least}
-use Rattle.hungarian.proofs.Columns.{in-entries, row-below}
+use Rattle.sparse.proofs.Columns.{in-entries, row-below}
 use Rattle.hungarian.proofs.Rows.{at-most-all, or-cases}
 use Rattle.hungarian.proofs.HeapSteps.{heap-laws}
 use Rattle.hungarian.proofs.TreeGrow.{Searched, search-tree}
@@ -38,7 +39,7 @@ use Rattle.hungarian.proofs.Run.{run-duals}
 
 -- ---- one search
 module _ {Good : Float → Type 0} {C : ℕ} {g : CostGraph} {s : Pairs} {u : List Float} {r : ℕ} {c : HungarianStats} (S : Setting Good 0 C g)
-    (M : Matched g s) (B : Bounded Good C g s u) (D : Tight g s u) (root : at (s .jperm) r ≡ none) (below : r < g .n)
+    (M : Matched g s) (B : Bounded Good C g s u) (D : Tight g s u) (root : at (s .jperm) r ≡ none) (below : r < g .pattern .n)
     (t : Tree) (W : Searched Good 0 C g s u r c t) where
   G : Grown Good 0 C g s u r (W .rank) t
   G = W .scanning .grown
@@ -55,8 +56,8 @@ module _ {Good : Float → Type 0} {C : ℕ} {g : CostGraph} {s : Pairs} {u : Li
   popped-row : (q : ℕ) → Among q (t .popped) → Reached Good 0 C g s u r (t .popped) (t .pr) (t .out) (t .d) q
   popped-row q m = G .reached q (G .poppedTouched q m)
 
-  cost-within : (j k : ℕ) → InColumn g j k → (origin ≤ cost-of g k) × (cost-of g k ≤ origin + unit)
-  cost-within j k i = let h = in-entries g (S .columns) j k i in (S .low k h, omega (arith, S .high k h))
+  cost-within : (j k : ℕ) → InColumn (g .pattern) j k → (origin ≤ cost-of g k) × (cost-of g k ≤ origin + unit)
+  cost-within j k i = let h = in-entries (g .pattern) (S .columns) j k i in (S .low k h, omega (arith, S .high k h))
 
   -- from the column that reached a popped row to the row's own: a cost more and a cost less
   step : (q : ℕ) → Among q (t .popped) → Apart unit (W .offset (column q)) (W .offset (at (t .pr) (column q)))
@@ -97,14 +98,14 @@ module _ {Good : Float → Type 0} {C : ℕ} {g : CostGraph} {s : Pairs} {u : Li
     u' = raise (t .d) (t .csp) (t .popped) u
 
     abbrev last : ℕ
-    last = rowOf g (t .isp)
+    last = rowOf (g .pattern) (t .isp)
 
-    last-below : last < g .n
-    last-below = row-below g (S .columns) (t .jsp) (t .isp) (P .entry)
+    last-below : last < g .pattern .n
+    last-below = row-below (g .pattern) (S .columns) (t .jsp) (t .isp) (P .entry)
 
-    few : suc (length (t .popped)) ≤ g .n
+    few : suc (length (t .popped)) ≤ g .pattern .n
     unfolding among
-    few = at-most-all (g .n) (last ∷ t .popped) (free-kept S M B (heap-laws (g .n)) root below t W finite P last (P .ends), G .poppedOnce)
+    few = at-most-all (g .pattern .n) (last ∷ t .popped) (free-kept S M B (heap-laws (g .pattern .n)) root below t W finite P last (P .ends), G .poppedOnce)
         (λ i m. ⊎-elim (λ (e : T (eqb last i)). rw (← eqb→eq last i e) last-below) (λ (a : Among i (t .popped)). popped-row i a .row)
         (or-cases (eqb last i) (among i (t .popped)) m))
 
@@ -112,7 +113,7 @@ module _ {Good : Float → Type 0} {C : ℕ} {g : CostGraph} {s : Pairs} {u : Li
     jsp-rank (inl e) = omega (arith, ap (W .rank) e, G .rankRoot)
     jsp-rank (inr (q, m, e)) = omega (arith, ap (W .rank) e, G .rankMost q m)
 
-    popped-low : (q : ℕ) → Among q (t .popped) → origin + unit ≤ dual-of u' q + 2 * (g .n * unit)
+    popped-low : (q : ℕ) → Among q (t .popped) → origin + unit ≤ dual-of u' q + 2 * (g .pattern .n * unit)
     popped-low q m =
         let w = popped-row q m in
         let start = offset-within (length (t .popped)) (at (t .pr) (column q)) (w .from) (omega (arith, G .rankLower q m, G .rankMost q m)) in
@@ -120,8 +121,9 @@ module _ {Good : Float → Type 0} {C : ℕ} {g : CostGraph} {s : Pairs} {u : Li
         let a = cost-within (at (t .pr) (column q)) (at (t .out) (column q)) (w .entry) in
         let b = cost-within (t .jsp) (t .isp) (P .entry) in
         let f = B .free last last-below (P .ends) in
-        let l : length (t .popped) * unit + unit ≤ g .n * unit = le-trans (le-of-eq (sym (suc-mul (length (t .popped)) unit))) (mul-le-mul-right unit few) in
-        let x = popped-dual S M B (heap-laws (g .n)) root below t W finite P (refl, D) q m in
+        let l : length (t .popped) * unit + unit ≤ g .pattern .n * unit = le-trans (le-of-eq (sym (suc-mul (length (t .popped)) unit)))
+        (mul-le-mul-right unit few) in
+        let x = popped-dual S M B (heap-laws (g .pattern .n)) root below t W finite P (refl, D) q m in
         let y = O .exact q (G .poppedTouched q m) in
         let z : position (t .csp) + dual-of u last ≡ W .offset (t .jsp) + cost-of g (t .isp) = finite-case (t .csp) finite (O .pathExact) in
         omega (arith, start .under, end .above, a .0, b .1, f .low)
@@ -129,13 +131,13 @@ module _ {Good : Float → Type 0} {C : ℕ} {g : CostGraph} {s : Pairs} {u : Li
     pub floored-after : Floored C g u → Floored C g u'
     floored-after L = record { low = λ i h. go i h (among i (t .popped)) (λ a. a) (λ n m. T-not (among i (t .popped)) n m) }
       where
-        go : (i : ℕ) → i < g .n → (b : Bool) → (T b → Among i (t .popped)) → (T (not b) → Among i (t .popped) → ⊥)
-            → origin + unit ≤ dual-of u' i + 2 * (g .n * unit)
+        go : (i : ℕ) → i < g .pattern .n → (b : Bool) → (T b → Among i (t .popped)) → (T (not b) → Among i (t .popped) → ⊥)
+            → origin + unit ≤ dual-of u' i + 2 * (g .pattern .n * unit)
         go i h true f k = popped-low i (f tt)
-        go i h false f k = rw (kept-at S M B (heap-laws (g .n)) root below t W finite P i (k tt)) (L .low i h)
+        go i h false f k = rw (kept-at S M B (heap-laws (g .pattern .n)) root below t W finite P i (k tt)) (L .low i h)
 
 -- ---- a column's turn
-module _ {Good : Float → Type 0} {C : ℕ} {g : CostGraph} {inner : ℕ} (S : Setting Good 0 C g) (r : ℕ) (x : Running) (below : r < g .n)
+module _ {Good : Float → Type 0} {C : ℕ} {g : CostGraph} {inner : ℕ} (S : Setting Good 0 C g) (r : ℕ) (x : Running) (below : r < g .pattern .n)
     (R : Runs Good 0 C g inner r x) (L : Floored C g (x .u)) where
   abbrev t : Tree
   t = treeFrom g r x
@@ -144,7 +146,7 @@ module _ {Good : Float → Type 0} {C : ℕ} {g : CostGraph} {inner : ℕ} (S : 
   settled root = go (lt (t .csp) rinf) refl
     where
       W : Searched Good 0 C g (x .pairs) (x .u) r (searchBegun (x .stats)) t
-      W = search-tree S (heap-laws (g .n)) x r (R .matched) (R .bounded) (R .clean) below root
+      W = search-tree S (heap-laws (g .pattern .n)) x r (R .matched) (R .bounded) (R .clean) below root
 
       go : (b : Bool) → lt (t .csp) rinf ≡ b → Floored C g ((settle g t x) .u)
       go true e =
@@ -163,8 +165,8 @@ module _ {Good : Float → Type 0} {C : ℕ} {g : CostGraph} {inner : ℕ} (S : 
 -- ---- the whole run
 module _ {Good : Float → Type 0} {C : ℕ} {g : CostGraph} (S : Setting Good 0 C g) where
   pub first-floored : Floored C g (firstDuals g)
-  first-floored = record { low = λ i h. let n = once-at-least (g .n) (C * unitsPerOne) (omega arith) in omega (arith, first-cost S i h .low) }
+  first-floored = record { low = λ i h. let n = once-at-least (g .pattern .n) (C * unitsPerOne) (omega arith) in omega (arith, first-cost S i h .low) }
 
-  pub run-floored : (r : ℕ) → r ≤ g .n → Floored C g (stateAt g r .u)
+  pub run-floored : (r : ℕ) → r ≤ g .pattern .n → Floored C g (stateAt g r .u)
   run-floored = run-duals S (initial g) (firstDuals g) (initial-matched S) (initial-bounded S) (λ z. initial-tight S) (initial-counts S .0)
       (initial-counts S .1) (Floored C g) (λ i x h R L. turn-floored S i x h R L) first-floored

@@ -5,12 +5,12 @@ use mathlib.Core.List.{List, [], _∷_, map}
 use Prim.Native.Nat.{ℕ}
 use lib.Ieee.{binary64, ofBits, add, sub, lt, le, eq, ne}
 use Rattle.limits.specs.Limits.{none}
-use Rattle.hungarian.specs.Graph.{CostGraph}
+use Rattle.hungarian.specs.Graph.{CostGraph, graphOf}
 use Rattle.hungarian.specs.Counts.{counts}
 use Rattle.hungarian.specs.Match.{Matching, hungarianMatch}
 
 abbrev graph : ℕ → List ℕ → List ℕ → List ℕ → CostGraph
-graph n colPtr rows costs = record { n = n; colPtr = colPtr; rowIdx = rows; cost = map (ofBits binary64) costs }
+graph n colPtr rows costs = graphOf n colPtr rows (map (ofBits binary64) costs)
 
 abbrev answer : List ℕ → List ℕ → List ℕ → ℕ → ℕ → ℕ → ℕ → ℕ → ℕ → ℕ → ℕ → Matching
 answer perm u v matched slots searches touched inner scans pops peak =

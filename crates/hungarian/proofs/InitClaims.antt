@@ -19,12 +19,13 @@ use Rattle.matching.specs.Pairing.{matchedCount, OfRow, Outside, Paired}
 use Rattle.matching.proofs.Updated.{updated-same, updated-other, getD-set}
 use Rattle.matching.proofs.Pairings.{empty-pairing, empty-count}
 use Rattle.matching.proofs.Flip.{Joins, dangling, pair as pair-free, take-free-count}
-use Rattle.hungarian.specs.Graph.{CostGraph, bipartite, rowOf, costOf, entries, InColumn}
+use Rattle.sparse.specs.Pattern.{bipartite, rowOf, entries, InColumn}
+use Rattle.hungarian.specs.Graph.{CostGraph, costOf}
 use Rattle.hungarian.specs.Init.{RowMinima, Pairs, dense, pair, claim, phase1, phase2}
 use Rattle.hungarian.specs.inner.Setting.{Setting}
 use Rattle.hungarian.specs.inner.Between.{at, dual, Matched}
 use Rattle.hungarian.proofs.Loops.{each-keeps}
-use Rattle.hungarian.proofs.Columns.{in-entries, column-is, in-range}
+use Rattle.sparse.proofs.Columns.{in-entries, column-is, in-range}
 use Rattle.slices.proofs.Bools.{neither}
 use Rattle.hungarian.proofs.InitRows.{rowCosts, Row, Lowest, phase1-minima, lowest-at}
 
@@ -42,24 +43,24 @@ same-paired {g} {none} {f} {iperm} {jperm} ok same p = record {
 }
 
 pub record Claimed (g : CostGraph) (m : RowMinima) (i : ℕ) (s : Pairs) : Type 0 where
-  pub rowCount : length (s .iperm) ≡ g .n
-  pub columnCount : length (s .jperm) ≡ g .n
+  pub rowCount : length (s .iperm) ≡ g .pattern .n
+  pub columnCount : length (s .jperm) ≡ g .pattern .n
   -- the columns that the rows below i have
   pub column : ℕ → ℕ
   pub reached : (r : ℕ) → r < i → column r ≡ at (s .iperm) r
   pub waiting : (r : ℕ) → i ≤ r → column r ≡ none
   pub candidate : (r : ℕ) → i ≤ r → at (s .iperm) r ≡ at (m .iperm) r
-  pub paired : Paired (bipartite g) none column (at (s .jperm))
-  pub counted : s .num ≡ matchedCount none (g .n) (at (s .jperm))
+  pub paired : Paired (bipartite (g .pattern)) none column (at (s .jperm))
+  pub counted : s .num ≡ matchedCount none (g .pattern .n) (at (s .jperm))
   -- a column that was claimed has the least entry of its row
-  pub least : (j : ℕ) → j < g .n → at (s .jperm) j ≢ none → at (s .jperm) j ≡ at (m .least) (rowOf g (at (s .jperm) j))
+  pub least : (j : ℕ) → j < g .pattern .n → at (s .jperm) j ≢ none → at (s .jperm) j ≡ at (m .least) (rowOf (g .pattern) (at (s .jperm) j))
 
 -- before any row claims
 abbrev pub unclaimed : CostGraph → Pairs
-unclaimed g = record { iperm = phase1 g .iperm; jperm = replicate (g .n) none; num = 0 }
+unclaimed g = record { iperm = phase1 g .iperm; jperm = replicate (g .pattern .n) none; num = 0 }
 
 -- row i gets no column
-skipped : {g : CostGraph} {m : RowMinima} {i : ℕ} {s : Pairs} (l : List ℕ) → length l ≡ g .n → at l i ≡ none
+skipped : {g : CostGraph} {m : RowMinima} {i : ℕ} {s : Pairs} (l : List ℕ) → length l ≡ g .pattern .n → at l i ≡ none
     → ((r : ℕ) → r ≢ i → at l r ≡ at (s .iperm) r) → Claimed g m i s → Claimed g m (suc i) (record { iperm = l; jperm = s .jperm; num = s .num })
 skipped {g} {m} {i} {s} l long bare other c = record {
   rowCount = long;
@@ -78,18 +79,19 @@ skipped {g} {m} {i} {s} l long bare other c = record {
     old r h (no d) = c .reached r (omega arith) ∙ sym (other r d)
 
 module _ {Good : Float → Type 0} {err C : ℕ} {g : CostGraph} (S : Setting Good err C g) where
-  ok : InRange (bipartite g)
-  ok = in-range g (S .columns)
+  ok : InRange (bipartite (g .pattern))
+  ok = in-range (g .pattern) (S .columns)
 
-  outside : Outside (bipartite g) none
+  outside : Outside (bipartite (g .pattern)) none
   outside = record { entries = omega (arith, S .fewEntries); indices = omega (arith, S .fewColumns) }
 
   -- entry k of column j joins it and its row
-  pub joins : {j k : ℕ} → InColumn g j k → Joins (bipartite g) (rowOf g k) j k
-  joins {j} {k} c = record { entry = in-entries g (S .columns) j k c; row = refl; col = column-is g (S .columns) j k c }
+  pub joins : {j k : ℕ} → InColumn (g .pattern) j k → Joins (bipartite (g .pattern)) (rowOf (g .pattern) k) j k
+  joins {j} {k} c = record { entry = in-entries (g .pattern) (S .columns) j k c; row = refl; col = column-is (g .pattern) (S .columns) j k c }
 
   -- row i takes the free column of its least entry
-  took : {m : RowMinima} {i : ℕ} {s : Pairs} {x : Float} {j : ℕ} → i < g .n → Lowest g (entries g) i x j (at (m .least) i) → at (s .jperm) j ≡ none
+  took : {m : RowMinima} {i : ℕ} {s : Pairs} {x : Float} {j : ℕ} → i < g .pattern .n → Lowest g (entries (g .pattern)) i x j (at (m .least) i)
+      → at (s .jperm) j ≡ none
       → Claimed g m i s
       → Claimed g m (suc i) (record { iperm = set (set (s .iperm) i none) i j; jperm = set (s .jperm) j (at (m .least) i); num = s .num + 1 })
   took {m} {i} {s} {x} {j} h low free c = record {
@@ -107,7 +109,7 @@ module _ {Good : Float → Type 0} {err C : ℕ} {g : CostGraph} (S : Setting Go
       k : ℕ
       k = at (m .least) i
 
-      joined : Joins (bipartite g) i j k
+      joined : Joins (bipartite (g .pattern)) i j k
       joined = rw (low .row) at (joins (low .column))
 
       bridge : at (set (s .jperm) j k) ≡ updated (at (s .jperm)) j k
@@ -121,8 +123,8 @@ module _ {Good : Float → Type 0} {err C : ℕ} {g : CostGraph} (S : Setting Go
           ∙ sym (getD-set-same (set (s .iperm) i none) i j 0 (omega (arith, h, c .rowCount, length-set (s .iperm) i none))))
       old r b (no d) = updated-other (c .column) i j r d ∙ c .reached r (omega arith) ∙ sym (other r d)
 
-      claimed : (a : ℕ) → a < g .n → at (set (s .jperm) j k) a ≢ none → Dec (a ≡ j) → at (set (s .jperm) j k) a ≡ at (m .least)
-          (rowOf g (at (set (s .jperm) j k) a))
+      claimed : (a : ℕ) → a < g .pattern .n → at (set (s .jperm) j k) a ≢ none → Dec (a ≡ j) → at (set (s .jperm) j k) a ≡ at (m .least)
+          (rowOf (g .pattern) (at (set (s .jperm) j k) a))
       claimed a b e (yes q) =
           let z : at (set (s .jperm) j k) a ≡ k =
           ap (at (set (s .jperm) j k)) q ∙ getD-set-same (s .jperm) j k 0 (omega (arith, low .column .column, c .columnCount)) in
@@ -131,7 +133,7 @@ module _ {Good : Float → Type 0} {err C : ℕ} {g : CostGraph} (S : Setting Go
           let z : at (set (s .jperm) j k) a ≡ at (s .jperm) a = getD-set-other (s .jperm) j a k 0 d in
           rw z (c .least a b (rw z at e))
 
-  pub claim-keeps : (i : ℕ) (s : Pairs) → i < g .n → Claimed g (phase1 g) i s → Claimed g (phase1 g) (suc i) (claim g (phase1 g .least) i s)
+  pub claim-keeps : (i : ℕ) (s : Pairs) → i < g .pattern .n → Claimed g (phase1 g) i s → Claimed g (phase1 g) (suc i) (claim g (phase1 g .least) i s)
   unfolding claim pair
   claim-keeps i s h c = bare (eqb j none) refl
     where
@@ -144,7 +146,7 @@ module _ {Good : Float → Type 0} {err C : ℕ} {g : CostGraph} (S : Setting Go
       freed : Pairs
       freed = record { iperm = set (s .iperm) i none; jperm = s .jperm; num = s .num }
 
-      takes : {x : Float} {a : ℕ} → Row g (entries g) i x a (at (m .least) i) → j ≡ a → j ≢ none → at (s .jperm) j ≡ none
+      takes : {x : Float} {a : ℕ} → Row g (entries (g .pattern)) i x a (at (m .least) i) → j ≡ a → j ≢ none → at (s .jperm) j ≡ none
           → Claimed g m (suc i) (pair i j (at (m .least) i) freed)
       takes (inl r) e d f = absurd (d (e ∙ r .column))
       takes (inr r) e d f = took h (rw (← e) at r) f c
@@ -163,22 +165,22 @@ module _ {Good : Float → Type 0} {err C : ℕ} {g : CostGraph} (S : Setting Go
   pub phase2-start : Claimed g (phase1 g) 0 (unclaimed g)
   phase2-start = record {
     rowCount = phase1-minima S .columnCount;
-    columnCount = length-replicate (g .n) none;
+    columnCount = length-replicate (g .pattern .n) none;
     column = λ r. none;
     reached = λ r h. omega arith;
     waiting = λ r h. refl;
     candidate = λ r h. refl;
     paired = empty-pairing outside (λ i h. refl) free;
-    counted = sym (empty-count none (g .n) (at (replicate (g .n) none)) free);
+    counted = sym (empty-count none (g .pattern .n) (at (replicate (g .pattern .n) none)) free);
     least = λ j h e. absurd (e (free j h));
   }
     where
-      free : (j : ℕ) → j < g .n → at (replicate (g .n) none) j ≡ none
-      free j h = getD-replicate (g .n) j none 0 h
+      free : (j : ℕ) → j < g .pattern .n → at (replicate (g .pattern .n) none) j ≡ none
+      free j h = getD-replicate (g .pattern .n) j none 0 h
 
-  pub phase2-claimed : Claimed g (phase1 g) (g .n) (phase2 g (phase1 g))
+  pub phase2-claimed : Claimed g (phase1 g) (g .pattern .n) (phase2 g (phase1 g))
   unfolding phase2
-  phase2-claimed = each-keeps (Claimed g (phase1 g)) (claim g (phase1 g .least)) 0 (g .n) (unclaimed g) (omega arith)
+  phase2-claimed = each-keeps (Claimed g (phase1 g)) (claim g (phase1 g .least)) 0 (g .pattern .n) (unclaimed g) (omega arith)
       (λ i s b h c. claim-keeps i s h c) phase2-start
 
   pub phase2-matched : Matched g (phase2 g (phase1 g))
@@ -187,7 +189,8 @@ module _ {Good : Float → Type 0} {err C : ℕ} {g : CostGraph} (S : Setting Go
       record { rowCount = c .rowCount; columnCount = c .columnCount; paired = same-paired ok (c .reached) (c .paired); counted = c .counted }
 
   -- a column that was claimed has an entry whose cost is its row's dual
-  pub phase2-cost : (j : ℕ) → j < g .n → at (phase2 g (phase1 g) .jperm) j ≢ none → dual (rowCosts g) (rowOf g (at (phase2 g (phase1 g) .jperm) j))
+  pub phase2-cost : (j : ℕ) → j < g .pattern .n → at (phase2 g (phase1 g) .jperm) j ≢ none
+      → dual (rowCosts g) (rowOf (g .pattern) (at (phase2 g (phase1 g) .jperm) j))
       ≡ costOf g (at (phase2 g (phase1 g) .jperm) j)
   phase2-cost j h e =
       let c = phase2-claimed in

@@ -2,7 +2,6 @@
 pub mod Loops
 pub mod Bounds
 pub mod Distances
-pub mod Columns
 pub mod Rows
 pub mod Tree
 pub mod TreeOrder

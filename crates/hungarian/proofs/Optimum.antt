@@ -25,14 +25,15 @@ use Rattle.matching.proofs.Sums.{sum-add, sum-same, sum-times}
 use Rattle.matching.proofs.Matchings.{largest, complete-exactly, least-total, same-largest}
 use Rattle.matching.proofs.Pairings.{held-largest, same-by-row, by-row-size}
 use Rattle.hungarian.specs.declared.HungarianStats.{HungarianStats}
-use Rattle.hungarian.specs.Graph.{CostGraph, bipartite, rowOf, colOf, costOf, entries}
+use Rattle.sparse.specs.Pattern.{bipartite, rowOf, columnOf, entries}
+use Rattle.hungarian.specs.Graph.{CostGraph, costOf}
 use Rattle.hungarian.specs.Init.{Pairs}
 use Rattle.hungarian.specs.Match.{finish}
 use Rattle.hungarian.specs.Optimal.{Optimal, LargestMatch, amount, matchedEntries, DualsWithin}
 use Rattle.hungarian.specs.inner.Setting.{Setting}
 use Rattle.hungarian.specs.inner.Between.{at, dual, Matched, Bounded, Tight, Floored}
 use Rattle.hungarian.specs.inner.Runs.{Hopeless}
-use Rattle.hungarian.proofs.Columns.{in-column, in-range, simple, row-below}
+use Rattle.sparse.proofs.Columns.{in-column, in-range, simple, row-below}
 use Rattle.hungarian.proofs.Finish.{perm, rows, columns, rows-of, perm-places, perm-entry, perm-range, perm-count, count-range, rows-good}
 use Rattle.hungarian.proofs.Finish.{columns-good, rows-within, columns-within, keys-feasible, keys-tight}
 
@@ -97,15 +98,16 @@ total-keys b c a R h =
 
 -- ---- any accepted costs: the closed set needs no exact sums
 module _ {Good : Float → Type 0} {err C : ℕ} {g : CostGraph} {s : Pairs} {u : List Float} (c : HungarianStats) (S : Setting Good err C g)
-    (M : Matched g s) (B : Bounded Good C g s u) (h : Hopeless g s (g .n)) where
-  held-most : Largest (bipartite g) (pairedEntries (bipartite g) (at (perm S M B)))
-  held-most = same-largest (bipartite g) (same-by-row (in-range g (S .columns)) (M .paired) (rows-of S M B) (simple g (S .columns)))
-      (held-largest (in-range g (S .columns)) (M .paired) (h .closed) (λ j l f. h .holds j l f))
+    (M : Matched g s) (B : Bounded Good C g s u) (h : Hopeless g s (g .pattern .n)) where
+  held-most : Largest (bipartite (g .pattern)) (pairedEntries (bipartite (g .pattern)) (at (perm S M B)))
+  held-most = same-largest (bipartite (g .pattern)) (same-by-row (in-range (g .pattern) (S .columns)) (M .paired) (rows-of S M B)
+      (simple (g .pattern) (S .columns)))
+      (held-largest (in-range (g .pattern) (S .columns)) (M .paired) (h .closed) (λ j l f. h .holds j l f))
 
-  held-count : size (bipartite g) (pairedEntries (bipartite g) (at (perm S M B))) ≡ s .num
-  held-count = by-row-size (in-range g (S .columns)) (M .paired) (rows-of S M B) (simple g (S .columns)) ∙ sym (perm-count S M B)
+  held-count : size (bipartite (g .pattern)) (pairedEntries (bipartite (g .pattern)) (at (perm S M B))) ≡ s .num
+  held-count = by-row-size (in-range (g .pattern) (S .columns)) (M .paired) (rows-of S M B) (simple (g .pattern) (S .columns)) ∙ sym (perm-count S M B)
 
-  pub ranged : LargestMatch g (finish g s u c)
+  pub ranged : LargestMatch (g .pattern) (finish g s u c)
   unfolding finish matchedEntries
   ranged = record {
     places = perm-places S M B;
@@ -115,31 +117,33 @@ module _ {Good : Float → Type 0} {err C : ℕ} {g : CostGraph} {s : Pairs} {u 
     count = count-range M;
     matching = held-most .matching;
     pairCount = held-count;
-    largest = λ R w. subst (λ (x : ℕ). size (bipartite g) R ≤ x) held-count (held-most .most R w);
-    complete = subst (λ (x : ℕ). (x ≡ g .n) ↔ ((R : ℕ → Bool) × Complete (bipartite g) R)) held-count (complete-exactly (in-range g (S .columns)) held-most);
+    largest = λ R w. subst (λ (x : ℕ). size (bipartite (g .pattern)) R ≤ x) held-count (held-most .most R w);
+    complete = subst (λ (x : ℕ). (x ≡ g .pattern .n) ↔ ((R : ℕ → Bool) × Complete (bipartite (g .pattern)) R)) held-count
+        (complete-exactly (in-range (g .pattern) (S .columns)) held-most);
   }
 
 -- ---- whole costs
 module _ {C : ℕ} {g : CostGraph} {s : Pairs} {u : List Float} (c : HungarianStats) (S : Setting IsWhole 0 C g) (M : Matched g s)
-    (B : Bounded IsWhole C g s u) (D : Tight g s u) (h : Hopeless g s (g .n)) where
-  cost-key : (k : ℕ) → k < entries g → position (costOf g k) ≡ origin + amount g k * unitsPerOne
+    (B : Bounded IsWhole C g s u) (D : Tight g s u) (h : Hopeless g s (g .pattern .n)) where
+  cost-key : (k : ℕ) → k < entries (g .pattern) → position (costOf g k) ≡ origin + amount g k * unitsPerOne
   unfolding amount
   cost-key k l = natural (wholeOf (costOf g k)) (position (costOf g k)) (S .low k l) (number-key (costOf g k) (S .good k l))
 
-  least : s .num ≡ g .n → (R : ℕ → Bool) → Complete (bipartite g) R → total (bipartite g) (amount g) (pairedEntries (bipartite g) (at (perm S M B)))
-      ≤ total (bipartite g) (amount g) R
+  least : s .num ≡ g .pattern .n → (R : ℕ → Bool) → Complete (bipartite (g .pattern)) R → total (bipartite (g .pattern)) (amount g)
+      (pairedEntries (bipartite (g .pattern)) (at (perm S M B)))
+      ≤ total (bipartite (g .pattern)) (amount g) R
   least full R w =
-      let held = pairedEntries (bipartite g) (at (perm S M B)) in
-      let own : Complete (bipartite g) held = record { matching = held-most c S M B h .matching; full = held-count c S M B h ∙ full } in
-      let l : LeastTotal (bipartite g) (λ k. position (costOf g k)) held =
-      least-total {a = λ i. position (dual (rows S M B) i)} {b = λ j. position (dual (columns S M B) j)} {m = origin} (in-range g (S .columns)) own
+      let held = pairedEntries (bipartite (g .pattern)) (at (perm S M B)) in
+      let own : Complete (bipartite (g .pattern)) held = record { matching = held-most c S M B h .matching; full = held-count c S M B h ∙ full } in
+      let l : LeastTotal (bipartite (g .pattern)) (λ k. position (costOf g k)) held =
+      least-total {a = λ i. position (dual (rows S M B) i)} {b = λ j. position (dual (columns S M B) j)} {m = origin} (in-range (g .pattern) (S .columns)) own
       (record { below = keys-feasible S M B refl D; tight = keys-tight S M B refl D }) in
       le-of-mul-le-mul-right
       (omega (
         arith,
         l .least R w,
-        total-keys (bipartite g) (λ k. position (costOf g k)) (amount g) held cost-key,
-        total-keys (bipartite g)
+        total-keys (bipartite (g .pattern)) (λ k. position (costOf g k)) (amount g) held cost-key,
+        total-keys (bipartite (g .pattern))
             (λ k. position (costOf g k)) (amount g) R cost-key,
         ap (λ (x : ℕ). x * origin) (own .full),
         ap (λ (x : ℕ). x * origin) (w .full),
@@ -153,17 +157,21 @@ module _ {C : ℕ} {g : CostGraph} {s : Pairs} {u : List Float} (c : HungarianSt
     least = least;
     rowsWhole = rows-good S M B;
     columnsWhole = columns-good S M B;
-    feasible = λ k l. let w = in-column g (S .columns) k l in numbers-below (dual (rows S M B) (rowOf g k)) (dual (columns S M B) (colOf g k))
-        (costOf g k) (rows-good S M B (rowOf g k) (row-below g (S .columns) (colOf g k) k w)) (columns-good S M B (colOf g k) (w .column))
+    feasible = λ k l. let w = in-column (g .pattern) (S .columns) k l in numbers-below (dual (rows S M B) (rowOf (g .pattern) k))
+        (dual (columns S M B) (columnOf (g .pattern) k))
+        (costOf g k) (rows-good S M B (rowOf (g .pattern) k) (row-below (g .pattern) (S .columns) (columnOf (g .pattern) k) k w))
+        (columns-good S M B (columnOf (g .pattern) k) (w .column))
         (S .good k l) (keys-feasible S M B refl D k l);
-    tight = λ k l z. let w = in-column g (S .columns) k l in numbers-equal (dual (rows S M B) (rowOf g k)) (dual (columns S M B) (colOf g k))
-        (costOf g k) (rows-good S M B (rowOf g k) (row-below g (S .columns) (colOf g k) k w)) (columns-good S M B (colOf g k) (w .column))
+    tight = λ k l z. let w = in-column (g .pattern) (S .columns) k l in numbers-equal (dual (rows S M B) (rowOf (g .pattern) k))
+        (dual (columns S M B) (columnOf (g .pattern) k))
+        (costOf g k) (rows-good S M B (rowOf (g .pattern) k) (row-below (g .pattern) (S .columns) (columnOf (g .pattern) k) k w))
+        (columns-good S M B (columnOf (g .pattern) k) (w .column))
         (S .good k l) (keys-tight S M B refl D k l z);
   }
 
-  pub within : Floored C g u → DualsWithin (2 * (g .n * C)) g (finish g s u c)
+  pub within : Floored C g u → DualsWithin (2 * (g .pattern .n * C)) g (finish g s u c)
   unfolding finish
   within L = record {
-    rows = λ i l. number-within (2 * (g .n * C)) (dual (rows S M B) i) (rows-good S M B i l) (rows-within S M B refl D L i l);
-    columns = λ j l. number-within (2 * (g .n * C)) (dual (columns S M B) j) (columns-good S M B j l) (columns-within S M B refl D L j l);
+    rows = λ i l. number-within (2 * (g .pattern .n * C)) (dual (rows S M B) i) (rows-good S M B i l) (rows-within S M B refl D L i l);
+    columns = λ j l. number-within (2 * (g .pattern .n * C)) (dual (columns S M B) j) (columns-good S M B j l) (columns-within S M B refl D L j l);
   }

@@ -35,12 +35,12 @@ use Rattle.hungarian.proofs.TreeDuals.{bounded-after, tight-after}
 use Rattle.hungarian.proofs.TreeEnd.{wasScanned, root-scanned, scanned-closed, restore-length, d-clean, heap-clean, scans-most}
 
 module _ {Good : Float → Type 0} {err C : ℕ} {g : CostGraph} {inner : ℕ} (S : Setting Good err C g) (r : ℕ) (x : Running)
-    (R : Runs Good err C g inner r x) (below : r < g .n) (root : at (x .pairs .jperm) r ≡ none) where
+    (R : Runs Good err C g inner r x) (below : r < g .pattern .n) (root : at (x .pairs .jperm) r ≡ none) where
   abbrev t : Tree
   t = treeFrom g r x
 
   W : Searched Good err C g (x .pairs) (x .u) r (searchBegun (x .stats)) t
-  W = search-tree S (heap-laws (g .n)) x r (R .matched) (R .bounded) (R .clean) below root
+  W = search-tree S (heap-laws (g .pattern .n)) x r (R .matched) (R .bounded) (R .clean) below root
 
   clean-after : Clean g (settle g t x)
   unfolding settle
@@ -58,12 +58,13 @@ module _ {Good : Float → Type 0} {err C : ℕ} {g : CostGraph} {inner : ℕ} (
       }
 
   -- each row is touched at most once
-  touched-most : length (t .touched) ≤ g .n
-  touched-most = let G = W .scanning .grown in at-most-all (g .n) (t .touched) (G .touchedOnce) (λ i m. G .reached i m .row)
+  touched-most : length (t .touched) ≤ g .pattern .n
+  touched-most = let G = W .scanning .grown in at-most-all (g .pattern .n) (t .touched) (G .touchedOnce) (λ i m. G .reached i m .row)
 
   -- a search pops only rows that it touched
   popped-most : length (t .popped) ≤ length (t .touched)
-  popped-most = let G = W .scanning .grown in at-most-those (g .n) (t .popped) (t .touched) (G .poppedOnce) (G .poppedTouched) (λ i m. G .reached i m .row)
+  popped-most = let G = W .scanning .grown in at-most-those (g .pattern .n) (t .popped) (t .touched) (G .poppedOnce) (G .poppedTouched)
+      (λ i m. G .reached i m .row)
 
   counted-after : Counted g inner ((settle g t x) .stats)
   unfolding settle searchEnded columnScanned searchBegun rowsPopped heapSeen
@@ -82,14 +83,14 @@ module _ {Good : Float → Type 0} {err C : ℕ} {g : CostGraph} {inner : ℕ} (
         touchesMost = rw suc-mul (omega (arith, K .touchesMost, touched-most));
         scansMost = rw suc-mul (omega (arith, K .scansMost, scans-most S (R .matched) t W below root));
         popsMost = omega (arith, K .popsMost, popped-most);
-        peakMost = larger-most (K .peak) (t .peak) (g .n) (K .peakMost) (W .scanning .grown .peakMost);
+        peakMost = larger-most (K .peak) (t .peak) (g .pattern .n) (K .peakMost) (W .scanning .grown .peakMost);
         peakNone = λ e. absurd (let z : ⊥ = omega arith in z);
       }
     where
-      shape : (a n b : ℕ) → counts (g .n + a + n) (b + 1) (a + n) inner (R .counted .scans + scannedBy g (x .pairs) r (t .popped))
-          (R .counted .pops + length (t .popped)) (larger (R .counted .peak) (t .peak)) ≡ counts (g .n + (a + n)) (suc b) (a + n) inner
+      shape : (a n b : ℕ) → counts (g .pattern .n + a + n) (b + 1) (a + n) inner (R .counted .scans + scannedBy g (x .pairs) r (t .popped))
+          (R .counted .pops + length (t .popped)) (larger (R .counted .peak) (t .peak)) ≡ counts (g .pattern .n + (a + n)) (suc b) (a + n) inner
           (R .counted .scans + scannedBy g (x .pairs) r (t .popped)) (R .counted .pops + length (t .popped)) (larger (R .counted .peak) (t .peak))
-      shape a n b = λ i. counts ((let e : g .n + a + n ≡ g .n + (a + n) = omega arith in e) i) ((let e : b + 1 ≡ suc b = omega arith in e) i)
+      shape a n b = λ i. counts ((let e : g .pattern .n + a + n ≡ g .pattern .n + (a + n) = omega arith in e) i) ((let e : b + 1 ≡ suc b = omega arith in e) i)
           (a + n) inner (R .counted .scans + scannedBy g (x .pairs) r (t .popped)) (R .counted .pops + length (t .popped)) (larger (R .counted .peak) (t .peak))
 
   -- what is left to show of a search, once its pairs p and duals w are known
@@ -130,8 +131,8 @@ module _ {Good : Float → Type 0} {err C : ℕ} {g : CostGraph} {inner : ℕ} (
       let A = flip-augments S (R .matched) root below t G P in
       turned (flip g t (t .isp) (t .jsp) (x .pairs)) (raise (t .d) (t .csp) (t .popped) (x .u)) (unfold settle pairsAfter in rw e refl)
       (unfold settle dualsAfter in rw e refl)
-      (flip-matched S (R .matched) root below t G P) (bounded-after S (R .matched) (R .bounded) (heap-laws (g .n)) root below t W e P)
-      (λ z. tight-after S (R .matched) (R .bounded) (heap-laws (g .n)) root below t W e P (z, R .tight z))
+      (flip-matched S (R .matched) root below t G P) (bounded-after S (R .matched) (R .bounded) (heap-laws (g .pattern .n)) root below t W e P)
+      (λ z. tight-after S (R .matched) (R .bounded) (heap-laws (g .pattern .n)) root below t W e P (z, R .tight z))
       (record {
         set = R .hopeless .set;
         closed = A .closed (R .hopeless .set) (R .hopeless .closed);
@@ -148,7 +149,7 @@ module _ {Good : Float → Type 0} {err C : ℕ} {g : CostGraph} {inner : ℕ} (
       go false e = in-vain e
 
 -- a column's turn: a search if it is free
-pub augment-keeps : {Good : Float → Type 0} {err C : ℕ} {g : CostGraph} {inner : ℕ} → Setting Good err C g → (r : ℕ) (x : Running) → r < g .n
+pub augment-keeps : {Good : Float → Type 0} {err C : ℕ} {g : CostGraph} {inner : ℕ} → Setting Good err C g → (r : ℕ) (x : Running) → r < g .pattern .n
     → Runs Good err C g inner r x → Runs Good err C g inner (suc r) (augment g r x)
 unfolding augment
 augment-keeps {Good} {err} {C} {g} {inner} S r x below R =
@@ -183,11 +184,11 @@ module _ {Good : Float → Type 0} {err C : ℕ} {g : CostGraph} (S : Setting Go
   first = record {
     pairs = s .pairs;
     u = u;
-    d = replicate (g .n) rinf;
-    heap = record { heap = replicate (g .n + 1) 0; pos = replicate (g .n) 0; len = 0 };
-    pr = replicate (g .n) none;
-    out = replicate (g .n) none;
-    stats = heapMade (g .n) (s .stats);
+    d = replicate (g .pattern .n) rinf;
+    heap = record { heap = replicate (g .pattern .n + 1) 0; pos = replicate (g .pattern .n) 0; len = 0 };
+    pr = replicate (g .pattern .n) none;
+    out = replicate (g .pattern .n) none;
+    stats = heapMade (g .pattern .n) (s .stats);
   }
 
   first-runs : Runs Good err C g inner 0 first
@@ -197,13 +198,13 @@ module _ {Good : Float → Type 0} {err C : ℕ} {g : CostGraph} (S : Setting Go
     bounded = B;
     tight = D;
     clean = record {
-      dCount = length-replicate (g .n) rinf;
-      far = λ i h. getD-replicate (g .n) i rinf nan h;
-      heap = new (g .n);
-      none-within = λ i w. let z = zeros (g .n) i in omega arith;
+      dCount = length-replicate (g .pattern .n) rinf;
+      far = λ i h. getD-replicate (g .pattern .n) i rinf nan h;
+      heap = new (g .pattern .n);
+      none-within = λ i w. let z = zeros (g .pattern .n) i in omega arith;
       empty = refl;
-      prCount = length-replicate (g .n) none;
-      outCount = length-replicate (g .n) none;
+      prCount = length-replicate (g .pattern .n) none;
+      outCount = length-replicate (g .pattern .n) none;
     };
     hopeless = record {
       set = λ j. false;
@@ -217,7 +218,7 @@ module _ {Good : Float → Type 0} {err C : ℕ} {g : CostGraph} (S : Setting Go
       scans = 0;
       pops = 0;
       peak = 0;
-      form = ap (heapMade (g .n)) c ∙ ap (λ (z : ℕ). counts z 0 0 inner 0 0 0) (let e : 0 + g .n ≡ g .n + 0 = omega arith in e);
+      form = ap (heapMade (g .pattern .n)) c ∙ ap (λ (z : ℕ). counts z 0 0 inner 0 0 0) (let e : 0 + g .pattern .n ≡ g .pattern .n + 0 = omega arith in e);
       touchesMost = omega arith;
       scansMost = omega arith;
       popsMost = zero-le;
@@ -232,18 +233,18 @@ module _ {Good : Float → Type 0} {err C : ℕ} {g : CostGraph} (S : Setting Go
       zeros (suc m) zero = refl
       zeros (suc m) (suc i) = zeros m i
 
-  pub run-keeps : (r : ℕ) → r ≤ g .n → Runs Good err C g inner r (runTo g u s r)
+  pub run-keeps : (r : ℕ) → r ≤ g .pattern .n → Runs Good err C g inner r (runTo g u s r)
   unfolding runTo
   run-keeps r h = each-keeps (Runs Good err C g inner) (augment g) 0 r first (omega arith) (λ i x lo hi R. augment-keeps S i x (omega arith) R) first-runs
 
   -- the search of column r, if it is free by then
-  pub search-of : (r : ℕ) → r < g .n → at ((runTo g u s r) .pairs .jperm) r ≡ none → Searched Good err C g ((runTo g u s r) .pairs)
+  pub search-of : (r : ℕ) → r < g .pattern .n → at ((runTo g u s r) .pairs .jperm) r ≡ none → Searched Good err C g ((runTo g u s r) .pairs)
       ((runTo g u s r) .u) r (searchBegun ((runTo g u s r) .stats)) (treeFrom g r (runTo g u s r))
   search-of r h f = W S r (runTo g u s r) (run-keeps r (omega arith)) h f
 
   -- what every turn keeps of the duals
-  pub run-duals : (P : List Float → Type 0) → ((i : ℕ) (x : Running) → i < g .n → Runs Good err C g inner i x → P (x .u) → P ((augment g i x) .u))
-      → P u → (r : ℕ) → r ≤ g .n → P ((runTo g u s r) .u)
+  pub run-duals : (P : List Float → Type 0) → ((i : ℕ) (x : Running) → i < g .pattern .n → Runs Good err C g inner i x → P (x .u) → P ((augment g i x) .u))
+      → P u → (r : ℕ) → r ≤ g .pattern .n → P ((runTo g u s r) .u)
   unfolding runTo
   run-duals P step p r h = each-keeps (λ i x. Runs Good err C g inner i x × P (x .u)) (augment g) 0 r first (omega arith)
       (λ i x lo hi w. (augment-keeps S i x (omega arith) (w .0), step i x (omega arith) (w .0) (w .1))) (first-runs, p) .1

@@ -13,7 +13,8 @@ use Rattle.float64.specs.Number.{Number, unitsPerOne, IsWhole}
 use Rattle.float64.specs.Constants.{rinf}
 use Rattle.matching.proofs.Pairings.{all-matched}
 use Rattle.hungarian.specs.declared.HungarianStats.{HungarianStats}
-use Rattle.hungarian.specs.Graph.{CostGraph, entries}
+use Rattle.sparse.specs.Pattern.{entries}
+use Rattle.hungarian.specs.Graph.{CostGraph}
 use Rattle.hungarian.specs.Accepted.{Accepted, Doubles}
 use Rattle.hungarian.specs.Counts.{counts, searchBegun}
 use Rattle.hungarian.specs.Search.{path, noPath, found, Leads}
@@ -38,16 +39,16 @@ use Rattle.hungarian.proofs.ExactSums.{search-exact}
 use Rattle.hungarian.proofs.Accepts.{near-setting, whole-setting, below-setting}
 
 module _ {Good : Float → Type 0} {err C : ℕ} {g : CostGraph} (S : Setting Good err C g) (D : err ≡ 0 → Tight g (initial g .pairs) (firstDuals g)) where
-  pub turns : (r : ℕ) → r ≤ g .n → Runs Good err C g (initial-counts S .0) r (stateAt g r)
+  pub turns : (r : ℕ) → r ≤ g .pattern .n → Runs Good err C g (initial-counts S .0) r (stateAt g r)
   turns = run-keeps S (initial g) (firstDuals g) (initial-matched S) (initial-bounded S) D (initial-counts S .0) (initial-counts S .1)
 
   -- every search: its tree, with good and bounded distances
-  pub searches : (r : ℕ) → r < g .n → at (stateAt g r .pairs .jperm) r ≡ none → Searched Good err C g (stateAt g r .pairs) (stateAt g r .u) r
+  pub searches : (r : ℕ) → r < g .pattern .n → at (stateAt g r .pairs .jperm) r ≡ none → Searched Good err C g (stateAt g r .pairs) (stateAt g r .u) r
       (searchBegun (stateAt g r .stats)) (treeFrom g r (stateAt g r))
   searches = search-of S (initial g) (firstDuals g) (initial-matched S) (initial-bounded S) D (initial-counts S .0) (initial-counts S .1)
 
   -- no path is reported exactly when no alternating path leads from that column to a free row
-  decides : (r : ℕ) → r < g .n → at (stateAt g r .pairs .jperm) r ≡ none
+  decides : (r : ℕ) → r < g .pattern .n → at (stateAt g r .pairs .jperm) r ≡ none
       → (found (treeFrom g r (stateAt g r)) ≡ noPath) ↔ (Leads g (stateAt g r .pairs .iperm) r → ⊥)
   decides r h f = (
     λ e. no-way S (turns r (omega arith) .matched) (treeFrom g r (stateAt g r)) W
@@ -77,18 +78,18 @@ pub exact-start : {Good : Float → Type 0} {err C : ℕ} {g : CostGraph} → Se
 exact-start {Good} {err} {C} {g} S e = initial-tight (subst (λ (x : ℕ). Setting Good x C g) e S)
 
 -- no path is reported exactly when no alternating path leads from that column to a free row
-pub search-decides : (g : CostGraph) → Accepted g → Doubles g → (r : ℕ) → r < g .n → at (stateAt g r .pairs .jperm) r ≡ none
+pub search-decides : (g : CostGraph) → Accepted g → Doubles g → (r : ℕ) → r < g .pattern .n → at (stateAt g r .pairs .jperm) r ≡ none
     → (found (treeFrom g r (stateAt g r)) ≡ noPath) ↔ (Leads g (stateAt g r .pairs .iperm) r → ⊥)
 search-decides g a f = let S = near-setting g a f in decides S (exact-start S)
 
 pub match-work : (g : CostGraph) → Accepted g → Doubles g → Work g (hungarianMatch g .stats)
 unfolding hungarianMatch finish searched
-match-work g a f = go (eqb (initial g .pairs .num) (g .n))
+match-work g a f = go (eqb (initial g .pairs .num) (g .pattern .n))
   where
-    S : Setting Number unitsPerOne (costLimit (g .n)) g
+    S : Setting Number unitsPerOne (costLimit (g .pattern .n)) g
     S = near-setting g a f
 
-    early : (x : ℕ) → x ≤ entries g → Work g (counts 0 0 0 x 0 0 0)
+    early : (x : ℕ) → x ≤ entries (g .pattern) → Work g (counts 0 0 0 x 0 0 0)
     early x h = record {
       inner = h;
       searches = zero-le;
@@ -102,7 +103,7 @@ match-work g a f = go (eqb (initial g .pairs .num) (g .n))
       idle = λ e. (refl, refl);
     }
 
-    late : (c : HungarianStats) (x : ℕ) → x ≤ entries g → (K : Counted g x c) → K .searches ≤ g .n → Work g c
+    late : (c : HungarianStats) (x : ℕ) → x ≤ entries (g .pattern) → (K : Counted g x c) → K .searches ≤ g .pattern .n → Work g c
     late c x h K l = rw (K .form)
         (record {
           inner = h;
@@ -118,22 +119,24 @@ match-work g a f = go (eqb (initial g .pairs .num) (g .n))
         })
       where
         none-popped : (K : Counted g x c) → K .searches ≡ 0 → K .pops ≡ 0
-        none-popped K e = let t : K .touches ≤ 0 * g .n = subst (λ (z : ℕ). K .touches ≤ z * g .n) e (K .touchesMost) in omega (arith, K .popsMost)
+        none-popped K e = let t : K .touches ≤ 0 * g .pattern .n = subst (λ (z : ℕ). K .touches ≤ z * g .pattern .n) e (K .touchesMost) in
+            omega (arith, K .popsMost)
 
     go : (b : Bool) → Work g
         ((cond b (finish g (initial g .pairs) (firstDuals g) (initial g .stats))
         (finish g (searched g (firstDuals g) (initial g) .pairs) (searched g (firstDuals g) (initial g) .u)
         (searched g (firstDuals g) (initial g) .stats))) .stats)
     go true = let c = initial-counts S in rw (c .1) (early (c .0) (c .2))
-    go false = let R = turns S (exact-start S) (g .n) (le-refl (g .n)) in
-        late (stateAt g (g .n) .stats) (initial-counts S .0) (initial-counts S .2) (R .counted) (R .searchesMost)
+    go false = let R = turns S (exact-start S) (g .pattern .n) (le-refl (g .pattern .n)) in
+        late (stateAt g (g .pattern .n) .stats) (initial-counts S .0) (initial-counts S .2) (R .counted) (R .searchesMost)
 
 -- where the start matches every column, none is left to search
-nothing-free : {Good : Float → Type 0} {err C : ℕ} {g : CostGraph} → Setting Good err C g → initial g .pairs .num ≡ g .n → Hopeless g (initial g .pairs) (g .n)
+nothing-free : {Good : Float → Type 0} {err C : ℕ} {g : CostGraph} → Setting Good err C g → initial g .pairs .num ≡ g .pattern .n
+    → Hopeless g (initial g .pairs) (g .pattern .n)
 nothing-free {g = g} S e = record {
   set = λ j. false;
   closed = record { matched = λ k h z. absurd z; inside = λ k h z. absurd z };
-  holds = λ j h f. absurd (all-matched none (g .n) (at (initial g .pairs .jperm)) (sym (initial-matched S .counted) ∙ e) j h f);
+  holds = λ j h f. absurd (all-matched none (g .pattern .n) (at (initial g .pairs .jperm)) (sym (initial-matched S .counted) ∙ e) j h f);
 }
 
 -- the start's pairs are the last ones, or those after the searches are
@@ -142,33 +145,34 @@ ends g b = cond b (finish g (initial g .pairs) (firstDuals g) (initial g .stats)
     (finish g (searched g (firstDuals g) (initial g) .pairs) (searched g (firstDuals g) (initial g) .u) (searched g (firstDuals g) (initial g) .stats))
 
 -- perm's pairs are a largest matching, whatever the costs
-pub match-largest : (g : CostGraph) → Accepted g → Doubles g → LargestMatch g (hungarianMatch g)
+pub match-largest : (g : CostGraph) → Accepted g → Doubles g → LargestMatch (g .pattern) (hungarianMatch g)
 unfolding hungarianMatch searched ends
-match-largest g a f = go (eqb (initial g .pairs .num) (g .n)) (eqb→eq (initial g .pairs .num) (g .n))
+match-largest g a f = go (eqb (initial g .pairs .num) (g .pattern .n)) (eqb→eq (initial g .pairs .num) (g .pattern .n))
   where
-    S : Setting Number unitsPerOne (costLimit (g .n)) g
+    S : Setting Number unitsPerOne (costLimit (g .pattern .n)) g
     S = near-setting g a f
 
-    go : (b : Bool) → (T b → initial g .pairs .num ≡ g .n) → LargestMatch g (ends g b)
+    go : (b : Bool) → (T b → initial g .pairs .num ≡ g .pattern .n) → LargestMatch (g .pattern) (ends g b)
     go true e = ranged (initial g .stats) S (initial-matched S) (initial-bounded S) (nothing-free S (e tt))
-    go false e = let R = turns S (exact-start S) (g .n) (le-refl (g .n)) in ranged (stateAt g (g .n) .stats) S (R .matched) (R .bounded) (R .hopeless)
+    go false e = let R = turns S (exact-start S) (g .pattern .n) (le-refl (g .pattern .n)) in
+        ranged (stateAt g (g .pattern .n) .stats) S (R .matched) (R .bounded) (R .hopeless)
 
 -- ---- demand 3: any accepted graph of whole costs
-match-ends : {C : ℕ} (g : CostGraph) → Setting IsWhole 0 C g → Optimal g (hungarianMatch g) × DualsWithin (2 * (g .n * C)) g (hungarianMatch g)
+match-ends : {C : ℕ} (g : CostGraph) → Setting IsWhole 0 C g → Optimal g (hungarianMatch g) × DualsWithin (2 * (g .pattern .n * C)) g (hungarianMatch g)
 unfolding hungarianMatch searched ends
-match-ends {C} g S = go (eqb (initial g .pairs .num) (g .n)) (eqb→eq (initial g .pairs .num) (g .n))
+match-ends {C} g S = go (eqb (initial g .pairs .num) (g .pattern .n)) (eqb→eq (initial g .pairs .num) (g .pattern .n))
   where
-    go : (b : Bool) → (T b → initial g .pairs .num ≡ g .n) → Optimal g (ends g b) × DualsWithin (2 * (g .n * C)) g (ends g b)
+    go : (b : Bool) → (T b → initial g .pairs .num ≡ g .pattern .n) → Optimal g (ends g b) × DualsWithin (2 * (g .pattern .n * C)) g (ends g b)
     go true e = let h = nothing-free S (e tt) in (
       optimal (initial g .stats) S (initial-matched S) (initial-bounded S) (initial-tight S) h,
       within (initial g .stats) S (initial-matched S)
           (initial-bounded S) (initial-tight S) h (first-floored S),
     )
     go false e =
-        let R = turns S (exact-start S) (g .n) (le-refl (g .n)) in (
-          optimal (stateAt g (g .n) .stats) S (R .matched) (R .bounded) (R .tight refl) (R .hopeless),
-          within (stateAt g (g .n) .stats) S (R .matched)
-              (R .bounded) (R .tight refl) (R .hopeless) (run-floored S (g .n) (le-refl (g .n))),
+        let R = turns S (exact-start S) (g .pattern .n) (le-refl (g .pattern .n)) in (
+          optimal (stateAt g (g .pattern .n) .stats) S (R .matched) (R .bounded) (R .tight refl) (R .hopeless),
+          within (stateAt g (g .pattern .n) .stats) S (R .matched)
+              (R .bounded) (R .tight refl) (R .hopeless) (run-floored S (g .pattern .n) (le-refl (g .pattern .n))),
         )
 
 pub match-optimal : (g : CostGraph) → Accepted g → WholeCosts g → Optimal g (hungarianMatch g)
@@ -178,26 +182,28 @@ wider : {a b : ℕ} {g : CostGraph} {m : Matching} → a ≤ b → DualsWithin a
 wider h d = record { rows = λ i l. le-trans (d .rows i l) h; columns = λ j l. le-trans (d .columns j l) h }
 
 -- the duals are at most 2 n times any limit of the costs, and so at most 2 ^ 50
-pub match-within : {C : ℕ} (g : CostGraph) → Setting IsWhole 0 C g → DualsWithin (2 * (g .n * C)) g (hungarianMatch g)
+pub match-within : {C : ℕ} (g : CostGraph) → Setting IsWhole 0 C g → DualsWithin (2 * (g .pattern .n * C)) g (hungarianMatch g)
 match-within g S = match-ends g S .1
 
 pub match-small : (g : CostGraph) → Accepted g → WholeCosts g → DualsWithin (2 ^ 50) g (hungarianMatch g)
 match-small g a w = let S = whole-setting g a w in wider (omega (arith, S .product, S .fewColumns)) (match-within g S)
 
 -- the same by any number that all costs are below
-pub match-below : (C : ℕ) (g : CostGraph) → Accepted g → WholeCosts g → ((k : ℕ) → k < entries g → amount g k < C) → DualsWithin (2 * (g .n * C)) g
+pub match-below : (C : ℕ) (g : CostGraph) → Accepted g → WholeCosts g → ((k : ℕ) → k < entries (g .pattern) → amount g k < C)
+    → DualsWithin (2 * (g .pattern .n * C)) g
     (hungarianMatch g)
-match-below C g a w h = go (decLe C (costLimit (g .n)))
+match-below C g a w h = go (decLe C (costLimit (g .pattern .n)))
   where
-    S : Setting IsWhole 0 (costLimit (g .n)) g
+    S : Setting IsWhole 0 (costLimit (g .pattern .n)) g
     S = whole-setting g a w
 
-    go : Dec (C ≤ costLimit (g .n)) → DualsWithin (2 * (g .n * C)) g (hungarianMatch g)
+    go : Dec (C ≤ costLimit (g .pattern .n)) → DualsWithin (2 * (g .pattern .n * C)) g (hungarianMatch g)
     go (yes l) = match-within g (below-setting S C l h)
-    go (no l) = wider (let m : g .n * costLimit (g .n) ≤ g .n * C = mul-le-mul-left (g .n) (omega arith) in omega arith) (match-within g S)
+    go (no l) = wider (let m : g .pattern .n * costLimit (g .pattern .n) ≤ g .pattern .n * C = mul-le-mul-left (g .pattern .n) (omega arith) in omega arith)
+        (match-within g S)
 
 -- with whole costs every sum in the search is exact, in each free column's turn
-pub search-sums-exact : (g : CostGraph) → Accepted g → WholeCosts g → (r : ℕ) → r < g .n → at (stateAt g r .pairs .jperm) r ≡ none
+pub search-sums-exact : (g : CostGraph) → Accepted g → WholeCosts g → (r : ℕ) → r < g .pattern .n → at (stateAt g r .pairs .jperm) r ≡ none
     → ExactSearch g (stateAt g r .pairs) (stateAt g r .u) r (treeFrom g r (stateAt g r))
 search-sums-exact g a w r h f =
     let S = whole-setting g a w in

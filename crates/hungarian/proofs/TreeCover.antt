@@ -15,13 +15,14 @@ use Rattle.float64.specs.Constants.{rinf}
 use Rattle.float64.proofs.Constants.{rinf-number}
 use Rattle.float64.proofs.Order.{lt-key, le-key}
 use Rattle.float64.proofs.WholeNumbers.{ordered}
-use Rattle.hungarian.specs.Graph.{CostGraph, rowOf}
+use Rattle.sparse.specs.Pattern.{rowOf}
+use Rattle.hungarian.specs.Graph.{CostGraph}
 use Rattle.hungarian.specs.Init.{Pairs}
 use Rattle.hungarian.specs.Search.{Tree, among, reach, relax, edge}
 use Rattle.hungarian.specs.inner.Setting.{Setting}
 use Rattle.hungarian.specs.inner.Between.{at, dual}
 use Rattle.hungarian.specs.inner.SearchTree.{Among, Covered, Grown, PathEnd}
-use Rattle.hungarian.proofs.Columns.{row-below}
+use Rattle.sparse.proofs.Columns.{row-below}
 use Rattle.hungarian.proofs.Rows.{among-stays, among-new}
 use Rattle.hungarian.proofs.Tree as Tree
 
@@ -33,7 +34,7 @@ pub record Later (t t' : Tree) : Type 0 where
   pub touched : (i : ℕ) → Among i (t .touched) → Among i (t' .touched)
 
 pub covered-later : (g : CostGraph) {t t' : Tree} (k : ℕ) → Later t t' → Covered g t k → Covered g t' k
-covered-later g k l = ⊎-elim (λ f. inl (l .found f)) (λ a. inr (l .touched (rowOf g k) a))
+covered-later g k l = ⊎-elim (λ f. inl (l .found f)) (λ a. inr (l .touched (rowOf (g .pattern) k) a))
 
 pub later-trans : {t t' t'' : Tree} → Later t t' → Later t' t'' → Later t t''
 later-trans a b = record {
@@ -70,12 +71,14 @@ module _ {Good : Float → Type 0} {err C : ℕ} {g : CostGraph} {s : Pairs} {u 
       (ltb-true (position x) (position rinf) (sym (lt-key x rinf x-ordered r-ordered) ∙ finite)))
 
   -- a row that x does not bring nearer was touched before
-  by-row : lt x (dual (t .d) (rowOf g k)) ≡ false → Among (rowOf g k) (t .touched)
-  by-row e = go (among (rowOf g k) (t .touched)) (λ a. a) (λ n m. T-not (among (rowOf g k) (t .touched)) n m)
+  by-row : lt x (dual (t .d) (rowOf (g .pattern) k)) ≡ false → Among (rowOf (g .pattern) k) (t .touched)
+  by-row e = go (among (rowOf (g .pattern) k) (t .touched)) (λ a. a) (λ n m. T-not (among (rowOf (g .pattern) k) (t .touched)) n m)
     where
-      go : (b : Bool) → (T b → Among (rowOf g k) (t .touched)) → (T (not b) → Among (rowOf g k) (t .touched) → ⊥) → Among (rowOf g k) (t .touched)
+      go : (b : Bool) → (T b → Among (rowOf (g .pattern) k) (t .touched)) → (T (not b) → Among (rowOf (g .pattern) k) (t .touched) → ⊥)
+          → Among (rowOf (g .pattern) k) (t .touched)
       go true f h = f tt
-      go false f h = absurd (true≢false (sym finite ∙ ap (lt x) (sym (G .far (rowOf g k) (row-below g (S .columns) j k (E .entry)) (h tt))) ∙ e))
+      go false f h = absurd
+          (true≢false (sym finite ∙ ap (lt x) (sym (G .far (rowOf (g .pattern) k) (row-below (g .pattern) (S .columns) j k (E .entry)) (h tt))) ∙ e))
 
   reach-later : Later t (reach x j k t)
   unfolding reach
@@ -84,35 +87,37 @@ module _ {Good : Float → Type 0} {err C : ℕ} {g : CostGraph} {s : Pairs} {u 
   -- the rows touched after a relaxation: one more where the distance was rinf
   relax-touched : (i : ℕ) → Among i (t .touched) → Among i ((relax g (s .iperm) x j k t) .touched)
   unfolding relax
-  relax-touched i m = go (eq (dual (t .d) (rowOf g k)) rinf)
+  relax-touched i m = go (eq (dual (t .d) (rowOf (g .pattern) k)) rinf)
     where
-      go : (b : Bool) → Among i (cond b (t .touched ++ (rowOf g k ∷ [])) (t .touched))
-      go true = among-stays i (rowOf g k) (t .touched) m
+      go : (b : Bool) → Among i (cond b (t .touched ++ (rowOf (g .pattern) k ∷ [])) (t .touched))
+      go true = among-stays i (rowOf (g .pattern) k) (t .touched) m
       go false = m
 
   relax-later : Later t (relax g (s .iperm) x j k t)
   unfolding relax
   relax-later = record { popped = refl; stats = refl; found = λ f. f; touched = relax-touched }
 
-  relax-here : Among (rowOf g k) ((relax g (s .iperm) x j k t) .touched)
-  relax-here = go (among (rowOf g k) (t .touched)) (λ a. a) (λ n m. T-not (among (rowOf g k) (t .touched)) n m)
+  relax-here : Among (rowOf (g .pattern) k) ((relax g (s .iperm) x j k t) .touched)
+  relax-here = go (among (rowOf (g .pattern) k) (t .touched)) (λ a. a) (λ n m. T-not (among (rowOf (g .pattern) k) (t .touched)) n m)
     where
-      new : dual (t .d) (rowOf g k) ≡ rinf → Among (rowOf g k) ((relax g (s .iperm) x j k t) .touched)
-      new e = unfold relax in rw (e, Tree.rinf-equal) (among-new (rowOf g k) (t .touched))
+      new : dual (t .d) (rowOf (g .pattern) k) ≡ rinf → Among (rowOf (g .pattern) k) ((relax g (s .iperm) x j k t) .touched)
+      new e = unfold relax in rw (e, Tree.rinf-equal) (among-new (rowOf (g .pattern) k) (t .touched))
 
-      go : (b : Bool) → (T b → Among (rowOf g k) (t .touched)) → (T (not b) → Among (rowOf g k) (t .touched) → ⊥)
-          → Among (rowOf g k) ((relax g (s .iperm) x j k t) .touched)
-      go true f h = relax-touched (rowOf g k) (f tt)
-      go false f h = new (G .far (rowOf g k) (row-below g (S .columns) j k (E .entry)) (h tt))
+      go : (b : Bool) → (T b → Among (rowOf (g .pattern) k) (t .touched)) → (T (not b) → Among (rowOf (g .pattern) k) (t .touched) → ⊥)
+          → Among (rowOf (g .pattern) k) ((relax g (s .iperm) x j k t) .touched)
+      go true f h = relax-touched (rowOf (g .pattern) k) (f tt)
+      go false f h = new (G .far (rowOf (g .pattern) k) (row-below (g .pattern) (S .columns) j k (E .entry)) (h tt))
 
   pub edge-later : Later t (edge g (s .iperm) x j k t) × Covered g (edge g (s .iperm) x j k t) k
   unfolding edge
-  edge-later = go (among (rowOf g k) (t .popped)) (λ a. a) (le (t .csp) x) refl (eqb (at (s .iperm) (rowOf g k)) none) (lt x (dual (t .d) (rowOf g k))) refl
+  edge-later = go (among (rowOf (g .pattern) k) (t .popped)) (λ a. a) (le (t .csp) x) refl (eqb (at (s .iperm) (rowOf (g .pattern) k)) none)
+      (lt x (dual (t .d) (rowOf (g .pattern) k))) refl
     where
-      go : (p : Bool) → (T p → Among (rowOf g k) (t .popped)) → (q : Bool) → le (t .csp) x ≡ q → (f l : Bool) → lt x (dual (t .d) (rowOf g k)) ≡ l
+      go : (p : Bool) → (T p → Among (rowOf (g .pattern) k) (t .popped)) → (q : Bool) → le (t .csp) x ≡ q → (f l : Bool)
+          → lt x (dual (t .d) (rowOf (g .pattern) k)) ≡ l
           → Later t (cond (p || q) t (cond f (reach x j k t) (cond l (relax g (s .iperm) x j k t) t)))
           × Covered g (cond (p || q) t (cond f (reach x j k t) (cond l (relax g (s .iperm) x j k t) t))) k
-      go true a q b f l c = (later-same t, inr (G .poppedTouched (rowOf g k) (a tt)))
+      go true a q b f l c = (later-same t, inr (G .poppedTouched (rowOf (g .pattern) k) (a tt)))
       go false a true b f l c = (later-same t, inl (by-path b))
       go false a false b true l c = (reach-later, inl (unfold reach in finite))
       go false a false b false false c = (later-same t, inr (by-row c))

@@ -23,7 +23,8 @@ use Rattle.index_heap.specs.IndexHeap.{rowAt}
 use Rattle.index_heap.specs.inner.Invariant.{Within}
 use Rattle.index_heap.proofs.Rows.{row-within}
 use Rattle.hungarian.specs.declared.HungarianStats.{HungarianStats}
-use Rattle.hungarian.specs.Graph.{CostGraph, rowOf, end, InColumn}
+use Rattle.sparse.specs.Pattern.{rowOf, end, InColumn}
+use Rattle.hungarian.specs.Graph.{CostGraph}
 use Rattle.hungarian.specs.Init.{Pairs}
 use Rattle.hungarian.specs.Search.{Tree, among, flip, raise}
 use Rattle.hungarian.specs.inner.Setting.{Setting}
@@ -32,7 +33,7 @@ use Rattle.hungarian.specs.inner.Between.{at, dual, Matched, Bounded, Ti
 use Rattle.hungarian.specs.inner.SearchTree.{Among, Distinct, Order, Near, far-of, dual-of, cost-of, Exact, Grown, PathEnd, Reached, Scanned}
 use Rattle.hungarian.proofs.Bounds.{level-mono}
 use Rattle.hungarian.proofs.Distances.{raised}
-use Rattle.hungarian.proofs.Columns.{row-below}
+use Rattle.sparse.proofs.Columns.{row-below}
 use Rattle.hungarian.proofs.Rows.{at-most-all, or-cases, or-l, or-r}
 use Rattle.hungarian.proofs.Tree as Tree
 use Rattle.hungarian.proofs.Tree.{rinf-least}
@@ -77,7 +78,7 @@ raise-at d c (q ∷ l) u i w m h = go (ℕ-discrete i q) (raise-at d c l (set u 
     go (no o) f = f (later o m) (rw (length-set u q x) h) ∙ ap (λ (y : Float). add binary64 y (sub binary64 (dual d i) c)) (getD-set-other u q i x nan o)
 
 module _ {Good : Float → Type 0} {err C : ℕ} {g : CostGraph} {s : Pairs} {u : List Float} {r : ℕ} {c : HungarianStats} (S : Setting Good err C g)
-    (M : Matched g s) (B : Bounded Good C g s u) (H : Tree.HeapLaws (g .n)) (root : at (s .jperm) r ≡ none) (below : r < g .n)
+    (M : Matched g s) (B : Bounded Good C g s u) (H : Tree.HeapLaws (g .pattern .n)) (root : at (s .jperm) r ≡ none) (below : r < g .pattern .n)
     (t : Tree) (W : Searched Good err C g s u r c t) (finite : lt (t .csp) rinf ≡ true)
     (P : PathEnd Good err C g s u r (t .popped) (t .csp) (t .isp) (t .jsp)) where
   G : Grown Good err C g s u r (W .rank) t
@@ -92,11 +93,11 @@ module _ {Good : Float → Type 0} {err C : ℕ} {g : CostGraph} {s : Pairs} {u 
   A : Augmented g s r t s'
   A = flip-augments S M root below t G P
 
-  few : suc (length (t .popped)) ≤ g .n + 1
-  few = let h = at-most-all (g .n) (t .popped) (G .poppedOnce) (λ i m. G .reached i (G .poppedTouched i m) .row) in omega arith
+  few : suc (length (t .popped)) ≤ g .pattern .n + 1
+  few = let h = at-most-all (g .pattern .n) (t .popped) (G .poppedOnce) (λ i m. G .reached i (G .poppedTouched i m) .row) in omega arith
 
-  wide : {x : Float} → Small Good (level C (suc (length (t .popped)))) x → Small Good (level C (g .n + 1)) x
-  wide w = let h = level-mono C (suc (length (t .popped))) (g .n + 1) few in
+  wide : {x : Float} → Small Good (level C (suc (length (t .popped)))) x → Small Good (level C (g .pattern .n + 1)) x
+  wide w = let h = level-mono C (suc (length (t .popped))) (g .pattern .n + 1) few in
       record { good = w .good; size = record { above = omega (arith, w .size .above); under = omega (arith, w .size .under) } }
 
   popped-row : (i : ℕ) → Among i (t .popped) → Reached Good err C g s u r (t .popped) (t .pr) (t .out) (t .d) i
@@ -112,14 +113,14 @@ module _ {Good : Float → Type 0} {err C : ℕ} {g : CostGraph} {s : Pairs} {u 
   pub free-kept : (i : ℕ) → at (s .iperm) i ≡ none → Among i (t .popped) → ⊥
   free-kept i f m = popped-row i m .matched f
 
-  gain : (i : ℕ) → Among i (t .popped) → Small Good (dualBound (g .n) C) (add binary64 (dual u i) (sub binary64 (dual (t .d) i) (t .csp)))
+  gain : (i : ℕ) → Among i (t .popped) → Small Good (dualBound (g .pattern .n) C) (add binary64 (dual u i) (sub binary64 (dual (t .d) i) (t .csp)))
       × Apart (2 * err) (2 * (position (add binary64 (dual u i) (sub binary64 (dual (t .d) i) (t .csp))) + position (t .csp)))
       (2 * (position (dual u i) + position (dual (t .d) i)))
   gain i m =
       let w = popped-row i m in
-      raised S (omega (arith, below)) (w .distance .start) (dual u i) (dual (t .d) i) (P .distance .start) (dual u (rowOf g (t .isp))) (t .csp)
+      raised S (omega (arith, below)) (w .distance .start) (dual u i) (dual (t .d) i) (P .distance .start) (dual u (rowOf (g .pattern) (t .isp))) (t .csp)
       (wide (w .distance .small)) (B .small i (w .row)) (w .distance .distance) (wide (P .distance .small))
-      (B .free (rowOf g (t .isp)) (row-below g (S .columns) (t .jsp) (t .isp) (P .entry)) (P .ends)) (P .distance .distance)
+      (B .free (rowOf (g .pattern) (t .isp)) (row-below (g .pattern) (S .columns) (t .jsp) (t .isp) (P .entry)) (P .ends)) (P .distance .distance)
 
   pub bounded-after : Bounded Good C g s' u'
   bounded-after = record {
@@ -128,7 +129,8 @@ module _ {Good : Float → Type 0} {err C : ℕ} {g : CostGraph} {s : Pairs} {u 
     free = λ i h f. let e = A .flipped .rowsFree i h f in rw (kept-at i (free-kept i e)) (B .free i h e);
   }
     where
-      go : (i : ℕ) → i < g .n → (b : Bool) → (T b → Among i (t .popped)) → (T (not b) → Among i (t .popped) → ⊥) → Small Good (dualBound (g .n) C) (dual u' i)
+      go : (i : ℕ) → i < g .pattern .n → (b : Bool) → (T b → Among i (t .popped)) → (T (not b) → Among i (t .popped) → ⊥)
+          → Small Good (dualBound (g .pattern .n) C) (dual u' i)
       go i h true f k = rw (raised-at i (f tt)) (gain i (f tt) .0)
       go i h false f k = rw (kept-at i (k tt)) (B .small i h)
 
@@ -160,14 +162,14 @@ module _ {Good : Float → Type 0} {err C : ℕ} {g : CostGraph} {s : Pairs} {u 
     heap-ordered i h = number (dual (t .d) i) (G .reached i (G .heapTouched i h) .distance .distance .good)
 
     -- a row that was not popped is no nearer than the path's end
-    unpopped-far : (i : ℕ) → i < g .n → (Among i (t .popped) → ⊥) → position (t .csp) ≤ far-of t i
+    unpopped-far : (i : ℕ) → i < g .pattern .n → (Among i (t .popped) → ⊥) → position (t .csp) ≤ far-of t i
     unpopped-far i h o = go (among i (t .touched)) (λ a. a) (λ n m. T-not (among i (t .touched)) n m)
       where
         within-far : Within (t .heap) i → position (t .csp) ≤ far-of t i
         within-far w =
             ⊎-elim (λ (z : t .heap .len ≡ 0). let q = G .heap .held i w .0 in let n : ⊥ = omega arith in absurd n)
             (λ (z : le (t .csp) (dual (t .d) (rowAt (t .heap) 1)) ≡ true).
-            let first = row-within (g .n) (t .heap) 1 (G .heap) (omega arith) (let q = G .heap .held i w .0 in omega arith) in
+            let first = row-within (g .pattern .n) (t .heap) 1 (G .heap) (omega arith) (let q = G .heap .held i w .0 in omega arith) in
             let a = leb-true (position (t .csp)) (far-of t (rowAt (t .heap) 1))
             (sym (le-key (t .csp) (dual (t .d) (rowAt (t .heap) 1)) path-ordered (heap-ordered (rowAt (t .heap) 1) first)) ∙ z) in
             let b = leb-true (far-of t (rowAt (t .heap) 1)) (far-of t i)
@@ -182,69 +184,77 @@ module _ {Good : Float → Type 0} {err C : ℕ} {g : CostGraph} {s : Pairs} {u 
             (let l = ltb-true (position (t .csp)) (position rinf) (sym (lt-key (t .csp) rinf path-ordered (ordered rinf rinf-number)) ∙ finite) in omega arith)
 
     -- every entry of a scanned column
-    entry-after : (j k : ℕ) → Scanned s r (t .popped) j → InColumn g j k → position (t .csp) + dual-of u' (rowOf g k) ≤ v j + cost-of g k
-    entry-after j k z w = go (among (rowOf g k) (t .popped)) (λ a. a) (λ n m. T-not (among (rowOf g k) (t .popped)) n m)
-        (ℕ-discrete (at (s .iperm) (rowOf g k)) none)
+    entry-after : (j k : ℕ) → Scanned s r (t .popped) j → InColumn (g .pattern) j k → position (t .csp) + dual-of u' (rowOf (g .pattern) k) ≤ v j + cost-of g k
+    entry-after j k z w = go (among (rowOf (g .pattern) k) (t .popped)) (λ a. a) (λ n m. T-not (among (rowOf (g .pattern) k) (t .popped)) n m)
+        (ℕ-discrete (at (s .iperm) (rowOf (g .pattern) k)) none)
       where
         n : Near g s u t (v j) k
-        n = W .scanning .near e j k (z, w, λ q. subst (λ (x : ℕ). k < end g x) q (w .below))
+        n = W .scanning .near e j k (z, w, λ q. subst (λ (x : ℕ). k < end (g .pattern) x) q (w .below))
 
-        go : (b : Bool) → (T b → Among (rowOf g k) (t .popped)) → (T (not b) → Among (rowOf g k) (t .popped) → ⊥)
-            → Dec (at (s .iperm) (rowOf g k) ≡ none) → position (t .csp) + dual-of u' (rowOf g k) ≤ v j + cost-of g k
-        go true f h q = ⊎-elim (λ l. omega (arith, popped-dual (rowOf g k) (f tt)))
-            (λ l. omega (arith, popped-dual (rowOf g k) (f tt), O .poppedNear (rowOf g k) (f tt), O .pathFar))
-            (n .matched (popped-row (rowOf g k) (f tt) .matched))
-        go false f h (yes q) = rw (kept-at (rowOf g k) (h tt)) (n .free q)
-        go false f h (no q) = rw (kept-at (rowOf g k) (h tt)) (let l = unpopped-far (rowOf g k) (row-below g (S .columns) j k w) (h tt) in
+        go : (b : Bool) → (T b → Among (rowOf (g .pattern) k) (t .popped)) → (T (not b) → Among (rowOf (g .pattern) k) (t .popped) → ⊥)
+            → Dec (at (s .iperm) (rowOf (g .pattern) k) ≡ none) → position (t .csp) + dual-of u' (rowOf (g .pattern) k) ≤ v j + cost-of g k
+        go true f h q = ⊎-elim (λ l. omega (arith, popped-dual (rowOf (g .pattern) k) (f tt)))
+            (λ l. omega (arith, popped-dual (rowOf (g .pattern) k) (f tt), O .poppedNear (rowOf (g .pattern) k) (f tt), O .pathFar))
+            (n .matched (popped-row (rowOf (g .pattern) k) (f tt) .matched))
+        go false f h (yes q) = rw (kept-at (rowOf (g .pattern) k) (h tt)) (n .free q)
+        go false f h (no q) = rw (kept-at (rowOf (g .pattern) k) (h tt))
+            (let l = unpopped-far (rowOf (g .pattern) k) (row-below (g .pattern) (S .columns) j k w) (h tt) in
             ⊎-elim (λ x. omega arith) (λ x. x) (n .matched q))
 
     -- the entry that a scanned column holds afterwards
-    popped-after : (q : ℕ) → Among q (t .popped) → (k : ℕ) → rowOf g k ≡ q → v (at (s .iperm) q) + cost-of g k ≡ far-of t q + dual-of u q
-        → v (at (s .iperm) q) + cost-of g k ≡ position (t .csp) + dual-of u' (rowOf g k)
+    popped-after : (q : ℕ) → Among q (t .popped) → (k : ℕ) → rowOf (g .pattern) k ≡ q → v (at (s .iperm) q) + cost-of g k ≡ far-of t q + dual-of u q
+        → v (at (s .iperm) q) + cost-of g k ≡ position (t .csp) + dual-of u' (rowOf (g .pattern) k)
     popped-after q m k f h = rw f (omega (arith, popped-dual q m))
 
-    taken-after : (j k : ℕ) → Taken g s r t j k → v j + cost-of g k ≡ position (t .csp) + dual-of u' (rowOf g k)
+    taken-after : (j k : ℕ) → Taken g s r t j k → v j + cost-of g k ≡ position (t .csp) + dual-of u' (rowOf (g .pattern) k)
     taken-after j k w = go (w .way)
       where
         go : ((j ≡ t .jsp) × (k ≡ t .isp)) ⊎ ((q : ℕ) × Among q (t .popped) × (j ≡ at (t .pr) (at (s .iperm) q)) × (k ≡ at (t .out) (at (s .iperm) q)))
-            → v j + cost-of g k ≡ position (t .csp) + dual-of u' (rowOf g k)
-        go (inl (a, b)) = rw (a, b, kept-at (rowOf g (t .isp)) (free-kept (rowOf g (t .isp)) (P .ends))) (sym (finite-case (t .csp) finite (O .pathExact)))
+            → v j + cost-of g k ≡ position (t .csp) + dual-of u' (rowOf (g .pattern) k)
+        go (inl (a, b)) = rw (a, b, kept-at (rowOf (g .pattern) (t .isp)) (free-kept (rowOf (g .pattern) (t .isp)) (P .ends)))
+            (sym (finite-case (t .csp) finite (O .pathExact)))
         go (inr (q, m, a, b)) = let x = popped-row q m in rw (a, b, x .to) (omega (arith, popped-dual q m, O .exact q (G .poppedTouched q m)))
 
     abbrev k' : ℕ → ℕ
     k' j = at (s' .jperm) j
 
     -- tight by the offset of a scanned column
-    by-offset : (j k : ℕ) → Scanned s r (t .popped) j → InColumn g j k → v j + cost-of g (k' j) ≡ position (t .csp) + dual-of u' (rowOf g (k' j))
-        → cost-of g (k' j) + dual-of u' (rowOf g k) ≤ cost-of g k + dual-of u' (rowOf g (k' j))
+    by-offset : (j k : ℕ) → Scanned s r (t .popped) j → InColumn (g .pattern) j k → v j + cost-of g (k' j) ≡ position (t .csp) + dual-of u'
+        (rowOf (g .pattern) (k' j))
+        → cost-of g (k' j) + dual-of u' (rowOf (g .pattern) k) ≤ cost-of g k + dual-of u' (rowOf (g .pattern) (k' j))
     by-offset j k z w h = let l = entry-after j k z w in omega arith
 
-    least-after : (j k : ℕ) → InColumn g j k → k' j ≢ none → cost-of g (k' j) + dual-of u' (rowOf g k) ≤ cost-of g k + dual-of u' (rowOf g (k' j))
+    least-after : (j k : ℕ) → InColumn (g .pattern) j k → k' j ≢ none → cost-of g (k' j) + dual-of u' (rowOf (g .pattern) k) ≤ cost-of g k + dual-of u'
+        (rowOf (g .pattern) (k' j))
     least-after j k w h = go (A .flipped .entries j (w .column))
       where
-        same : k' j ≡ at (s .jperm) j → cost-of g (k' j) + dual-of u' (rowOf g k) ≤ cost-of g k + dual-of u' (rowOf g (k' j))
-        same f = pick (among (rowOf g (at (s .jperm) j)) (t .popped)) (λ a. a) (λ n m. T-not (among (rowOf g (at (s .jperm) j)) (t .popped)) n m)
+        same : k' j ≡ at (s .jperm) j → cost-of g (k' j) + dual-of u' (rowOf (g .pattern) k) ≤ cost-of g k + dual-of u' (rowOf (g .pattern) (k' j))
+        same f = pick (among (rowOf (g .pattern) (at (s .jperm) j)) (t .popped)) (λ a. a)
+            (λ n m. T-not (among (rowOf (g .pattern) (at (s .jperm) j)) (t .popped)) n m)
           where
             held : at (s .jperm) j ≢ none
             held z = h (f ∙ z)
 
-            back : at (s .iperm) (rowOf g (at (s .jperm) j)) ≡ j
+            back : at (s .iperm) (rowOf (g .pattern) (at (s .jperm) j)) ≡ j
             back = M .paired .columns j (w .column) held .back
 
-            pick : (b : Bool) → (T b → Among (rowOf g (at (s .jperm) j)) (t .popped)) → (T (not b) → Among (rowOf g (at (s .jperm) j)) (t .popped) → ⊥)
-                → cost-of g (k' j) + dual-of u' (rowOf g k) ≤ cost-of g k + dual-of u' (rowOf g (k' j))
+            pick : (b : Bool) → (T b → Among (rowOf (g .pattern) (at (s .jperm) j)) (t .popped))
+                → (T (not b) → Among (rowOf (g .pattern) (at (s .jperm) j)) (t .popped) → ⊥)
+                → cost-of g (k' j) + dual-of u' (rowOf (g .pattern) k) ≤ cost-of g k + dual-of u' (rowOf (g .pattern) (k' j))
             pick true a b =
-                let q = rowOf g (at (s .jperm) j) in
+                let q = rowOf (g .pattern) (at (s .jperm) j) in
                 let o = O .offset q (a tt) in
                 by-offset j k (inr (q, a tt, back)) w
                 (rw f (subst (λ (i : ℕ). v i + cost-of g (at (s .jperm) j) ≡ position (t .csp) + dual-of u' q) back
                 (popped-after q (a tt) (at (s .jperm) j) refl
                 (subst (λ (i : ℕ). v (at (s .iperm) q) + cost-of g (at (s .jperm) i) ≡ far-of t q + dual-of u q) back o))))
-            pick false a b = rw (f, kept-at (rowOf g (at (s .jperm) j)) (b tt)) (let l = e .1 .least j k w held in let n = not-above (rowOf g k) in omega arith)
+            pick false a b = rw (f, kept-at (rowOf (g .pattern) (at (s .jperm) j)) (b tt))
+                (let l = e .1 .least j k w held in let n = not-above (rowOf (g .pattern) k) in omega arith)
 
-        go : (k' j ≡ at (s .jperm) j) ⊎ Taken g s r t j (k' j) → cost-of g (k' j) + dual-of u' (rowOf g k) ≤ cost-of g k + dual-of u' (rowOf g (k' j))
+        go : (k' j ≡ at (s .jperm) j) ⊎ Taken g s r t j (k' j) → cost-of g (k' j) + dual-of u' (rowOf (g .pattern) k) ≤ cost-of g k + dual-of u'
+            (rowOf (g .pattern) (k' j))
         go (inl f) = same f
         go (inr x) = by-offset j k (x .scanned) w (taken-after j (k' j) x)
 
     pub tight-after : Tight g s' u'
-    tight-after = record { below = λ k h. let l = e .1 .below k h in let n = not-above (rowOf g k) in omega arith; least = least-after }
+    tight-after = record { below = λ k h. let l = e .1 .below k h in let n = not-above (rowOf (g .pattern) k) in omega arith; least = least-after }

@@ -17,7 +17,8 @@ use Rattle.float64.specs.Constants.{rinf}
 use Rattle.index_heap.specs.IndexHeap.{rowAt}
 use Rattle.matching.proofs.Pairings.{apart}
 use Rattle.hungarian.specs.declared.HungarianStats.{HungarianStats}
-use Rattle.hungarian.specs.Graph.{CostGraph, rowOf, costOf, start, end, InColumn}
+use Rattle.sparse.specs.Pattern.{rowOf, start, end, InColumn}
+use Rattle.hungarian.specs.Graph.{CostGraph, costOf}
 use Rattle.hungarian.specs.Counts.{columnScanned, searchBegun, counts}
 use Rattle.hungarian.specs.Init.{Pairs, reduced}
 use Rattle.hungarian.specs.Loop.{each}
@@ -30,7 +31,7 @@ use Rattle.hungarian.specs.inner.SearchTree.{Scanning, Examined, Grown}
 use Rattle.hungarian.specs.inner.Runs.{Clean}
 use Rattle.hungarian.proofs.Bounds.{level-step}
 use Rattle.hungarian.proofs.Distances.{distance}
-use Rattle.hungarian.proofs.Columns.{in-entries, row-below}
+use Rattle.sparse.proofs.Columns.{in-entries, row-below}
 use Rattle.hungarian.proofs.Rows.{weigh, weigh-more, length-more}
 use Rattle.hungarian.proofs.Tree as Tree
 use Rattle.hungarian.proofs.TreeScan.{Distances, scan-keeps}
@@ -38,7 +39,7 @@ use Rattle.hungarian.proofs.TreePop.{popped-count, extend-keeps}
 
 -- how many entries column j has, and how many a search has scanned
 abbrev pub entriesOf : CostGraph → ℕ → ℕ
-entriesOf g j = end g j - start g j
+entriesOf g j = end (g .pattern) j - start (g .pattern) j
 
 abbrev pub scannedBy : CostGraph → Pairs → ℕ → List ℕ → ℕ
 scannedBy g s r popped = entriesOf g r + weigh (λ q. entriesOf g (at (s .iperm) q)) popped
@@ -49,7 +50,7 @@ pub record Searched (Good : Float → Type 0) (err C : ℕ) (g : CostGraph) (s :
   pub offset : ℕ → ℕ
   pub top : ℕ
   pub now : ℕ
-  pub scanning : Scanning Good err C g s u r rank offset top now (end g now) t
+  pub scanning : Scanning Good err C g s u r rank offset top now (end (g .pattern) now) t
   pub counted : t .stats ≡ columnScanned (scannedBy g s r (t .popped)) c
   pub stopped : (t .heap .len ≡ 0) ⊎ (le (t .csp) (dual (t .d) (rowAt (t .heap) 1)) ≡ true)
 
@@ -59,9 +60,9 @@ scanned-twice a b c = ap (λ (x : ℕ). counts (c .«heap_init_slots») (c .«au
     (c .«popped_total») (c .«largest_heap»)) (let e : c .«main_loop_edge_scans» + a + b ≡ c .«main_loop_edge_scans» + (a + b) = omega arith in e)
 
 module _ {Good : Float → Type 0} {err C : ℕ} {g : CostGraph} {s : Pairs} {u : List Float} {r : ℕ} (S : Setting Good err C g) (M : Matched g s)
-    (B : Bounded Good C g s u) (H : Tree.HeapLaws (g .n)) (root : at (s .jperm) r ≡ none) (c : HungarianStats) where
-  pub grow-keeps : (m : ℕ) (rank v : ℕ → ℕ) (top now : ℕ) (t : Tree) → Scanning Good err C g s u r rank v top now (end g now) t
-      → t .stats ≡ columnScanned (scannedBy g s r (t .popped)) c → g .n ≤ length (t .popped) + m
+    (B : Bounded Good C g s u) (H : Tree.HeapLaws (g .pattern .n)) (root : at (s .jperm) r ≡ none) (c : HungarianStats) where
+  pub grow-keeps : (m : ℕ) (rank v : ℕ → ℕ) (top now : ℕ) (t : Tree) → Scanning Good err C g s u r rank v top now (end (g .pattern) now) t
+      → t .stats ≡ columnScanned (scannedBy g s r (t .popped)) c → g .pattern .n ≤ length (t .popped) + m
       → Searched Good err C g s u r c (grow g s u m t)
   unfolding grow
   grow-keeps zero rank v top now t I e h =
@@ -77,8 +78,8 @@ module _ {Good : Float → Type 0} {err C : ℕ} {g : CostGraph} {s : Pairs} {u 
       done z = record { rank = rank; offset = v; top = top; now = now; scanning = I; counted = e; stopped = z }
 
       go : (a : Bool) → (T a → t .heap .len ≡ 0) → (T (not a) → t .heap .len ≢ 0) → (b : Bool) → le (t .csp) (dual (t .d) (rowAt (t .heap) 1)) ≡ b
-          → ((rank v : ℕ → ℕ) (top now : ℕ) (t : Tree) → Scanning Good err C g s u r rank v top now (end g now) t → t .stats ≡ columnScanned
-          (scannedBy g s r (t .popped)) c → g .n ≤ length (t .popped) + m → Searched Good err C g s u r c (grow g s u m t))
+          → ((rank v : ℕ → ℕ) (top now : ℕ) (t : Tree) → Scanning Good err C g s u r rank v top now (end (g .pattern) now) t → t .stats ≡ columnScanned
+          (scannedBy g s r (t .popped)) c → g .pattern .n ≤ length (t .popped) + m → Searched Good err C g s u r c (grow g s u m t))
           → Searched Good err C g s u r c (cond (a || b) t (grow g s u m (extend g s u t)))
       go true f k b q w = done (inl (f tt))
       go false f k true q w = done (inr q)
@@ -99,8 +100,9 @@ module _ {Good : Float → Type 0} {err C : ℕ} {g : CostGraph} {s : Pairs} {u 
           sum-more i = rw (weigh-more (λ q. entriesOf g (at (s .iperm) q)) i (t .popped)) (omega arith)
 
 -- ---- the first tree
-module _ {Good : Float → Type 0} {err C : ℕ} {g : CostGraph} (S : Setting Good err C g) (H : Tree.HeapLaws (g .n)) (x : Running) (r : ℕ)
-    (M : Matched g (x .pairs)) (B : Bounded Good C g (x .pairs) (x .u)) (clean : Clean g x) (below : r < g .n) (root : at (x .pairs .jperm) r ≡ none) where
+module _ {Good : Float → Type 0} {err C : ℕ} {g : CostGraph} (S : Setting Good err C g) (H : Tree.HeapLaws (g .pattern .n)) (x : Running) (r : ℕ)
+    (M : Matched g (x .pairs)) (B : Bounded Good C g (x .pairs) (x .u)) (clean : Clean g x) (below : r < g .pattern .n)
+    (root : at (x .pairs .jperm) r ≡ none) where
   abbrev first : Tree
   first = record {
     d = x .d;
@@ -139,7 +141,7 @@ module _ {Good : Float → Type 0} {err C : ℕ} {g : CostGraph} (S : Setting Go
     best = inl refl;
   }
 
-  first-scanning : Scanning Good err C g (x .pairs) (x .u) r (λ j. 0) (λ j. origin) 0 r (start g r) first
+  first-scanning : Scanning Good err C g (x .pairs) (x .u) r (λ j. 0) (λ j. origin) 0 r (start (g .pattern) r) first
   unfolding among
   first-scanning = record {
     grown = first-grown;
@@ -157,19 +159,19 @@ module _ {Good : Float → Type 0} {err C : ℕ} {g : CostGraph} (S : Setting Go
     near = λ e j k z. absurd (none-yet j k z);
   }
     where
-      none-yet : (j k : ℕ) → Examined g (x .pairs) r first r (start g r) j k → ⊥
-      none-yet j k (inl e, c, b) = let l = b e in let h = subst (λ (y : ℕ). start g y ≤ k) e (c .above) in omega arith
+      none-yet : (j k : ℕ) → Examined g (x .pairs) r first r (start (g .pattern) r) j k → ⊥
+      none-yet j k (inl e, c, b) = let l = b e in let h = subst (λ (y : ℕ). start (g .pattern) y ≤ k) e (c .above) in omega arith
       none-yet j k (inr (q, m, e), c, b) = m
 
-  cost-small : (k : ℕ) → InColumn g r k → Small Good (level C 1) (costOf g k)
+  cost-small : (k : ℕ) → InColumn (g .pattern) r k → Small Good (level C 1) (costOf g k)
   cost-small k c =
-      let h = in-entries g (S .columns) r k c in
+      let h = in-entries (g .pattern) (S .columns) r k c in
       let e = level-step C 0 in
       record { good = S .good k h; size = record { above = omega (arith, S .high k h); under = omega (arith, S .low k h) } }
 
-  first-distance : (k : ℕ) (c : InColumn g r k) → Distance Good err (costOf g k) (dual (x .u) (rowOf g k)) (reduced g (x .u) k)
-  first-distance k c = distance S (omega (arith, below)) 1 (costOf g k) (dual (x .u) (rowOf g k)) (omega arith) (cost-small k c)
-      (B .small (rowOf g k) (row-below g (S .columns) r k c))
+  first-distance : (k : ℕ) (c : InColumn (g .pattern) r k) → Distance Good err (costOf g k) (dual (x .u) (rowOf (g .pattern) k)) (reduced g (x .u) k)
+  first-distance k c = distance S (omega (arith, below)) 1 (costOf g k) (dual (x .u) (rowOf (g .pattern) k)) (omega arith) (cost-small k c)
+      (B .small (rowOf (g .pattern) k) (row-below (g .pattern) (S .columns) r k c))
 
   first-distances : Distances Good err C g (x .pairs) (x .u) (λ j. origin) 0 0 r (reduced g (x .u))
   first-distances = record {
@@ -182,8 +184,8 @@ module _ {Good : Float → Type 0} {err C : ℕ} {g : CostGraph} (S : Setting Go
   unfolding treeFrom scanRoot weigh
   search-tree =
       let w = scan-keeps S M H root first r (reduced g (x .u)) below (inl refl) first-distances first-scanning in
-      grow-keeps S M B H root (searchBegun (x .stats)) (g .n) (λ j. 0) (λ j. origin) 0 r
-      (each (start g r) (end g r) (λ k. edge g (x .pairs .iperm) (reduced g (x .u) k) r k) first) (w .0)
+      grow-keeps S M B H root (searchBegun (x .stats)) (g .pattern .n) (λ j. 0) (λ j. origin) 0 r
+      (each (start (g .pattern) r) (end (g .pattern) r) (λ k. edge g (x .pairs .iperm) (reduced g (x .u) k) r k) first) (w .0)
       (w .1 .stats ∙ ap (λ (z : ℕ). columnScanned z (searchBegun (x .stats)))
       ((let e : entriesOf g r ≡ entriesOf g r + 0 = omega arith in e) ∙ sym (ap (scannedBy g (x .pairs) r) (w .1 .popped))))
       (omega arith)

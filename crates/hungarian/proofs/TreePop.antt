@@ -22,7 +22,8 @@ use Rattle.index_heap.specs.IndexHeap.{rowAt, placeOf, pop}
 use Rattle.index_heap.specs.inner.Invariant.{Within, WithoutRow}
 use Rattle.matching.specs.Sum.{updated}
 use Rattle.matching.proofs.Updated.{updated-same, updated-other}
-use Rattle.hungarian.specs.Graph.{CostGraph, rowOf, costOf, start, end, InColumn}
+use Rattle.sparse.specs.Pattern.{rowOf, start, end, InColumn}
+use Rattle.hungarian.specs.Graph.{CostGraph, costOf}
 use Rattle.hungarian.specs.Init.{Pairs}
 use Rattle.hungarian.specs.Counts.{columnScanned}
 use Rattle.hungarian.specs.Search.{Tree, extend, scan}
@@ -32,7 +33,7 @@ use Rattle.hungarian.specs.inner.Between.{at, dual, Matched, Bounded}
 use Rattle.hungarian.specs.inner.SearchTree.{Among, Order, far-of, dual-of, cost-of, Examined, Scanning, GoodDistance, Grown, PathEnd, Reached, Scanned}
 use Rattle.hungarian.proofs.Bounds.{level-mono}
 use Rattle.hungarian.proofs.Distances.{Offset, distance, offset, next}
-use Rattle.hungarian.proofs.Columns.{row-below, in-entries, in-column}
+use Rattle.sparse.proofs.Columns.{row-below, in-entries, in-column}
 use Rattle.hungarian.proofs.Rows.{among-cases, among-stays, among-new, distinct-append, length-more, at-most-all}
 use Rattle.hungarian.proofs.Tree as Tree
 use Rattle.hungarian.proofs.TreeCover.{Later}
@@ -51,7 +52,7 @@ opened g s t q = record {
   isp = t .isp;
   jsp = t .jsp;
   peak = t .peak;
-  stats = columnScanned (end g (at (s .iperm) q) - start g (at (s .iperm) q)) (t .stats);
+  stats = columnScanned (end (g .pattern) (at (s .iperm) q) - start (g .pattern) (at (s .iperm) q)) (t .stats);
 }
 
 -- a bound of more popped rows holds of fewer
@@ -63,8 +64,8 @@ distance-wider : {Good : Float → Type 0} {err b c : ℕ} {u : List Float} {i :
 distance-wider h w = record { start = w .start; small = wider h (w .small); distance = w .distance }
 
 module _ {Good : Float → Type 0} {err C : ℕ} {g : CostGraph} {s : Pairs} {u : List Float} {r : ℕ} {rank v : ℕ → ℕ} {top : ℕ} (S : Setting Good err C g)
-    (M : Matched g s) (B : Bounded Good C g s u) (H : Tree.HeapLaws (g .n)) (root : at (s .jperm) r ≡ none)
-    (now : ℕ) (t : Tree) (I : Scanning Good err C g s u r rank v top now (end g now) t) (some : 0 < t .heap .len) where
+    (M : Matched g s) (B : Bounded Good C g s u) (H : Tree.HeapLaws (g .pattern .n)) (root : at (s .jperm) r ≡ none)
+    (now : ℕ) (t : Tree) (I : Scanning Good err C g s u r rank v top now (end (g .pattern) now) t) (some : 0 < t .heap .len) where
   G : Grown Good err C g s u r rank t
   G = I .grown
 
@@ -169,34 +170,34 @@ module _ {Good : Float → Type 0} {err C : ℕ} {g : CostGraph} {s : Pairs} {u 
   }
 
   -- ---- the column of q: its offset, and the distances by its entries
-  pub column : j < g .n
+  pub column : j < g .pattern .n
   column = M .paired .rows q (here .row) (here .matched) .range
 
   -- the entry that the column holds now is q's
-  pub own : InColumn g j (at (s .jperm) j)
+  pub own : InColumn (g .pattern) j (at (s .jperm) j)
   own =
       let w = M .paired .rows q (here .row) (here .matched) in
       let c = M .paired .columns j column (w .taken) in
-      subst (λ (i : ℕ). InColumn g i (at (s .jperm) j)) (c .column) (in-column g (S .columns) (at (s .jperm) j) (c .entry))
+      subst (λ (i : ℕ). InColumn (g .pattern) i (at (s .jperm) j)) (c .column) (in-column (g .pattern) (S .columns) (at (s .jperm) j) (c .entry))
 
-  own-row : rowOf g (at (s .jperm) j) ≡ q
+  own-row : rowOf (g .pattern) (at (s .jperm) j) ≡ q
   own-row = M .paired .rows q (here .row) (here .matched) .back
 
-  cost : (i k : ℕ) → InColumn g i k → Cost Good C (costOf g k)
-  cost i k c = let h = in-entries g (S .columns) i k c in record { good = S .good k h; low = S .low k h; high = omega (arith, S .high k h) }
+  cost : (i k : ℕ) → InColumn (g .pattern) i k → Cost Good C (costOf g k)
+  cost i k c = let h = in-entries (g .pattern) (S .columns) i k c in record { good = S .good k h; low = S .low k h; high = omega (arith, S .high k h) }
 
   abbrev value : Float
   value = add binary64 (sub binary64 (dual (t .d) q) (costOf g (at (s .jperm) j))) (dual u q)
 
   -- at most n rows are popped
-  pub popped-count : suc (length (t .popped)) ≤ g .n
+  pub popped-count : suc (length (t .popped)) ≤ g .pattern .n
   popped-count =
-      let h = at-most-all (g .n) (t .popped ++ (q ∷ [])) (distinct-append q (t .popped) (G .poppedOnce) unpopped)
+      let h = at-most-all (g .pattern .n) (t .popped ++ (q ∷ [])) (distinct-append q (t .popped) (G .poppedOnce) unpopped)
       (λ i m. ⊎-elim (λ (a : Among i (t .popped)). G .reached i (G .poppedTouched i a) .row) (λ (e : i ≡ q). rw e (here .row))
       (among-cases i q (t .popped) m)) in
       omega (arith, length-more q (t .popped))
 
-  positive : 0 < g .n
+  positive : 0 < g .pattern .n
   positive = omega (arith, column)
 
   its-offset : Offset Good err (here .distance .start) (costOf g (at (s .jperm) j)) value
@@ -217,19 +218,19 @@ module _ {Good : Float → Type 0} {err C : ℕ} {g : CostGraph} {s : Pairs} {u 
   mark k = add binary64 value (costOf g k)
 
   abbrev far : ℕ → Float
-  far k = sub binary64 (add binary64 value (costOf g k)) (dual u (rowOf g k))
+  far k = sub binary64 (add binary64 value (costOf g k)) (dual u (rowOf (g .pattern) k))
 
-  module _ (k : ℕ) (c : InColumn g j k) where
+  module _ (k : ℕ) (c : InColumn (g .pattern) j k) where
     marked : Small Good (level C (suc (suc (length (t .popped))))) (mark k) × Apart err (2 * (position (mark k) + origin))
         (2 * (position value + position (costOf g k)))
     marked = next S positive (suc (length (t .popped))) (here .distance .start) (costOf g (at (s .jperm) j)) value (costOf g k)
         (omega (arith, popped-count)) (here .distance .small) (cost j (at (s .jperm) j) own) (cost j k c) its-offset
 
-    far-distance : Distance Good err (mark k) (dual u (rowOf g k)) (far k)
-    far-distance = distance S positive (suc (suc (length (t .popped)))) (mark k) (dual u (rowOf g k)) (omega (arith, popped-count)) (marked .0)
-        (B .small (rowOf g k) (row-below g (S .columns) j k c))
+    far-distance : Distance Good err (mark k) (dual u (rowOf (g .pattern) k)) (far k)
+    far-distance = distance S positive (suc (suc (length (t .popped)))) (mark k) (dual u (rowOf (g .pattern) k)) (omega (arith, popped-count)) (marked .0)
+        (B .small (rowOf (g .pattern) k) (row-below (g .pattern) (S .columns) j k c))
 
-    far-exact : err ≡ 0 → position (far k) + dual-of u (rowOf g k) ≡ v' j + cost-of g k
+    far-exact : err ≡ 0 → position (far k) + dual-of u (rowOf (g .pattern) k) ≡ v' j + cost-of g k
     far-exact e = rw v-here (omega (arith, far-distance .near .above, far-distance .near .under, marked .1 .above, marked .1 .under))
 
   value-exact : err ≡ 0 → position value + cost-of g (at (s .jperm) j) ≡ far-of t q + dual-of u q
@@ -278,15 +279,16 @@ module _ {Good : Float → Type 0} {err C : ℕ} {g : CostGraph} {s : Pairs} {u 
       heapOrder = H .pop-order (t .d) (t .heap) (G .heap) some (record { ordered = heap-ordered }) (O .heapOrder);
     }
       where
-        path-exact : (t .csp ≡ rinf) ⊎ (position (t .csp) + dual-of u (rowOf g (t .isp)) ≡ v (t .jsp) + cost-of g (t .isp)) → (t .csp ≡ rinf)
+        path-exact : (t .csp ≡ rinf) ⊎ (position (t .csp) + dual-of u (rowOf (g .pattern) (t .isp)) ≡ v (t .jsp) + cost-of g (t .isp)) → (t .csp ≡ rinf)
             ⊎ PathEnd Good err C g s u r (t .popped) (t .csp) (t .isp) (t .jsp) → (t .csp ≡ rinf)
-            ⊎ (position (t .csp) + dual-of u (rowOf g (t .isp)) ≡ v' (t .jsp) + cost-of g (t .isp))
+            ⊎ (position (t .csp) + dual-of u (rowOf (g .pattern) (t .isp)) ≡ v' (t .jsp) + cost-of g (t .isp))
         path-exact (inl f) z = inl f
         path-exact (inr h) (inl f) = inl f
         path-exact (inr h) (inr p) = inr (rw (v-same (t .jsp) (p .from)) h)
 
     -- an entry that counts as examined now was examined before
-    before : (i k : ℕ) → Examined g s r (opened g s t q) j (start g j) i k → Scanned s r (t .popped) i × Examined g s r t now (end g now) i k
+    before : (i k : ℕ) → Examined g s r (opened g s t q) j (start (g .pattern) j) i k → Scanned s r (t .popped) i × Examined g s r t now
+        (end (g .pattern) now) i k
     before i k (z, c, b) = go (ℕ-discrete i j)
       where
         old : i ≢ j → Scanned s r (t .popped ++ (q ∷ [])) i → Scanned s r (t .popped) i
@@ -294,11 +296,11 @@ module _ {Good : Float → Type 0} {err C : ℕ} {g : CostGraph} {s : Pairs} {u 
         old o (inr (p, m, e)) = ⊎-elim (λ (a : Among p (t .popped)). inr (p, a, e)) (λ (f : p ≡ q). absurd (o (sym e ∙ ap (at (s .iperm)) f)))
             (among-cases p q (t .popped) m)
 
-        go : Dec (i ≡ j) → Scanned s r (t .popped) i × Examined g s r t now (end g now) i k
-        go (yes e) = absurd (let f = b e in let h = subst (λ (x : ℕ). start g x ≤ k) e (c .above) in let n : ⊥ = omega arith in n)
-        go (no o) = let y = old o z in (y, (y, c, λ e. subst (λ (x : ℕ). k < end g x) e (c .below)))
+        go : Dec (i ≡ j) → Scanned s r (t .popped) i × Examined g s r t now (end (g .pattern) now) i k
+        go (yes e) = absurd (let f = b e in let h = subst (λ (x : ℕ). start (g .pattern) x ≤ k) e (c .above) in let n : ⊥ = omega arith in n)
+        go (no o) = let y = old o z in (y, (y, c, λ e. subst (λ (x : ℕ). k < end (g .pattern) x) e (c .below)))
 
-    scanning-more : Scanning Good err C g s u r (updated rank j (suc (length (t .popped)))) v' (far-of t q) j (start g j) (opened g s t q)
+    scanning-more : Scanning Good err C g s u r (updated rank j (suc (length (t .popped)))) v' (far-of t q) j (start (g .pattern) j) (opened g s t q)
     scanning-more = record {
       grown = grown-more;
       covered = λ i k z. I .covered i k (before i k z .1);
@@ -306,7 +308,7 @@ module _ {Good : Float → Type 0} {err C : ℕ} {g : CostGraph} {s : Pairs} {u 
       near = λ e i k z. let b = before i k z in rw (v-same i (b .0)) (let n = I .near e i k (b .1) in record { free = n .free; matched = n .matched });
     }
 
-    pub extend-keeps : Scanning Good err C g s u r (updated rank j (suc (length (t .popped)))) v' (far-of t q) j (end g j) (extend g s u t)
+    pub extend-keeps : Scanning Good err C g s u r (updated rank j (suc (length (t .popped)))) v' (far-of t q) j (end (g .pattern) j) (extend g s u t)
         × Later (opened g s t q) (extend g s u t)
     unfolding extend scan
     extend-keeps = scan-keeps S M H root (opened g s t q) j far column (inr (q, among-new q (t .popped), refl)) distances scanning-more

@@ -11,7 +11,8 @@ use lib.Ieee.{Float}
 use Rattle.limits.specs.Limits.{none}
 use Rattle.float64.specs.inner.Keys.{position}
 use Rattle.hungarian.specs.Loop.{each}
-use Rattle.hungarian.specs.Graph.{CostGraph, rowOf, start, end, InColumn}
+use Rattle.sparse.specs.Pattern.{rowOf, start, end, InColumn}
+use Rattle.hungarian.specs.Graph.{CostGraph}
 use Rattle.hungarian.specs.Init.{Pairs}
 use Rattle.hungarian.specs.Search.{Tree, edge}
 use Rattle.hungarian.specs.inner.Setting.{Setting}
@@ -26,18 +27,18 @@ use Rattle.hungarian.proofs.TreeCover.{Later, covered-later, later-tran
 -- the distances x by the entries of column j
 pub record Distances (Good : Float → Type 0) (err C : ℕ) (g : CostGraph) (s : Pairs) (u : List Float) (v : ℕ → ℕ) (top depth j : ℕ)
     (x : ℕ → Float) : Type 0 where
-  pub distance : (k : ℕ) → InColumn g j k → GoodDistance Good err (level C (suc depth)) u (rowOf g k) (x k)
-  pub exact : Exact err g s u → (k : ℕ) → InColumn g j k → position (x k) + dual-of u (rowOf g k) ≡ v j + cost-of g k
-  pub high : Exact err g s u → (k : ℕ) → InColumn g j k → top ≤ position (x k)
+  pub distance : (k : ℕ) → InColumn (g .pattern) j k → GoodDistance Good err (level C (suc depth)) u (rowOf (g .pattern) k) (x k)
+  pub exact : Exact err g s u → (k : ℕ) → InColumn (g .pattern) j k → position (x k) + dual-of u (rowOf (g .pattern) k) ≡ v j + cost-of g k
+  pub high : Exact err g s u → (k : ℕ) → InColumn (g .pattern) j k → top ≤ position (x k)
 
 module _ {Good : Float → Type 0} {err C : ℕ} {g : CostGraph} {s : Pairs} {u : List Float} {r : ℕ} {rank v : ℕ → ℕ} {top : ℕ} (S : Setting Good err C g)
-    (M : Matched g s) (H : Tree.HeapLaws (g .n)) (root : at (s .jperm) r ≡ none)
-    (t : Tree) (j : ℕ) (x : ℕ → Float) (column : j < g .n) (scanned : Scanned s r (t .popped) j)
+    (M : Matched g s) (H : Tree.HeapLaws (g .pattern .n)) (root : at (s .jperm) r ≡ none)
+    (t : Tree) (j : ℕ) (x : ℕ → Float) (column : j < g .pattern .n) (scanned : Scanned s r (t .popped) j)
     (X : Distances Good err C g s u v top (length (t .popped)) j x) where
-  step : (k : ℕ) (a : Tree) → start g j ≤ k → k < end g j → Scanning Good err C g s u r rank v top j k a × Later t a
+  step : (k : ℕ) (a : Tree) → start (g .pattern) j ≤ k → k < end (g .pattern) j → Scanning Good err C g s u r rank v top j k a × Later t a
       → Scanning Good err C g s u r rank v top j (suc k) (edge g (s .iperm) (x k) j k a) × Later t (edge g (s .iperm) (x k) j k a)
   step k a lo hi (I, L) =
-      let c : InColumn g j k = record { column = column; above = lo; below = hi } in
+      let c : InColumn (g .pattern) j k = record { column = column; above = lo; below = hi } in
       let E : Tree.Edge Good err C g s u r a j k (x k) = record { from = rw (L .popped) scanned; entry = c; distance = rw (L .popped) (X .distance k c) } in
       let l = edge-later S a j k (x k) E (I .grown) in
       let done : Exact err g s u → Done g s u r v top j k a (edge g (s .iperm) (x k) j k a) =
@@ -75,12 +76,13 @@ module _ {Good : Float → Type 0} {err C : ℕ} {g : CostGraph} {s : Pairs} {u 
           (λ (y : Examined g s r a j k i m). near-lower (d .lower) (I .near e i m y)) (earlier i m l z)
 
   -- up to any entry of the column, and to its end
-  pub scan-to : (k : ℕ) → start g j ≤ k → k ≤ end g j → Scanning Good err C g s u r rank v top j (start g j) t
-      → Scanning Good err C g s u r rank v top j k (each (start g j) k (λ i. edge g (s .iperm) (x i) j i) t)
-      × Later t (each (start g j) k (λ i. edge g (s .iperm) (x i) j i) t)
+  pub scan-to : (k : ℕ) → start (g .pattern) j ≤ k → k ≤ end (g .pattern) j → Scanning Good err C g s u r rank v top j (start (g .pattern) j) t
+      → Scanning Good err C g s u r rank v top j k (each (start (g .pattern) j) k (λ i. edge g (s .iperm) (x i) j i) t)
+      × Later t (each (start (g .pattern) j) k (λ i. edge g (s .iperm) (x i) j i) t)
   scan-to k lo hi I = each-keeps (λ i a. Scanning Good err C g s u r rank v top j i a × Later t a) (λ i. edge g (s .iperm) (x i) j i)
-      (start g j) k t lo (λ i a l h p. step i a l (omega arith) p) (I, later-same t)
+      (start (g .pattern) j) k t lo (λ i a l h p. step i a l (omega arith) p) (I, later-same t)
 
-  pub scan-keeps : Scanning Good err C g s u r rank v top j (start g j) t → Scanning Good err C g s u r rank v top j (end g j)
-      (each (start g j) (end g j) (λ k. edge g (s .iperm) (x k) j k) t) × Later t (each (start g j) (end g j) (λ k. edge g (s .iperm) (x k) j k) t)
-  scan-keeps = scan-to (end g j) (S .columns .pointers .rises j column) (omega arith)
+  pub scan-keeps : Scanning Good err C g s u r rank v top j (start (g .pattern) j) t → Scanning Good err C g s u r rank v top j (end (g .pattern) j)
+      (each (start (g .pattern) j) (end (g .pattern) j) (λ k. edge g (s .iperm) (x k) j k) t) × Later t
+      (each (start (g .pattern) j) (end (g .pattern) j) (λ k. edge g (s .iperm) (x k) j k) t)
+  scan-keeps = scan-to (end (g .pattern) j) (S .columns .pointers .rises j column) (omega arith)

@@ -4,11 +4,12 @@ use mathlib.Core.Path.{_≡_}
 use Prim.Native.Nat.{ℕ, _<_}
 use lib.Dec.{T}
 use lib.Ieee.{binary64, fits}
-use Rattle.hungarian.specs.Graph.{CostGraph, costOf, entries}
+use Rattle.sparse.specs.Pattern.{entries}
+use Rattle.hungarian.specs.Graph.{CostGraph, costOf}
 use Rattle.hungarian.specs.Test.{graphFault, graphLengths}
 
 abbrev pub Accepted : CostGraph → Type 0
 Accepted g = graphFault g (graphLengths g) ≡ 0
 
 abbrev pub Doubles : CostGraph → Type 0
-Doubles g = (k : ℕ) → k < entries g → T (fits binary64 (costOf g k))
+Doubles g = (k : ℕ) → k < entries (g .pattern) → T (fits binary64 (costOf g k))

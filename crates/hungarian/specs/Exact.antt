@@ -12,7 +12,8 @@ use lib.IntN.{ℤ, pos, _+ℤ_, _-ℤ_}
 use lib.Ieee.{Float, nan, binary64, add, sub, lt}
 use Rattle.float64.specs.Number.{wholeOf, IsWhole}
 use Rattle.float64.specs.Constants.{rinf}
-use Rattle.hungarian.specs.Graph.{CostGraph, rowOf, costOf, start, end}
+use Rattle.sparse.specs.Pattern.{rowOf, start, end}
+use Rattle.hungarian.specs.Graph.{CostGraph, costOf}
 use Rattle.hungarian.specs.Init.{Pairs}
 use Rattle.hungarian.specs.Search.{Tree, among, raise}
 
@@ -46,11 +47,11 @@ offsetBy g s u t q = add binary64 (sub binary64 (distanceOf t q) (heldCost g s q
 
 -- the offset of a scanned column as a number: 0 of the root, else that of the row that the column holds
 abbrev pub offsetOf : CostGraph → Pairs → List Float → ℕ → Tree → ℕ → ℤ
-offsetOf g s u r t j = cond (eqb j r) (pos 0) (wholeOf (offsetBy g s u t (rowOf g (getD (s .jperm) j 0))))
+offsetOf g s u r t j = cond (eqb j r) (pos 0) (wholeOf (offsetBy g s u t (rowOf (g .pattern) (getD (s .jperm) j 0))))
 
 -- entry k stands in the column of row q
 abbrev pub Holds : CostGraph → Pairs → ℕ → ℕ → Type 0
-Holds g s q k = (start g (columnFor s q) ≤ k) × (k < end g (columnFor s q))
+Holds g s q k = (start (g .pattern) (columnFor s q) ≤ k) × (k < end (g .pattern) (columnFor s q))
 
 -- the column of the popped row q: its offset (d - c) + u, and (offset + c) - u by each of its entries
 pub record ExactColumn (g : CostGraph) (s : Pairs) (u : List Float) (t : Tree) (q : ℕ) : Type 0 where
@@ -58,13 +59,13 @@ pub record ExactColumn (g : CostGraph) (s : Pairs) (u : List Float) (t : Tree) (
   pub offset : ExactSum (sub binary64 (distanceOf t q) (heldCost g s q)) (dualOf u q)
   pub plusCost : (k : ℕ) → Holds g s q k → ExactSum (offsetBy g s u t q) (costOf g k)
   pub distance : (k : ℕ) → Holds g s q k
-      → ExactDifference (add binary64 (offsetBy g s u t q) (costOf g k)) (dualOf u (rowOf g k))
+      → ExactDifference (add binary64 (offsetBy g s u t q) (costOf g k)) (dualOf u (rowOf (g .pattern) k))
 
 -- x is the distance by entry k of the scanned column j: the offset plus c minus u
 pub record ExactDistance (g : CostGraph) (s : Pairs) (u : List Float) (r : ℕ) (t : Tree) (j k : ℕ) (x : Float)
     : Type 0 where
   pub whole : IsWhole x
-  pub value : wholeOf x ≡ (offsetOf g s u r t j +ℤ wholeOf (costOf g k)) -ℤ wholeOf (dualOf u (rowOf g k))
+  pub value : wholeOf x ≡ (offsetOf g s u r t j +ℤ wholeOf (costOf g k)) -ℤ wholeOf (dualOf u (rowOf (g .pattern) k))
 
 -- the dual of the popped row q after a path: u + (d - csp)
 pub record ExactDual (u : List Float) (t : Tree) (q : ℕ) : Type 0 where
@@ -83,7 +84,8 @@ entryOf s t i = getD (t .out) (columnFor s i) 0
 -- the search from column r, with the pairs s and the row duals u, that ends with the tree t
 pub record ExactSearch (g : CostGraph) (s : Pairs) (u : List Float) (r : ℕ) (t : Tree) : Type 0 where
   -- c - u by each entry of the root
-  pub root : (k : ℕ) → start g r ≤ k → k < end g r → ExactDifference (costOf g k) (dualOf u (rowOf g k))
+  pub root : (k : ℕ) → start (g .pattern) r ≤ k → k < end (g .pattern) r
+      → ExactDifference (costOf g k) (dualOf u (rowOf (g .pattern) k))
   pub columns : (q : ℕ) → T (among q (t .popped)) → ExactColumn g s u t q
   -- a touched row by the column and the entry that reached it, and the path by its last entry
   pub touched : (i : ℕ) → T (among i (t .touched))

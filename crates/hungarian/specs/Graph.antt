@@ -1,50 +1,21 @@
--- SPECIFICATION 5.1: A cost graph: entry k is of row `rowOf g k` and the column j whose stretch `start g j` to `end g
--- j` holds k, at the cost `costOf g k`.
+-- SPECIFICATION 5.1: A cost graph: a pattern, and the cost `costOf g k` of each of its entries.
 use mathlib.Core.List.{List}
-use Prim.Native.Nat.{ℕ, suc, _≤_, _<_}
-use lib.Dec.{leb}
-use lib.ListN.{length, getD}
+use Prim.Native.Nat.{ℕ}
+use lib.ListN.{getD}
 use lib.Ieee.{Float, nan}
-use Rattle.matching.specs.Sum.{sumTo, orZero}
-use Rattle.matching.specs.Matching.{Bipartite}
+use Rattle.sparse.specs.Pattern.{Pattern, pattern}
 
 pub record CostGraph : Type 0 where
-  pub n : ℕ
-  pub colPtr : List ℕ
-  pub rowIdx : List ℕ
+  pub pattern : Pattern
   pub cost : List Float
-
-abbrev pub rowOf : CostGraph → ℕ → ℕ
-rowOf g k = getD (g .rowIdx) k 0
 
 abbrev pub costOf : CostGraph → ℕ → Float
 costOf g k = getD (g .cost) k nan
 
-abbrev pub start : CostGraph → ℕ → ℕ
-start g j = getD (g .colPtr) j 0
-
-abbrev pub end : CostGraph → ℕ → ℕ
-end g j = getD (g .colPtr) (suc j) 0
-
--- how many entries
-abbrev pub entries : CostGraph → ℕ
-entries g = length (g .rowIdx)
-
--- the column of an entry: as many columns end at or before it
-unfoldable pub colOf : CostGraph → ℕ → ℕ
-unfolding sumTo
-colOf g k = sumTo (g .n) (λ j. orZero (leb (end g j) k) 1)
-
--- the graph's rows, columns and entries, of which matchings are made
-abbrev pub bipartite : CostGraph → Bipartite
-bipartite g = record { n = g .n; entries = entries g; row = rowOf g; col = colOf g }
-
--- entry k stands in column j
-pub record InColumn (g : CostGraph) (j k : ℕ) : Type 0 where
-  pub column : j < g .n
-  pub above : start g j ≤ k
-  pub below : k < end g j
+-- a pattern with costs
+abbrev pub withCosts : Pattern → List Float → CostGraph
+withCosts p cost = record { pattern = p; cost = cost }
 
 -- the graph of the lent slices
 abbrev pub graphOf : ℕ → List ℕ → List ℕ → List Float → CostGraph
-graphOf n colPtr rows cost = record { n = n; colPtr = colPtr; rowIdx = rows; cost = cost }
+graphOf n colPtr rows cost = withCosts (pattern n colPtr rows) cost

@@ -11,7 +11,8 @@ use Rattle.float64.specs.Constants.{zero as fzero, rinf}
 use Rattle.index_heap.specs.IndexHeap.{Heap}
 use Rattle.hungarian.specs.declared.HungarianStats.{HungarianStats}
 use Rattle.hungarian.specs.Loop.{each, steps}
-use Rattle.hungarian.specs.Graph.{CostGraph, rowOf, start, end}
+use Rattle.sparse.specs.Pattern.{rowOf, start, end}
+use Rattle.hungarian.specs.Graph.{CostGraph}
 use Rattle.hungarian.specs.Counts.{noCounts, heapMade, columnScanned, searchBegun, searchEnded}
 use Rattle.hungarian.specs.Counts.{rowsPopped, heapSeen}
 use Rattle.hungarian.specs.Init.{Pairs, Improving, reduced, phase1, phase2, phase3}
@@ -32,7 +33,7 @@ pub record Running : Type 0 where
 unfoldable pub treeFrom : CostGraph → ℕ → Running → Tree
 unfolding grow scanRoot searchBegun columnScanned
 treeFrom g j s =
-    grow g (s .pairs) (s .u) (g .n) (scanRoot g (s .pairs) (s .u) j (record {
+    grow g (s .pairs) (s .u) (g .pattern .n) (scanRoot g (s .pairs) (s .u) j (record {
       d = s .d;
       heap = s .heap;
       pr = set (s .pr) j none;
@@ -43,7 +44,7 @@ treeFrom g j s =
       isp = none;
       jsp = none;
       peak = 0;
-      stats = columnScanned (end g j - start g j) (searchBegun (s .stats));
+      stats = columnScanned (end (g .pattern) j - start (g .pattern) j) (searchBegun (s .stats));
     }))
 
 -- with a path the pairs are flipped along it and the popped rows' duals follow; without one both stay
@@ -89,7 +90,8 @@ initial g =
     let minima = phase1 g in
     let claimed = phase2 g minima in
     let improved = phase3 g (minima .u) claimed noCounts in
-    cond (eqb (claimed .num) (g .n)) (record { pairs = claimed; least = []; from = []; stats = noCounts }) improved
+    cond (eqb (claimed .num) (g .pattern .n))
+    (record { pairs = claimed; least = []; from = []; stats = noCounts }) improved
 
 -- the columns below r have had their turn
 unfoldable pub runTo : CostGraph → List Float → Improving → ℕ → Running
@@ -97,16 +99,16 @@ unfolding augment heapMade steps
 runTo g u s r = each 0 r (augment g) (record {
   pairs = s .pairs;
   u = u;
-  d = replicate (g .n) rinf;
-  heap = record { heap = replicate (g .n + 1) 0; pos = replicate (g .n) 0; len = 0 };
-  pr = replicate (g .n) none;
-  out = replicate (g .n) none;
-  stats = heapMade (g .n) (s .stats);
+  d = replicate (g .pattern .n) rinf;
+  heap = record { heap = replicate (g .pattern .n + 1) 0; pos = replicate (g .pattern .n) 0; len = 0 };
+  pr = replicate (g .pattern .n) none;
+  out = replicate (g .pattern .n) none;
+  stats = heapMade (g .pattern .n) (s .stats);
 })
 
 unfoldable pub searched : CostGraph → List Float → Improving → Running
 unfolding runTo
-searched g u s = runTo g u s (g .n)
+searched g u s = runTo g u s (g .pattern .n)
 
 -- ---- the finished match
 pub record Matching : Type 0 where
@@ -119,7 +121,7 @@ pub record Matching : Type 0 where
 -- the row of column j's entry, and v of column j: the matched cost minus u, or 0
 unfoldable pub permOf : CostGraph → List ℕ → List ℕ
 permOf g [] = []
-permOf g (k ∷ ks) = cond (eqb k none) none (rowOf g k) ∷ permOf g ks
+permOf g (k ∷ ks) = cond (eqb k none) none (rowOf (g .pattern) k) ∷ permOf g ks
 
 unfoldable pub columnDuals : CostGraph → List Float → List ℕ → List Float
 columnDuals g u [] = []
@@ -149,7 +151,7 @@ hungarianMatch g =
     let r = searched g u s in
     let early = finish g (s .pairs) u (s .stats) in
     let late = finish g (r .pairs) (r .u) (r .stats) in
-    cond (eqb (s .pairs .num) (g .n)) early late
+    cond (eqb (s .pairs .num) (g .pattern .n)) early late
 
 -- the state in which column r has its turn
 abbrev pub stateAt : CostGraph → ℕ → Running

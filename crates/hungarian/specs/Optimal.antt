@@ -14,12 +14,13 @@ use Rattle.limits.specs.Limits.{none}
 use Rattle.float64.specs.Number.{wholeOf, IsWhole}
 use Rattle.matching.specs.Matching.{IsMatching, Complete, size, total}
 use Rattle.matching.specs.Pairing.{pairedEntries, matchedCount}
-use Rattle.hungarian.specs.Graph.{CostGraph, bipartite, rowOf, colOf, costOf, entries}
+use Rattle.sparse.specs.Pattern.{Pattern, bipartite, rowOf, columnOf, entries}
+use Rattle.hungarian.specs.Graph.{CostGraph, costOf}
 use Rattle.hungarian.specs.Match.{Matching}
 
 -- every cost stands for a whole number
 abbrev pub WholeCosts : CostGraph → Type 0
-WholeCosts g = (k : ℕ) → k < entries g → IsWhole (costOf g k)
+WholeCosts g = (k : ℕ) → k < entries (g .pattern) → IsWhole (costOf g k)
 
 -- the number that a whole cost stands for: a cost is not negative
 unfoldable pub amount : CostGraph → ℕ → ℕ
@@ -30,18 +31,18 @@ abbrev pub rowFor : Matching → ℕ → ℕ
 rowFor m j = getD (m .perm) j 0
 
 -- our pairs (perm j, j) as a set of entries
-unfoldable pub matchedEntries : CostGraph → Matching → ℕ → Bool
+unfoldable pub matchedEntries : Pattern → Matching → ℕ → Bool
 matchedEntries g m = pairedEntries (bipartite g) (rowFor m)
 
 -- row i and column j are joined by an entry
-pub record IsEntry (g : CostGraph) (i j : ℕ) : Type 0 where
+pub record IsEntry (g : Pattern) (i j : ℕ) : Type 0 where
   pub entry : ℕ
   pub within : entry < entries g
   pub row : rowOf g entry ≡ i
-  pub column : colOf g entry ≡ j
+  pub column : columnOf g entry ≡ j
 
 -- of any accepted costs, whole or not
-pub record LargestMatch (g : CostGraph) (m : Matching) : Type 0 where
+pub record LargestMatch (g : Pattern) (m : Matching) : Type 0 where
   -- perm has n places; what stands in one is none, or the row of an entry of its column, and so below n
   pub places : length (m .perm) ≡ g .n
   pub pairs : (j : ℕ) → j < g .n → rowFor m j ≢ none → IsEntry g (rowFor m j) j
@@ -66,19 +67,22 @@ columnDual m j = getD (m .v) j nan
 -- of whole costs
 pub record Optimal (g : CostGraph) (m : Matching) : Type 0 where
   -- perm's pairs are a largest matching, complete where there is a complete one
-  pub ranged : LargestMatch g m
+  pub ranged : LargestMatch (g .pattern) m
   -- a complete one is of least total
-  pub least : m .matched ≡ g .n → (R : ℕ → Bool) → Complete (bipartite g) R
-      → total (bipartite g) (amount g) (matchedEntries g m) ≤ total (bipartite g) (amount g) R
+  pub least : m .matched ≡ g .pattern .n → (R : ℕ → Bool) → Complete (bipartite (g .pattern)) R
+      → total (bipartite (g .pattern)) (amount g) (matchedEntries (g .pattern) m)
+      ≤ total (bipartite (g .pattern)) (amount g) R
   -- the duals are whole, u + v is at most the cost on every entry, and equal to it on ours
-  pub rowsWhole : (i : ℕ) → i < g .n → IsWhole (rowDual m i)
-  pub columnsWhole : (j : ℕ) → j < g .n → IsWhole (columnDual m j)
-  pub feasible : (k : ℕ) → k < entries g
-      → (wholeOf (rowDual m (rowOf g k)) +ℤ wholeOf (columnDual m (colOf g k))) ≤ℤ wholeOf (costOf g k)
-  pub tight : (k : ℕ) → k < entries g → T (matchedEntries g m k)
-      → wholeOf (rowDual m (rowOf g k)) +ℤ wholeOf (columnDual m (colOf g k)) ≡ wholeOf (costOf g k)
+  pub rowsWhole : (i : ℕ) → i < g .pattern .n → IsWhole (rowDual m i)
+  pub columnsWhole : (j : ℕ) → j < g .pattern .n → IsWhole (columnDual m j)
+  pub feasible : (k : ℕ) → k < entries (g .pattern)
+      → (wholeOf (rowDual m (rowOf (g .pattern) k)) +ℤ wholeOf (columnDual m (columnOf (g .pattern) k)))
+      ≤ℤ wholeOf (costOf g k)
+  pub tight : (k : ℕ) → k < entries (g .pattern) → T (matchedEntries (g .pattern) m k)
+      → wholeOf (rowDual m (rowOf (g .pattern) k)) +ℤ wholeOf (columnDual m (columnOf (g .pattern) k))
+      ≡ wholeOf (costOf g k)
 
 -- of whole costs: no dual is above b in size
 pub record DualsWithin (b : ℕ) (g : CostGraph) (m : Matching) : Type 0 where
-  pub rows : (i : ℕ) → i < g .n → natAbs (wholeOf (rowDual m i)) ≤ b
-  pub columns : (j : ℕ) → j < g .n → natAbs (wholeOf (columnDual m j)) ≤ b
+  pub rows : (i : ℕ) → i < g .pattern .n → natAbs (wholeOf (rowDual m i)) ≤ b
+  pub columns : (j : ℕ) → j < g .pattern .n → natAbs (wholeOf (columnDual m j)) ≤ b

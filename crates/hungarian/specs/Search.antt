@@ -11,7 +11,8 @@ use Rattle.float64.specs.Constants.{rinf}
 use Rattle.index_heap.specs.IndexHeap.{Heap, rowAt, placeOf, update, insert, pop}
 use Rattle.hungarian.specs.declared.HungarianStats.{HungarianStats}
 use Rattle.hungarian.specs.Loop.{each, steps}
-use Rattle.hungarian.specs.Graph.{CostGraph, rowOf, costOf, start, end}
+use Rattle.sparse.specs.Pattern.{rowOf, start, end}
+use Rattle.hungarian.specs.Graph.{CostGraph, costOf}
 use Rattle.hungarian.specs.Counts.{columnScanned, larger}
 use Rattle.hungarian.specs.Init.{Pairs, free, reduced}
 
@@ -57,7 +58,7 @@ reach x j k t = record {
 unfoldable pub relax : CostGraph → List ℕ → Float → ℕ → ℕ → Tree → Tree
 unfolding update insert larger
 relax g iperm x j k t =
-    let i = rowOf g k in
+    let i = rowOf (g .pattern) k in
     let jj = getD iperm i 0 in
     let d = set (t .d) i x in
     let moved = cond (eqb (placeOf (t .heap) i) 0) (insert d i (t .heap)) (update d i (t .heap)) in
@@ -80,7 +81,7 @@ relax g iperm x j k t =
 unfoldable pub edge : CostGraph → List ℕ → Float → ℕ → ℕ → Tree → Tree
 unfolding among reach relax
 edge g iperm x j k t =
-    let i = rowOf g k in
+    let i = rowOf (g .pattern) k in
     let reached = reach x j k t in
     let relaxed = relax g iperm x j k t in
     cond (among i (t .popped) || le (t .csp) x) t
@@ -89,14 +90,14 @@ edge g iperm x j k t =
 -- the root column's entries are cost minus u away
 unfoldable pub scanRoot : CostGraph → Pairs → List Float → ℕ → Tree → Tree
 unfolding edge steps
-scanRoot g s u j t = each (start g j) (end g j) (λ k. edge g (s .iperm) (reduced g u k) j k) t
+scanRoot g s u j t = each (start (g .pattern) j) (end (g .pattern) j) (λ k. edge g (s .iperm) (reduced g u k) j k) t
 
 -- a column reached at the offset v: its entries are v plus cost minus u away
 unfoldable pub scan : CostGraph → Pairs → List Float → Float → ℕ → Tree → Tree
 unfolding edge steps
 scan g s u v j t =
-    each (start g j) (end g j)
-    (λ k. edge g (s .iperm) (sub binary64 (add binary64 v (costOf g k)) (getD u (rowOf g k) nan)) j k) t
+    each (start (g .pattern) j) (end (g .pattern) j)
+    (λ k. edge g (s .iperm) (sub binary64 (add binary64 v (costOf g k)) (getD u (rowOf (g .pattern) k) nan)) j k) t
 
 -- the nearest row q leaves the heap, and its column is scanned
 unfoldable pub extend : CostGraph → Pairs → List Float → Tree → Tree
@@ -118,7 +119,7 @@ extend g s u t =
       jsp = t .jsp;
       peak = t .peak;
       stats =
-          columnScanned (end g j - start g j) (t .stats);
+          columnScanned (end (g .pattern) j - start (g .pattern) j) (t .stats);
     })
 
 -- until the heap is empty or no row is nearer than the best path; each turn pops another row, so n turns are enough
@@ -146,14 +147,14 @@ walk g t (suc m) j s =
     let k = getD (t .out) j 0 in
     let rest =
     walk g t m before
-    (record { iperm = set (s .iperm) (rowOf g k) before; jperm = set (s .jperm) before k; num = s .num }) in
+    (record { iperm = set (s .iperm) (rowOf (g .pattern) k) before; jperm = set (s .jperm) before k; num = s .num }) in
     cond (eqb before none) s rest
 
 unfoldable pub flip : CostGraph → Tree → ℕ → ℕ → Pairs → Pairs
 unfolding walk
 flip g t k j s =
     walk g t (s .num + 1) j
-    (record { iperm = set (s .iperm) (rowOf g k) j; jperm = set (s .jperm) j k; num = s .num + 1 })
+    (record { iperm = set (s .iperm) (rowOf (g .pattern) k) j; jperm = set (s .jperm) j k; num = s .num + 1 })
 
 -- u of each popped row gains d minus the path's cost
 unfoldable pub raise : List Float → Float → List ℕ → List Float → List Float
@@ -168,5 +169,7 @@ restore x (i ∷ is) l = restore x is (set l i x)
 -- an alternating path leads from column j to a free row: by an entry of j to a free row, or to a matched one and on
 -- from its column
 pub data Leads (g : CostGraph) (iperm : List ℕ) : ℕ → Type 0 where
-  arrives : {j : ℕ} (k : ℕ) → start g j ≤ k → k < end g j → getD iperm (rowOf g k) 0 ≡ none → Leads g iperm j
-  goes : {j : ℕ} (k : ℕ) → start g j ≤ k → k < end g j → Leads g iperm (getD iperm (rowOf g k) 0) → Leads g iperm j
+  arrives : {j : ℕ} (k : ℕ) → start (g .pattern) j ≤ k → k < end (g .pattern) j
+      → getD iperm (rowOf (g .pattern) k) 0 ≡ none → Leads g iperm j
+  goes : {j : ℕ} (k : ℕ) → start (g .pattern) j ≤ k → k < end (g .pattern) j
+      → Leads g iperm (getD iperm (rowOf (g .pattern) k) 0) → Leads g iperm j

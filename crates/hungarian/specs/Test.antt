@@ -21,10 +21,11 @@ costFault n cost = firstOf (length cost) (λ k. unless (inRange n (getD cost k n
 unfoldable pub graphFault : CostGraph → Bool → ℕ
 unfolding costFault
 graphFault g lengths =
-    orElse (sizeFault (g .n) maxGeneral (length (g .rowIdx)) lengths)
-    (orElse (pointerFault (g .n) (g .colPtr) (length (g .rowIdx)))
-    (orElse (generalColumns (g .n) (g .colPtr) (g .rowIdx)) (costFault (g .n) (g .cost))))
+    orElse (sizeFault (g .pattern .n) maxGeneral (length (g .pattern .rowIdx)) lengths)
+    (orElse (pointerFault (g .pattern .n) (g .pattern .colPtr) (length (g .pattern .rowIdx)))
+    (orElse (generalColumns (g .pattern .n) (g .pattern .colPtr) (g .pattern .rowIdx))
+    (costFault (g .pattern .n) (g .cost))))
 
 -- the lengths of the graph's own slices
 abbrev pub graphLengths : CostGraph → Bool
-graphLengths g = matrixLengths (g .n) (g .colPtr) (g .rowIdx) (g .cost)
+graphLengths g = matrixLengths (g .pattern .n) (g .pattern .colPtr) (g .pattern .rowIdx) (g .cost)

@@ -12,7 +12,8 @@ use Rattle.limits.specs.Limits.{none}
 use Rattle.float64.specs.Constants.{rinf}
 use Rattle.slices.proofs.Bools.{both}
 use Rattle.hungarian.specs.Loop.{each}
-use Rattle.hungarian.specs.Graph.{CostGraph, rowOf, start, end}
+use Rattle.sparse.specs.Pattern.{rowOf, start, end}
+use Rattle.hungarian.specs.Graph.{CostGraph}
 use Rattle.hungarian.specs.Init.{reduced, better, bestOf}
 use Rattle.hungarian.specs.inner.Layout.{region, ipermAt}
 use Rattle.hungarian_best.specs.declared.Best.{Best}
@@ -23,48 +24,52 @@ use Rattle.hungarian_claim.proofs.Words.{each-more, each-none, stop, stop-is, e
 -- f: whether the kept row is free
 pub record Choosing (g : CostGraph) (u : List Float) (w : List ℕ) (j k : ℕ) (b : Best) (f : Bool) : Type 0 where
   pub within : k ≤ stop g j
-  pub begun : start g j < k
-  pub above : start g j ≤ b .place
+  pub begun : start (g .pattern) j < k
+  pub above : start (g .pattern) j ≤ b .place
   pub below : b .place < stop g j
-  pub row : b .row < g .n
+  pub row : b .row < g .pattern .n
   pub free : f ≡ eqb (getD w (b .row) 0) none
-  pub run : each k (end g j) (better g u (region ipermAt (g .n) w)) (bestView b) ≡ bestOf g u (region ipermAt (g .n) w) j
+  pub run : each k (end (g .pattern) j) (better g u (region ipermAt (g .pattern .n) w)) (bestView b) ≡ bestOf g u (region ipermAt (g .pattern .n) w) j
 
-module _ {g : CostGraph} {j : ℕ} (sound : Sound g) (h : j < g .n) where
-  pub choosing-start : (u : List Float) (w : List ℕ) → start g j < stop g j
-      → Choosing g u w j (start g j + 1) (record { value = reduced g u (start g j); row = rowOf g (start g j); place = start g j })
-      (eqb (getD w (rowOf g (start g j)) 0) none)
+module _ {g : CostGraph} {j : ℕ} (sound : Sound g) (h : j < g .pattern .n) where
+  pub choosing-start : (u : List Float) (w : List ℕ) → start (g .pattern) j < stop g j
+      → Choosing g u w j (start (g .pattern) j + 1) (record {
+        value = reduced g u (start (g .pattern) j);
+        row = rowOf (g .pattern) (start (g .pattern) j);
+        place = start (g .pattern) j;
+      })
+      (eqb (getD w (rowOf (g .pattern) (start (g .pattern) j)) 0) none)
   unfolding bestOf
   choosing-start u w b =
       record {
         within = omega arith;
         begun = omega arith;
-        above = le-refl (start g j);
+        above = le-refl (start (g .pattern) j);
         below = b;
-        row = entry-in g j (start g j) sound h b .1;
+        row = entry-in g j (start (g .pattern) j) sound h b .1;
         free = refl;
         run = refl;
       }
 
   module _ {u : List Float} {w : List ℕ} {k : ℕ} {b : Best} {f : Bool} (c : Choosing g u w j k b f) (l : k < stop g j) where
     abbrev iperm : List ℕ
-    iperm = region ipermAt (g .n) w
+    iperm = region ipermAt (g .pattern .n) w
 
     -- the test of equals, as the code reads it
     abbrev stays : Bool
-    stays = eq (reduced g u k) (b .value) && ne (reduced g u k) rinf && (not (eqb (getD w (rowOf g k) 0) none) || f)
+    stays = eq (reduced g u k) (b .value) && ne (reduced g u k) rinf && (not (eqb (getD w (rowOf (g .pattern) k) 0) none) || f)
 
     same-test : (eq (reduced g u k) (b .value) && ne
-        (reduced g u k) rinf && (not (eqb (getD iperm (rowOf g k) 0) none) || eqb (getD iperm (b .row) 0) none)) ≡ stays
+        (reduced g u k) rinf && (not (eqb (getD iperm (rowOf (g .pattern) k) 0) none) || eqb (getD iperm (b .row) 0) none)) ≡ stays
     same-test =
         rw (
-          word ipermAt (g .n) w (rowOf g k) (rowOf g k) (omega arith) (entry-in g j k sound h l .1) 0,
-          word ipermAt (g .n) w (b .row) (b .row) (omega arith) (c .row) 0,
+          word ipermAt (g .pattern .n) w (rowOf (g .pattern) k) (rowOf (g .pattern) k) (omega arith) (entry-in g j k sound h l .1) 0,
+          word ipermAt (g .pattern .n) w (b .row) (b .row) (omega arith) (c .row) 0,
           c .free,
         ) refl
 
-    more : each (k + 1) (end g j) (better g u iperm) (better g u iperm k (bestView b)) ≡ bestOf g u iperm j
-    more = sym (each-more (better g u iperm) k (end g j) (bestView b) (rw (stop-is g j) at l)) ∙ c .run
+    more : each (k + 1) (end (g .pattern) j) (better g u iperm) (better g u iperm k (bestView b)) ≡ bestOf g u iperm j
+    more = sym (each-more (better g u iperm) k (end (g .pattern) j) (bestView b) (rw (stop-is g j) at l)) ∙ c .run
 
     kept : better g u iperm k (bestView b) ≡ bestView b → Choosing g u w j (k + 1) b f
     kept e =
@@ -89,13 +94,13 @@ module _ {g : CostGraph} {j : ℕ} (sound : Sound g) (h : j < g .n) where
         go false false t e q = absurd (true≢false q)
 
     pub choosing-moves : (not (lt (b .value) (reduced g u k)) && not stays) ≡ true
-        → Choosing g u w j (k + 1) (record { value = reduced g u k; row = rowOf g k; place = k }) (eqb (getD w (rowOf g k) 0) none)
+        → Choosing g u w j (k + 1) (record { value = reduced g u k; row = rowOf (g .pattern) k; place = k }) (eqb (getD w (rowOf (g .pattern) k) 0) none)
     unfolding better
     choosing-moves q =
         let p = both (not (lt (b .value) (reduced g u k))) (not stays) q in
         let t = opposite (lt (b .value) (reduced g u k)) (p .0) in
         let e = opposite stays (p .1) in
-        let m : better g u iperm k (bestView b) ≡ record { value = reduced g u k; row = rowOf g k; place = k } = rw (t, same-test, e) refl in
+        let m : better g u iperm k (bestView b) ≡ record { value = reduced g u k; row = rowOf (g .pattern) k; place = k } = rw (t, same-test, e) refl in
         record {
           within = omega arith;
           begun = omega (arith, c .begun);
@@ -111,9 +116,9 @@ module _ {g : CostGraph} {j : ℕ} (sound : Sound g) (h : j < g .n) where
         opposite false q = refl
 
   pub choosing-end : {u : List Float} {w : List ℕ} {k : ℕ} {b : Best} {f : Bool} → Choosing g u w j k b f → stop g j ≤ k
-      → BestEntry g u (region ipermAt (g .n) w) j b
+      → BestEntry g u (region ipermAt (g .pattern .n) w) j b
   choosing-end {u} {w} {k} {b} c l = record {
-    tie = sym (each-none (better g u (region ipermAt (g .n) w)) k (end g j) (bestView b) (rw (stop-is g j) at l)) ∙ c .run;
+    tie = sym (each-none (better g u (region ipermAt (g .pattern .n) w)) k (end (g .pattern) j) (bestView b) (rw (stop-is g j) at l)) ∙ c .run;
     above = c .above;
     below = rw (stop-is g j) at (c .below);
     row = c .row;

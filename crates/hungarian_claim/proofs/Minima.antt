@@ -12,7 +12,8 @@ use lib.Ieee.{Float, nan, inf, fin, le, lt, eq, level, below, up, down}
 use Rattle.limits.specs.Limits.{none}
 use Rattle.float64.specs.Constants.{rinf}
 use Rattle.hungarian.specs.Loop.{each}
-use Rattle.hungarian.specs.Graph.{CostGraph, rowOf, costOf, start, end}
+use Rattle.sparse.specs.Pattern.{rowOf, start, end}
+use Rattle.hungarian.specs.Graph.{CostGraph, costOf}
 use Rattle.hungarian.specs.Init.{lower, phase1}
 use Rattle.hungarian.specs.inner.Layout.{region, ipermAt, jpermAt, leastAt}
 use Rattle.hungarian.proofs.Regions.{region-length}
@@ -112,13 +113,14 @@ at-most-itself (fin s m e) y t = or-level (below s a s a) s
 
 pub record Lowering (g : CostGraph) (j : ℕ) (u₀ : List Float) (w₀ : List ℕ) (u : List Float) (w : List ℕ) (k : ℕ) : Type 0 where
   pub within : k ≤ stop g j
-  pub duals : length u ≡ g .n
-  pub words : length w ≡ 12 * g .n + 1
-  pub entries : region jpermAt (g .n) w ≡ region jpermAt (g .n) w₀
-  pub run : each k (end g j) (lower g j) (minimaOf (g .n) u w) ≡ each (start g j) (end g j) (lower g j) (minimaOf (g .n) u₀ w₀)
+  pub duals : length u ≡ g .pattern .n
+  pub words : length w ≡ 12 * g .pattern .n + 1
+  pub entries : region jpermAt (g .pattern .n) w ≡ region jpermAt (g .pattern .n) w₀
+  pub run : each k (end (g .pattern) j) (lower g j) (minimaOf (g .pattern .n) u w) ≡ each (start (g .pattern) j) (end (g .pattern) j) (lower g j)
+      (minimaOf (g .pattern .n) u₀ w₀)
 
-module _ {g : CostGraph} {j : ℕ} {u₀ : List Float} {w₀ : List ℕ} (ready : Ready g u₀ w₀) (h : j < g .n) where
-  pub lowering-start : Lowering g j u₀ w₀ u₀ w₀ (start g j)
+module _ {g : CostGraph} {j : ℕ} {u₀ : List Float} {w₀ : List ℕ} (ready : Ready g u₀ w₀) (h : j < g .pattern .n) where
+  pub lowering-start : Lowering g j u₀ w₀ u₀ w₀ (start (g .pattern) j)
   lowering-start = record {
     within = rw (stop-is g j) (ready .sound .columns .pointers .rises j h);
     duals = ready .duals;
@@ -129,12 +131,12 @@ module _ {g : CostGraph} {j : ℕ} {u₀ : List Float} {w₀ : List ℕ} (ready 
   }
 
   module _ {u : List Float} {w : List ℕ} {k : ℕ} (s : Lowering g j u₀ w₀ u w k) where
-    lowering-takes : k < stop g j → le (costOf g k) (getD u (rowOf g k) nan) ≡ true → Lowering g j u₀ w₀ (set u (rowOf g k) (costOf g k))
-        (set (set w (rowOf g k) j) (2 * g .n + rowOf g k) k) (k + 1)
+    lowering-takes : k < stop g j → le (costOf g k) (getD u (rowOf (g .pattern) k) nan) ≡ true → Lowering g j u₀ w₀ (set u (rowOf (g .pattern) k) (costOf g k))
+        (set (set w (rowOf (g .pattern) k) j) (2 * g .pattern .n + rowOf (g .pattern) k) k) (k + 1)
     unfolding lower
     lowering-takes b t =
-        let n = g .n in
-        let i = rowOf g k in
+        let n = g .pattern .n in
+        let i = rowOf (g .pattern) k in
         let l : i < n = entry-in g j k (ready .sound) h b .1 in
         let a : List ℕ = set w i j in
         let rows : region ipermAt n (set a (2 * n + i) k) ≡ set (region ipermAt n w) i j =
@@ -148,64 +150,79 @@ module _ {g : CostGraph} {j : ℕ} {u₀ : List Float} {w₀ : List ℕ} (ready 
           words = simp length-set (s .words);
           entries = apart leastAt n a (2 * n + i) i (omega arith) l jpermAt k (inl (omega arith)) ∙ apart ipermAt n w i i (omega arith) l jpermAt j
               (inr (omega arith)) ∙ s .entries;
-          run = rw (← step, ← each-more (lower g j) k (end g j) (minimaOf n u w) (rw (stop-is g j) at b)) (s .run);
+          run = rw (← step, ← each-more (lower g j) k (end (g .pattern) j) (minimaOf n u w) (rw (stop-is g j) at b)) (s .run);
         }
 
-    lowering-keeps : k < stop g j → le (costOf g k) (getD u (rowOf g k) nan) ≡ false → Lowering g j u₀ w₀ u w (k + 1)
+    lowering-keeps : k < stop g j → le (costOf g k) (getD u (rowOf (g .pattern) k) nan) ≡ false → Lowering g j u₀ w₀ u w (k + 1)
     unfolding lower
     lowering-keeps b t =
-        let step : lower g j k (minimaOf (g .n) u w) ≡ minimaOf (g .n) u w = rw t refl in
-        let more = each-more (lower g j) k (end g j) (minimaOf (g .n) u w) (rw (stop-is g j) at b) in
+        let step : lower g j k (minimaOf (g .pattern .n) u w) ≡ minimaOf (g .pattern .n) u w = rw t refl in
+        let more = each-more (lower g j) k (end (g .pattern) j) (minimaOf (g .pattern .n) u w) (rw (stop-is g j) at b) in
         record { within = omega arith; duals = s .duals; words = s .words; entries = s .entries; run = rw step at (sym more) ∙ s .run }
 
     -- an entry that writes always: what it takes, or what was there
-    pub lowering-turn : k < stop g j → (z : Float) (x y : ℕ) → z ≡ cond (le (costOf g k) (getD u (rowOf g k) nan)) (costOf g k) (getD u (rowOf g k) nan)
-        → x ≡ cond (le (costOf g k) z) j (getD w (rowOf g k) 0) → y ≡ cond (le (costOf g k) z) k (getD w (2 * g .n + rowOf g k) 0)
-        → Lowering g j u₀ w₀ (set u (rowOf g k) z) (set (set w (rowOf g k) x) (2 * g .n + rowOf g k) y) (k + 1)
-    lowering-turn b z x y lowest column entry = go (le (costOf g k) (getD u (rowOf g k) nan)) refl
+    pub lowering-turn : k < stop g j → (z : Float) (x y : ℕ) → z ≡ cond (le (costOf g k) (getD u (rowOf (g .pattern) k) nan)) (costOf g k)
+        (getD u (rowOf (g .pattern) k) nan)
+        → x ≡ cond (le (costOf g k) z) j (getD w (rowOf (g .pattern) k) 0) → y ≡ cond (le (costOf g k) z) k
+        (getD w (2 * g .pattern .n + rowOf (g .pattern) k) 0)
+        → Lowering g j u₀ w₀ (set u (rowOf (g .pattern) k) z) (set (set w (rowOf (g .pattern) k) x) (2 * g .pattern .n + rowOf (g .pattern) k) y) (k + 1)
+    lowering-turn b z x y lowest column entry = go (le (costOf g k) (getD u (rowOf (g .pattern) k) nan)) refl
       where
-        go : (taken : Bool) → le (costOf g k) (getD u (rowOf g k) nan) ≡ taken
-            → Lowering g j u₀ w₀ (set u (rowOf g k) z) (set (set w (rowOf g k) x) (2 * g .n + rowOf g k) y) (k + 1)
+        go : (taken : Bool) → le (costOf g k) (getD u (rowOf (g .pattern) k) nan) ≡ taken
+            → Lowering g j u₀ w₀ (set u (rowOf (g .pattern) k) z) (set (set w (rowOf (g .pattern) k) x) (2 * g .pattern .n + rowOf (g .pattern) k) y) (k + 1)
         go true t =
             let least : z ≡ costOf g k = rw t at lowest in
-            let same : le (costOf g k) z ≡ true = rw least (at-most-itself (costOf g k) (getD u (rowOf g k) nan) t) in
+            let same : le (costOf g k) z ≡ true = rw least (at-most-itself (costOf g k) (getD u (rowOf (g .pattern) k) nan) t) in
             let rows : x ≡ j = rw same at column in
             let places : y ≡ k = rw same at entry in
             rw (least, rows, places) (lowering-takes b t)
         go false t =
-            let kept : z ≡ getD u (rowOf g k) nan = rw t at lowest in
+            let kept : z ≡ getD u (rowOf (g .pattern) k) nan = rw t at lowest in
             let same : le (costOf g k) z ≡ false = rw kept t in
-            let rows : x ≡ getD w (rowOf g k) 0 = rw same at column in
-            let places : y ≡ getD w (2 * g .n + rowOf g k) 0 = rw same at entry in
-            rw (kept, rows, places, set-getD u (rowOf g k) nan, set-getD w (rowOf g k) 0, set-getD w (2 * g .n + rowOf g k) 0) (lowering-keeps b t)
+            let rows : x ≡ getD w (rowOf (g .pattern) k) 0 = rw same at column in
+            let places : y ≡ getD w (2 * g .pattern .n + rowOf (g .pattern) k) 0 = rw same at entry in
+            rw (
+              kept,
+              rows,
+              places,
+              set-getD u (rowOf (g .pattern) k) nan,
+              set-getD w (rowOf (g .pattern) k) 0,
+              set-getD w
+                  (2 * g .pattern .n + rowOf (g .pattern) k) 0,
+            ) (lowering-keeps b t)
 
     pub lowering-end : stop g j ≤ k → Lowered g j u₀ w₀ u w
-    lowering-end b = record { minima = sym (each-none (lower g j) k (end g j) (minimaOf (g .n) u w) (rw (stop-is g j) at b)) ∙ s .run; entries = s .entries }
+    lowering-end b = record {
+      minima = sym (each-none (lower g j) k (end (g .pattern) j) (minimaOf (g .pattern .n) u w) (rw (stop-is g j) at b))
+          ∙ s .run;
+      entries = s .entries;
+    }
 
 -- ---- the columns from j on
 pub record Scanning (g : CostGraph) (u : List Float) (w : List ℕ) (j : ℕ) : Type 0 where
-  pub within : j ≤ g .n
+  pub within : j ≤ g .pattern .n
   pub ready : Ready g u w
-  pub entries : region jpermAt (g .n) w ≡ replicate (g .n) none
-  pub run : each j (g .n) (λ i. each (start g i) (end g i) (lower g i)) (minimaOf (g .n) u w) ≡ phase1 g
+  pub entries : region jpermAt (g .pattern .n) w ≡ replicate (g .pattern .n) none
+  pub run : each j (g .pattern .n) (λ i. each (start (g .pattern) i) (end (g .pattern) i) (lower g i)) (minimaOf (g .pattern .n) u w) ≡ phase1 g
 
-pub scanning-start : {g : CostGraph} {u : List Float} {w : List ℕ} → Ready g u w → Cleared (g .n) u w → Scanning g u w 0
+pub scanning-start : {g : CostGraph} {u : List Float} {w : List ℕ} → Ready g u w → Cleared (g .pattern .n) u w → Scanning g u w 0
 unfolding phase1
 scanning-start {g} r c = record { within = omega arith; ready = r; entries = c .entries; run = rw (c .minima) refl }
 
 module _ {g : CostGraph} {u : List Float} {w : List ℕ} {j : ℕ} (s : Scanning g u w j) where
-  pub scanning-turn : {u' : List Float} {w' : List ℕ} → j < g .n → length u' ≡ length u → length w' ≡ length w → Lowered g j u w u' w'
+  pub scanning-turn : {u' : List Float} {w' : List ℕ} → j < g .pattern .n → length u' ≡ length u → length w' ≡ length w → Lowered g j u w u' w'
       → Scanning g u' w' (j + 1)
   scanning-turn {u'} {w'} h a b l = record {
     within = omega arith;
     ready = record { sound = s .ready .sound; duals = a ∙ s .ready .duals; words = b ∙ s .ready .words };
     entries = l .entries ∙ s .entries;
-    run = rw (l .minima, ← each-more (λ i. each (start g i) (end g i) (lower g i)) j (g .n) (minimaOf (g .n) u w) h) (s .run);
+    run = rw (l .minima, ← each-more (λ i. each (start (g .pattern) i) (end (g .pattern) i) (lower g i)) j (g .pattern .n) (minimaOf (g .pattern .n) u w) h)
+        (s .run);
   }
 
-  pub scanning-end : g .n ≤ j → Minimal g u w
+  pub scanning-end : g .pattern .n ≤ j → Minimal g u w
   scanning-end h = record {
-    minima = sym (each-none (λ i. each (start g i) (end g i) (lower g i)) j (g .n) (minimaOf (g .n) u w) h) ∙ s .run;
+    minima = sym (each-none (λ i. each (start (g .pattern) i) (end (g .pattern) i) (lower g i)) j (g .pattern .n) (minimaOf (g .pattern .n) u w) h) ∙ s .run;
     entries =
         s .entries;
   }

@@ -9,9 +9,10 @@ use native.Mathlib.Omega.{arith}
 use lib.ListN.{getD, set}
 use lib.Ieee.{le}
 use Rattle.hungarian.specs.Loop.{steps, each}
-use Rattle.hungarian.specs.Graph.{CostGraph, rowOf, end, entries}
+use Rattle.sparse.specs.Pattern.{rowOf, end, entries}
+use Rattle.hungarian.specs.Graph.{CostGraph}
 use Rattle.hungarian.specs.inner.Layout.{region}
-use Rattle.hungarian.proofs.Columns.{pointers-rise}
+use Rattle.sparse.proofs.Columns.{pointers-rise}
 use Rattle.hungarian.proofs.Regions.{region-at, region-set, region-apart}
 use Rattle.hungarian_claim.specs.inner.Memory.{Sound}
 
@@ -28,16 +29,22 @@ each-none f k to s h = let e : to - k ≡ 0 = omega arith in rw e refl
 
 -- where a column ends, as the code reads it
 abbrev pub stop : CostGraph → ℕ → ℕ
-stop g j = getD (g .colPtr) (j + 1) 0
+stop g j = getD (g .pattern .colPtr) (j + 1) 0
 
-pub stop-is : (g : CostGraph) (j : ℕ) → stop g j ≡ end g j
+pub stop-is : (g : CostGraph) (j : ℕ) → stop g j ≡ end (g .pattern) j
 stop-is g j = rw (add-one j) refl
 
 -- an entry of a column is one of the graph's, and its row one of the n
-pub entry-in : (g : CostGraph) (j k : ℕ) → Sound g → j < g .n → k < stop g j → (k < entries g) × (rowOf g k < g .n)
+pub entry-in : (g : CostGraph) (j k : ℕ) → Sound g → j < g .pattern .n → k < stop g j → (k < entries (g .pattern)) × (rowOf (g .pattern) k < g .pattern .n)
 entry-in g j k s h b =
     let o = s .columns in
-    let t : k < entries g = omega (arith, stop-is g j, pointers-rise g o (suc j) (g .n) h (le-refl (g .n)), o .pointers .last) in
+    let t : k < entries (g .pattern) = omega (
+      arith,
+      stop-is g j,
+      pointers-rise (g .pattern) o (suc j) (g .pattern .n) h
+          (le-refl (g .pattern .n)),
+      o .pointers .last,
+    ) in
     (t, o .inside k t)
 
 -- ---- place p of a slice is place i of its region r

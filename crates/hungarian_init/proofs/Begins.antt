@@ -9,7 +9,8 @@ use lib.Ieee.{Float}
 use Rattle.limits.specs.Limits.{none}
 use Rattle.float64.specs.Number.{unitsPerOne, Number}
 use Rattle.hungarian.specs.declared.HungarianStats.{HungarianStats}
-use Rattle.hungarian.specs.Graph.{CostGraph, entries}
+use Rattle.sparse.specs.Pattern.{entries}
+use Rattle.hungarian.specs.Graph.{CostGraph}
 use Rattle.hungarian.specs.Accepted.{Accepted, Doubles}
 use Rattle.hungarian.specs.Counts.{noCounts}
 use Rattle.hungarian.specs.Init.{RowMinima, Pairs, Improving, phase1, phase2}
@@ -24,7 +25,7 @@ use Rattle.hungarian_init.specs.inner.Steps.{improvingOf, Prepared, Impr
 use Rattle.hungarian_claim.specs.inner.Steps.{Minimal, Claimable, ClaimedRows}
 
 module _ (g : CostGraph) (accepted : Accepted g) (doubles : Doubles g) where
-  setting : Setting Number unitsPerOne (costLimit (g .n)) g
+  setting : Setting Number unitsPerOne (costLimit (g .pattern .n)) g
   setting = near-setting g accepted doubles
 
   pub sound : Sound g
@@ -33,14 +34,14 @@ module _ (g : CostGraph) (accepted : Accepted g) (doubles : Doubles g) where
       record { columns = s .columns; pointerCount = s .pointerCount; costCount = s .costCount; fewColumns = s .fewColumns; fewEntries = s .fewEntries }
 
   -- the columns that phase 1 leaves are columns
-  minima-columned : Columned (g .n) (phase1 g .iperm)
+  minima-columned : Columned (g .pattern .n) (phase1 g .iperm)
   minima-columned i h = go (phase1-minima setting .rows i h)
     where
-      go : {x : Float} {j k : ℕ} → Row g (entries g) i x j k → (j ≡ none) ⊎ (j < g .n)
+      go : {x : Float} {j k : ℕ} → Row g (entries (g .pattern)) i x j k → (j ≡ none) ⊎ (j < g .pattern .n)
       go (inl r) = inl (r .column)
       go (inr r) = inr (r .column .column)
 
-  pub claimable : {u : List Float} {w : List ℕ} → Minimal g u w → length w ≡ 12 * g .n + 1 → Claimable (g .n) (g .colPtr) w
+  pub claimable : {u : List Float} {w : List ℕ} → Minimal g u w → length w ≡ 12 * g .pattern .n + 1 → Claimable (g .pattern .n) (g .pattern .colPtr) w
   claimable m l = record {
     workspace = record { words = l; small = sound .fewColumns };
     pointerCount = sound .pointerCount;
@@ -48,33 +49,38 @@ module _ (g : CostGraph) (accepted : Accepted g) (doubles : Doubles g) where
     columned = rw (ap (λ (s : RowMinima). s .iperm) (m .minima)) minima-columned;
   }
 
-module _ {g : CostGraph} {u : List Float} {w w' : List ℕ} {num : ℕ} (m : Minimal g u w) (c : ClaimedRows (g .n) (g .colPtr) w w' num) where
+module _ {g : CostGraph} {u : List Float} {w w' : List ℕ} {num : ℕ} (m : Minimal g u w) (c : ClaimedRows (g .pattern .n) (g .pattern .colPtr) w w' num) where
   minimal-duals : u ≡ phase1 g .u
   minimal-duals = ap (λ (s : RowMinima). s .u) (m .minima)
 
   -- the pairs of phase 2
-  claimed : pairsCounted (g .n) w' num ≡ phase2 g (phase1 g)
+  claimed : pairsCounted (g .pattern .n) w' num ≡ phase2 g (phase1 g)
   unfolding phase2
-  claimed = c .pairs (g .rowIdx) (g .cost) ∙ rw (ap (λ (s : RowMinima). s .iperm) (m .minima), ap (λ (s : RowMinima). s .least) (m .minima), m .entries) refl
+  claimed = c .pairs (g .pattern .rowIdx) (g .cost) ∙ rw (
+    ap (λ (s : RowMinima). s .iperm) (m .minima),
+    ap (λ (s : RowMinima). s .least)
+        (m .minima),
+    m .entries,
+  ) refl
 
   claimed-num : phase2 g (phase1 g) .num ≡ num
   claimed-num = sym (ap (λ (s : Pairs). s .num) claimed)
 
   -- every column is matched
-  pub begun-early : {u' : List Float} {stats : HungarianStats} → num ≡ g .n → u' ≡ emptyRowsZeroed u → stats ≡ noCounts
+  pub begun-early : {u' : List Float} {stats : HungarianStats} → num ≡ g .pattern .n → u' ≡ emptyRowsZeroed u → stats ≡ noCounts
       → Begun g u' w' (record { matched = num; stats = stats })
   unfolding initial
   begun-early {u'} {stats} e q s =
       record {
-        iperm = rw (claimed-num, eq-eqb num (g .n) e) (ap (λ (p : Pairs). p .iperm) claimed);
-        jperm = rw (claimed-num, eq-eqb num (g .n) e) (ap (λ (p : Pairs). p .jperm) claimed);
+        iperm = rw (claimed-num, eq-eqb num (g .pattern .n) e) (ap (λ (p : Pairs). p .iperm) claimed);
+        jperm = rw (claimed-num, eq-eqb num (g .pattern .n) e) (ap (λ (p : Pairs). p .jperm) claimed);
         duals = q ∙ ap emptyRowsZeroed minimal-duals;
-        num = rw (claimed-num, eq-eqb num (g .n) e) (sym claimed-num);
-        stats = rw (claimed-num, eq-eqb num (g .n) e) s;
+        num = rw (claimed-num, eq-eqb num (g .pattern .n) e) (sym claimed-num);
+        stats = rw (claimed-num, eq-eqb num (g .pattern .n) e) s;
       }
 
-  pub improvable : {w'' : List ℕ} {fw : List Float} {stats : HungarianStats} → Sound g → length u ≡ g .n → length w'' ≡ 12 * g .n + 1
-      → length fw ≡ 2 * g .n → stats ≡ noCounts → Prepared (g .n) (g .colPtr) w' w'' fw → Improvable g u w'' fw num stats
+  pub improvable : {w'' : List ℕ} {fw : List Float} {stats : HungarianStats} → Sound g → length u ≡ g .pattern .n → length w'' ≡ 12 * g .pattern .n + 1
+      → length fw ≡ 2 * g .pattern .n → stats ≡ noCounts → Prepared (g .pattern .n) (g .pattern .colPtr) w' w'' fw → Improvable g u w'' fw num stats
   improvable {w''} {fw} {stats} s a b d z p = record {
     sound = s;
     words = b;
@@ -86,13 +92,14 @@ module _ {g : CostGraph} {u : List Float} {w w' : List ℕ} {num : ℕ} (m : Min
     state = rw (p .pairs num ∙ claimed, p .from, p .least, z) refl;
   }
 
-  pub begun-late : {u' : List Float} {w'' : List ℕ} (fw : List Float) {r : Counts} → num ≢ g .n → u' ≡ emptyRowsZeroed u → improvingOf (g .n) w'' fw
+  pub begun-late : {u' : List Float} {w'' : List ℕ} (fw : List Float) {r : Counts} → num ≢ g .pattern .n → u' ≡ emptyRowsZeroed u
+      → improvingOf (g .pattern .n) w'' fw
       (r .matched) (r .stats) ≡ improved g → Begun g u' w'' r
   unfolding initial
   begun-late fw {r = r} d q i = record {
-    iperm = rw (claimed-num, ne-eqb num (g .n) d) (ap (λ (s : Improving). s .pairs .iperm) i);
-    jperm = rw (claimed-num, ne-eqb num (g .n) d) (ap (λ (s : Improving). s .pairs .jperm) i);
+    iperm = rw (claimed-num, ne-eqb num (g .pattern .n) d) (ap (λ (s : Improving). s .pairs .iperm) i);
+    jperm = rw (claimed-num, ne-eqb num (g .pattern .n) d) (ap (λ (s : Improving). s .pairs .jperm) i);
     duals = q ∙ ap emptyRowsZeroed minimal-duals;
-    num = rw (claimed-num, ne-eqb num (g .n) d) (ap (λ (s : Improving). s .pairs .num) i);
-    stats = rw (claimed-num, ne-eqb num (g .n) d) (ap (λ (s : Improving). s .stats) i);
+    num = rw (claimed-num, ne-eqb num (g .pattern .n) d) (ap (λ (s : Improving). s .pairs .num) i);
+    stats = rw (claimed-num, ne-eqb num (g .pattern .n) d) (ap (λ (s : Improving). s .stats) i);
   }

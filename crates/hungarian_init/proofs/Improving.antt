@@ -15,11 +15,12 @@ use lib.Ieee.{Float, nan, lt, le}
 use Rattle.limits.specs.Limits.{none}
 use Rattle.hungarian.specs.declared.HungarianStats.{HungarianStats}
 use Rattle.hungarian.specs.Loop.{each}
-use Rattle.hungarian.specs.Graph.{CostGraph, rowOf, start, end, entries}
+use Rattle.sparse.specs.Pattern.{rowOf, start, end, entries}
+use Rattle.hungarian.specs.Graph.{CostGraph}
 use Rattle.hungarian.specs.Counts.{innerStep}
 use Rattle.hungarian.specs.Init.{Improving, reduced, pair, swap, seek, attempt, improve, phase3}
 use Rattle.hungarian.specs.inner.Layout.{region, ipermAt, jpermAt, fromAt, valueAt}
-use Rattle.hungarian.proofs.Columns.{pointers-rise}
+use Rattle.sparse.proofs.Columns.{pointers-rise}
 use Rattle.hungarian.proofs.Regions.{region-length}
 use Rattle.hungarian_best.specs.declared.Best.{Best}
 use Rattle.hungarian_best.specs.inner.Steps.{Linked, BestEntry, bestView}
@@ -31,123 +32,128 @@ use Rattle.hungarian_init.proofs.Steps.{settled, seek-more, seek-hit, s
 use Rattle.hungarian_init.proofs.Steps.{improve-take, improve-try}
 
 pub record Memory (g : CostGraph) (w : List ℕ) (fw : List Float) : Type 0 where
-  pub words : length w ≡ 12 * g .n + 1
-  pub values : length fw ≡ 2 * g .n
-  pub columned : Columned (g .n) (region ipermAt (g .n) w)
+  pub words : length w ≡ 12 * g .pattern .n + 1
+  pub values : length fw ≡ 2 * g .pattern .n
+  pub columned : Columned (g .pattern .n) (region ipermAt (g .pattern .n) w)
 
 -- what may be read at entry k
 pub record Readable (g : CostGraph) (u : List Float) (k : ℕ) : Type 0 where
-  pub entry : k < entries g
+  pub entry : k < entries (g .pattern)
   pub small : k < 262144
   pub costThere : k < length (g .cost)
-  pub row : rowOf g k < g .n
-  pub dual : rowOf g k < length u
-  pub few : g .n ≤ 4096
+  pub row : rowOf (g .pattern) k < g .pattern .n
+  pub dual : rowOf (g .pattern) k < length u
+  pub few : g .pattern .n ≤ 4096
 
-pub readable : (g : CostGraph) (u : List Float) (j k : ℕ) → Sound g → length u ≡ g .n → j < g .n → k < stop g j → Readable g u k
+pub readable : (g : CostGraph) (u : List Float) (j k : ℕ) → Sound g → length u ≡ g .pattern .n → j < g .pattern .n → k < stop g j → Readable g u k
 readable g u j k s e h l =
     let i = entry-in g j k s h l in
     record { entry = i .0; small = omega (arith, s .fewEntries); costThere = omega (arith, s .costCount); row = i .1; dual = omega arith; few = s .fewColumns }
 
 -- the columns from j on; R is the end of phase 3
 pub record Outer (g : CostGraph) (u : List Float) (R : Improving) (j : ℕ) (w : List ℕ) (fw : List Float) (num : ℕ) (stats : HungarianStats) : Type 0 where
-  pub within : j ≤ g .n
+  pub within : j ≤ g .pattern .n
   pub memory : Memory g w fw
-  pub few : num ≤ g .n + j
+  pub few : num ≤ g .pattern .n + j
   pub steps : stats .«phase3_inner_iters» ≤ j * 137438953472
-  pub run : each j (g .n) (improve g u) (improvingOf (g .n) w fw num stats) ≡ R
+  pub run : each j (g .pattern .n) (improve g u) (improvingOf (g .pattern .n) w fw num stats) ≡ R
 
 -- the free column j, of least value v, from place k on
 pub record Middle (g : CostGraph) (u : List Float) (R : Improving) (j : ℕ) (v : Float) (k : ℕ) (w : List ℕ) (fw : List Float) (num : ℕ)
     (stats : HungarianStats) : Type 0 where
-  pub column : j < g .n
+  pub column : j < g .pattern .n
   pub within : k ≤ stop g j
   pub memory : Memory g w fw
-  pub few : num ≤ g .n + j
+  pub few : num ≤ g .pattern .n + j
   pub steps : stats .«phase3_inner_iters» ≤ j * 137438953472 + k * 262144
-  pub run : each (j + 1) (g .n) (improve g u) (attempt g u j v (end g j - k) k (improvingOf (g .n) w fw num stats)) ≡ R
+  pub run : each (j + 1) (g .pattern .n) (improve g u) (attempt g u j v (end (g .pattern) j - k) k (improvingOf (g .pattern .n) w fw num stats)) ≡ R
 
 -- column jj, which has the row of entry k, from place kk on; `before` are the counts when the search of jj began
 pub record Inner (g : CostGraph) (u : List Float) (R : Improving) (j : ℕ) (v : Float) (k jj kk : ℕ) (w : List ℕ) (fw : List Float) (num : ℕ)
     (stats : HungarianStats) : Type 0 where
-  pub column : j < g .n
+  pub column : j < g .pattern .n
   pub place : k < stop g j
-  pub other : jj < g .n
+  pub other : jj < g .pattern .n
   pub memory : Memory g w fw
-  pub few : num ≤ g .n + j
+  pub few : num ≤ g .pattern .n + j
   pub steps : stats .«phase3_inner_iters» + (stop g jj - kk) ≤ j * 137438953472 + (k + 1) * 262144
   pub before : HungarianStats
-  pub run : each (j + 1) (g .n) (improve g u)
-      (settled g u j v k jj (improvingOf (g .n) w fw num before) (seek g u (improvingOf (g .n) w fw num before) stats jj (end g jj - kk) kk)) ≡ R
+  pub run : each (j + 1) (g .pattern .n) (improve g u)
+      (settled g u j v k jj (improvingOf (g .pattern .n) w fw num before)
+      (seek g u (improvingOf (g .pattern .n) w fw num before) stats jj (end (g .pattern) jj - kk) kk)) ≡ R
 
 -- a link keeps the memory
-linked-memory : {g : CostGraph} {w w' : List ℕ} {fw : List Float} {i j k : ℕ} → i < g .n → j < g .n → length w' ≡ length w → Linked (g .n) w i j k w'
+linked-memory : {g : CostGraph} {w w' : List ℕ} {fw : List Float} {i j k : ℕ} → i < g .pattern .n → j < g .pattern .n → length w' ≡ length w
+    → Linked (g .pattern .n) w i j k w'
     → Memory g w fw → Memory g w' fw
 linked-memory {g} {w} h l e s m = record {
   words = e ∙ m .words;
   values = m .values;
-  columned = rw (s .rows) (columned-set (region ipermAt (g .n) w) (region-length ipermAt (g .n) w (omega (arith, m .words))) h (inr l) (m .columned));
+  columned = rw (s .rows) (columned-set (region ipermAt (g .pattern .n) w) (region-length ipermAt (g .pattern .n) w (omega (arith, m .words))) h (inr l)
+      (m .columned));
 }
 
 module _ {g : CostGraph} (sound : Sound g) where
   -- no entry has the number that stands for none
-  entry-some : (k : ℕ) → k < entries g → k ≢ none
+  entry-some : (k : ℕ) → k < entries (g .pattern) → k ≢ none
   entry-some k h e = omega (arith, sound .fewEntries)
 
   -- a column ends within the entries
-  pub small-stop : {j : ℕ} → j < g .n → stop g j ≤ 262144
+  pub small-stop : {j : ℕ} → j < g .pattern .n → stop g j ≤ 262144
   small-stop {j} h = omega (
     arith,
     stop-is g j,
-    pointers-rise g (sound .columns) (suc j) (g .n) h (le-refl (g .n)),
+    pointers-rise (g .pattern) (sound .columns) (suc j) (g .pattern .n) h (le-refl (g .pattern .n)),
     sound .columns .pointers .last,
     sound .fewEntries,
   )
 
-  ended : (j k : ℕ) → k < stop g j → k < end g j
+  ended : (j k : ℕ) → k < stop g j → k < end (g .pattern) j
   ended j k h = rw (stop-is g j) at h
 
   module _ {u : List Float} {R : Improving} {j : ℕ} {w : List ℕ} {fw : List Float} {num : ℕ} {stats : HungarianStats}
-      (o : Outer g u R j w fw num stats) (h : j < g .n) where
+      (o : Outer g u R j w fw num stats) (h : j < g .pattern .n) where
     -- ---- a column that is matched or empty
-    pub outer-skip : (getD w (g .n + j) 0 ≢ none) ⊎ ((getD w (g .n + j) 0 ≡ none) × (stop g j ≤ start g j)) → Outer g u R (j + 1) w fw num stats
+    pub outer-skip : (getD w (g .pattern .n + j) 0 ≢ none) ⊎ ((getD w (g .pattern .n + j) 0 ≡ none) × (stop g j ≤ start (g .pattern) j))
+        → Outer g u R (j + 1) w fw num stats
     outer-skip t = record {
       within = omega arith;
       memory = o .memory;
       few = omega (arith, o .few);
       steps = omega (arith, o .steps);
-      run = rw (improve-skip g u j (improvingOf (g .n) w fw num stats) (test t)) at
-          (sym (each-more (improve g u) j (g .n) (improvingOf (g .n) w fw num stats) h) ∙ o .run);
+      run = rw (improve-skip g u j (improvingOf (g .pattern .n) w fw num stats) (test t)) at
+          (sym (each-more (improve g u) j (g .pattern .n) (improvingOf (g .pattern .n) w fw num stats) h) ∙ o .run);
     }
       where
-        test : (getD w (g .n + j) 0 ≢ none) ⊎ ((getD w (g .n + j) 0 ≡ none) × (stop g j ≤ start g j))
-            → (not (eqb (getD (region jpermAt (g .n) w) j 0) none) || leb (end g j) (start g j)) ≡ true
-        test (inl d) = rw (word jpermAt (g .n) w (g .n + j) j (omega arith) h 0, ne-eqb (getD w (g .n + j) 0) none d) refl
+        test : (getD w (g .pattern .n + j) 0 ≢ none) ⊎ ((getD w (g .pattern .n + j) 0 ≡ none) × (stop g j ≤ start (g .pattern) j))
+            → (not (eqb (getD (region jpermAt (g .pattern .n) w) j 0) none) || leb (end (g .pattern) j) (start (g .pattern) j)) ≡ true
+        test (inl d) = rw (word jpermAt (g .pattern .n) w (g .pattern .n + j) j (omega arith) h 0, ne-eqb (getD w (g .pattern .n + j) 0) none d) refl
         test (inr (e, l)) = rw (
-          word jpermAt (g .n) w (g .n + j) j (omega arith) h 0,
-          eq-eqb (getD w (g .n + j) 0) none e,
-          le-leb (end g j) (start g j)
+          word jpermAt (g .pattern .n) w (g .pattern .n + j) j (omega arith) h 0,
+          eq-eqb (getD w (g .pattern .n + j) 0) none e,
+          le-leb (end (g .pattern) j) (start (g .pattern) j)
               (rw (stop-is g j) at l),
         ) refl
 
-    module _ {b : Best} (best : BestEntry g u (region ipermAt (g .n) w) j b) (bare : getD w (g .n + j) 0 ≡ none) (some : start g j < stop g j) where
-      goes : (not (eqb (getD (region jpermAt (g .n) w) j 0) none) || leb (end g j) (start g j)) ≡ false
+    module _ {b : Best} (best : BestEntry g u (region ipermAt (g .pattern .n) w) j b) (bare : getD w (g .pattern .n + j) 0 ≡ none)
+        (some : start (g .pattern) j < stop g j) where
+      goes : (not (eqb (getD (region jpermAt (g .pattern .n) w) j 0) none) || leb (end (g .pattern) j) (start (g .pattern) j)) ≡ false
       goes = rw (
-        word jpermAt (g .n) w (g .n + j) j (omega arith) h 0,
-        eq-eqb (getD w (g .n + j) 0) none bare,
-        lt-leb (end g j) (start g j)
-            (ended j (start g j) some),
+        word jpermAt (g .pattern .n) w (g .pattern .n + j) j (omega arith) h 0,
+        eq-eqb (getD w (g .pattern .n + j) 0) none bare,
+        lt-leb (end (g .pattern) j) (start (g .pattern) j)
+            (ended j (start (g .pattern) j) some),
       ) refl
 
-      stored : region valueAt (g .n) (set fw (g .n + j) (b .value)) ≡ set (region valueAt (g .n) fw) j (b .value)
-      stored = store valueAt (g .n) fw (g .n + j) j (omega arith) h (b .value)
+      stored : region valueAt (g .pattern .n) (set fw (g .pattern .n + j) (b .value)) ≡ set (region valueAt (g .pattern .n) fw) j (b .value)
+      stored = store valueAt (g .pattern .n) fw (g .pattern .n + j) j (omega arith) h (b .value)
 
       -- ---- the row of the best entry is free
-      pub outer-takes : {w' : List ℕ} → getD w (b .row) 0 ≡ none → length w' ≡ length w → Linked (g .n) w (b .row) j (b .place) w'
-          → Outer g u R (j + 1) w' (set fw (g .n + j) (b .value)) (num + 1) stats
+      pub outer-takes : {w' : List ℕ} → getD w (b .row) 0 ≡ none → length w' ≡ length w → Linked (g .pattern .n) w (b .row) j (b .place) w'
+          → Outer g u R (j + 1) w' (set fw (g .pattern .n + j) (b .value)) (num + 1) stats
       unfolding pair
       outer-takes {w'} f l s =
-          let n = g .n in
+          let n = g .pattern .n in
           let before = improvingOf n w fw num stats in
           let t : eqb (getD (region ipermAt n w) (b .row) 0) none ≡ true =
           rw (word ipermAt n w (b .row) (b .row) (omega arith) (best .row) 0) (eq-eqb (getD w (b .row) 0) none f) in
@@ -163,13 +169,13 @@ module _ {g : CostGraph} (sound : Sound g) where
           }
 
       -- ---- it is not: a swap is tried
-      pub outer-tries : getD w (b .row) 0 ≢ none → Middle g u R j (b .value) (b .place) w (set fw (g .n + j) (b .value)) num stats
+      pub outer-tries : getD w (b .row) 0 ≢ none → Middle g u R j (b .value) (b .place) w (set fw (g .pattern .n + j) (b .value)) num stats
       outer-tries f =
-          let n = g .n in
+          let n = g .pattern .n in
           let before = improvingOf n w fw num stats in
           let t : eqb (getD (region ipermAt n w) (b .row) 0) none ≡ false =
           rw (word ipermAt n w (b .row) (b .row) (omega arith) (best .row) 0) (ne-eqb (getD w (b .row) 0) none f) in
-          let step : improve g u j before ≡ attempt g u j (b .value) (end g j - b .place) (b .place)
+          let step : improve g u j before ≡ attempt g u j (b .value) (end (g .pattern) j - b .place) (b .place)
           (improvingOf n w (set fw (n + j) (b .value)) num stats) = improve-try g u j before (bestView b) (best .tie) goes t ∙ rw stored refl in
           record {
             column = h;
@@ -185,7 +191,7 @@ module _ {g : CostGraph} (sound : Sound g) where
     -- ---- the scan of column j is over
     pub middle-end : stop g j ≤ k → Outer g u R (j + 1) w fw num stats
     middle-end h =
-        let state = improvingOf (g .n) w fw num stats in
+        let state = improvingOf (g .pattern .n) w fw num stats in
         record {
           within = omega (arith, m .column);
           memory = m .memory;
@@ -199,13 +205,13 @@ module _ {g : CostGraph} (sound : Sound g) where
 
     module _ (h : k < stop g j) where
       abbrev i : ℕ
-      i = rowOf g k
+      i = rowOf (g .pattern) k
 
-      inside : i < g .n
+      inside : i < g .pattern .n
       inside = entry-in g j k sound (m .column) h .1
 
       -- ---- the entry is too dear, or its row is free
-      pub middle-skip : (lt v (reduced g u k) ≡ true) ⊎ ((lt v (reduced g u k) ≡ false) × (getD w (rowOf g k) 0 ≡ none))
+      pub middle-skip : (lt v (reduced g u k) ≡ true) ⊎ ((lt v (reduced g u k) ≡ false) × (getD w (rowOf (g .pattern) k) 0 ≡ none))
           → Middle g u R j v (k + 1) w fw num stats
       middle-skip t = record {
         column = m .column;
@@ -213,26 +219,27 @@ module _ {g : CostGraph} (sound : Sound g) where
         memory = m .memory;
         few = m .few;
         steps = omega (arith, m .steps);
-        run = rw (attempt-skip g u j v k (improvingOf (g .n) w fw num stats) (ended j k h) (test t)) at (m .run);
+        run = rw (attempt-skip g u j v k (improvingOf (g .pattern .n) w fw num stats) (ended j k h) (test t)) at (m .run);
       }
         where
           test : (lt v (reduced g u k) ≡ true) ⊎ ((lt v (reduced g u k) ≡ false) × (getD w i 0 ≡ none))
-              → (lt v (reduced g u k) || eqb (getD (region ipermAt (g .n) w) i 0) none) ≡ true
+              → (lt v (reduced g u k) || eqb (getD (region ipermAt (g .pattern .n) w) i 0) none) ≡ true
           test (inl e) = rw e refl
-          test (inr (e, f)) = rw (e, word ipermAt (g .n) w i i (omega arith) inside 0, eq-eqb (getD w i 0) none f) refl
+          test (inr (e, f)) = rw (e, word ipermAt (g .pattern .n) w i i (omega arith) inside 0, eq-eqb (getD w i 0) none f) refl
 
-      module _ (cheap : lt v (reduced g u k) ≡ false) (held : getD w (rowOf g k) 0 ≢ none) where
-        pub other-range : getD w (rowOf g k) 0 < g .n
+      module _ (cheap : lt v (reduced g u k) ≡ false) (held : getD w (rowOf (g .pattern) k) 0 ≢ none) where
+        pub other-range : getD w (rowOf (g .pattern) k) 0 < g .pattern .n
         other-range = go (m .memory .columned i inside)
           where
-            go : (getD (region ipermAt (g .n) w) i 0 ≡ none) ⊎ (getD (region ipermAt (g .n) w) i 0 < g .n) → getD w i 0 < g .n
-            go (inl e) = absurd (held (sym (word ipermAt (g .n) w i i (omega arith) inside 0) ∙ e))
-            go (inr l) = rw (word ipermAt (g .n) w i i (omega arith) inside 0) at l
+            go : (getD (region ipermAt (g .pattern .n) w) i 0 ≡ none) ⊎ (getD (region ipermAt (g .pattern .n) w) i 0 < g .pattern .n)
+                → getD w i 0 < g .pattern .n
+            go (inl e) = absurd (held (sym (word ipermAt (g .pattern .n) w i i (omega arith) inside 0) ∙ e))
+            go (inr l) = rw (word ipermAt (g .pattern .n) w i i (omega arith) inside 0) at l
 
         -- ---- the column of its row is searched
-        pub middle-seeks : Inner g u R j v k (getD w (rowOf g k) 0) (getD w (3 * g .n + getD w (rowOf g k) 0) 0) w fw num stats
+        pub middle-seeks : Inner g u R j v k (getD w (rowOf (g .pattern) k) 0) (getD w (3 * g .pattern .n + getD w (rowOf (g .pattern) k) 0) 0) w fw num stats
         middle-seeks =
-            let n = g .n in
+            let n = g .pattern .n in
             let jj : ℕ = getD w i 0 in
             let f : ℕ = getD w (3 * n + jj) 0 in
             let state = improvingOf n w fw num stats in
@@ -254,13 +261,13 @@ module _ {g : CostGraph} (sound : Sound g) where
   module _ {u : List Float} {R : Improving} {j : ℕ} {v : Float} {k jj kk : ℕ} {w : List ℕ} {fw : List Float} {num : ℕ} {stats : HungarianStats}
       (s : Inner g u R j v k jj kk w fw num stats) where
     -- ---- column jj was searched in vain
-    pub inner-misses : stop g jj ≤ kk → Middle g u R j v (k + 1) (set w (3 * g .n + jj) (stop g jj)) fw num stats
+    pub inner-misses : stop g jj ≤ kk → Middle g u R j v (k + 1) (set w (3 * g .pattern .n + jj) (stop g jj)) fw num stats
     inner-misses h =
-        let n = g .n in
+        let n = g .pattern .n in
         let before = improvingOf n w fw num (s .before) in
         let rows = apart fromAt n w (3 * n + jj) jj (omega arith) (s .other) ipermAt (stop g jj) (inl (omega arith)) in
         let columns = apart fromAt n w (3 * n + jj) jj (omega arith) (s .other) jpermAt (stop g jj) (inl (omega arith)) in
-        let from : region fromAt n (set w (3 * n + jj) (stop g jj)) ≡ set (region fromAt n w) jj (end g jj) =
+        let from : region fromAt n (set w (3 * n + jj) (stop g jj)) ≡ set (region fromAt n w) jj (end (g .pattern) jj) =
         store fromAt n w (3 * n + jj) jj (omega arith) (s .other) (stop g jj) ∙ rw (stop-is g jj) refl in
         record {
           column = s .column;
@@ -273,13 +280,14 @@ module _ {g : CostGraph} (sound : Sound g) where
 
     module _ (h : kk < stop g jj) where
       abbrev ii : ℕ
-      ii = rowOf g kk
+      ii = rowOf (g .pattern) kk
 
-      inside-other : (kk < entries g) × (ii < g .n)
+      inside-other : (kk < entries (g .pattern)) × (ii < g .pattern .n)
       inside-other = entry-in g jj kk sound (s .other) h
 
       -- ---- the row is taken, or the entry too dear
-      pub inner-more : (getD w (rowOf g kk) 0 ≢ none) ⊎ ((getD w (rowOf g kk) 0 ≡ none) × (le (reduced g u kk) (getD fw (g .n + jj) nan) ≡ false))
+      pub inner-more : (getD w (rowOf (g .pattern) kk) 0 ≢ none) ⊎
+          ((getD w (rowOf (g .pattern) kk) 0 ≡ none) × (le (reduced g u kk) (getD fw (g .pattern .n + jj) nan) ≡ false))
           → Inner g u R j v k jj (kk + 1) w fw num (innerStep stats)
       unfolding innerStep
       inner-more t = record {
@@ -290,27 +298,28 @@ module _ {g : CostGraph} (sound : Sound g) where
         few = s .few;
         steps = omega (arith, s .steps);
         before = s .before;
-        run = rw (seek-more g u (improvingOf (g .n) w fw num (s .before)) stats jj kk (ended jj kk h) (test t)) at (s .run);
+        run = rw (seek-more g u (improvingOf (g .pattern .n) w fw num (s .before)) stats jj kk (ended jj kk h) (test t)) at (s .run);
       }
         where
-          test : (getD w ii 0 ≢ none) ⊎ ((getD w ii 0 ≡ none) × (le (reduced g u kk) (getD fw (g .n + jj) nan) ≡ false))
-              → (eqb (getD (region ipermAt (g .n) w) ii 0) none && le (reduced g u kk) (getD (region valueAt (g .n) fw) jj nan)) ≡ false
-          test (inl d) = rw (word ipermAt (g .n) w ii ii (omega arith) (inside-other .1) 0, ne-eqb (getD w ii 0) none d) refl
+          test : (getD w ii 0 ≢ none) ⊎ ((getD w ii 0 ≡ none) × (le (reduced g u kk) (getD fw (g .pattern .n + jj) nan) ≡ false))
+              → (eqb (getD (region ipermAt (g .pattern .n) w) ii 0) none && le (reduced g u kk) (getD (region valueAt (g .pattern .n) fw) jj nan)) ≡ false
+          test (inl d) = rw (word ipermAt (g .pattern .n) w ii ii (omega arith) (inside-other .1) 0, ne-eqb (getD w ii 0) none d) refl
           test (inr (e, f)) = rw (
-            word ipermAt (g .n) w ii ii (omega arith) (inside-other .1) 0,
-            word valueAt (g .n) fw (g .n + jj) jj (omega arith)
+            word ipermAt (g .pattern .n) w ii ii (omega arith) (inside-other .1) 0,
+            word valueAt (g .pattern .n) fw (g .pattern .n + jj) jj (omega arith)
                 (s .other) nan,
             eq-eqb (getD w ii 0) none e,
             f,
           ) refl
 
       -- ---- a free row: the swap, and on with the next column
-      pub inner-swaps : {w' w'' : List ℕ} → getD w (rowOf g kk) 0 ≡ none → le (reduced g u kk) (getD fw (g .n + jj) nan) ≡ true
-          → length w' ≡ length w → Linked (g .n) w (rowOf g kk) jj kk w' → length w'' ≡ length w' → Linked (g .n) w' (rowOf g k) j k w''
+      pub inner-swaps : {w' w'' : List ℕ} → getD w (rowOf (g .pattern) kk) 0 ≡ none → le (reduced g u kk) (getD fw (g .pattern .n + jj) nan) ≡ true
+          → length w' ≡ length w → Linked (g .pattern .n) w (rowOf (g .pattern) kk) jj kk w' → length w'' ≡ length w'
+          → Linked (g .pattern .n) w' (rowOf (g .pattern) k) j k w''
           → Outer g u R (j + 1) w'' fw (num + 1) (innerStep stats)
       unfolding innerStep swap pair
       inner-swaps {w'} {w''} e f l a l' b =
-          let n = g .n in
+          let n = g .pattern .n in
           let before = improvingOf n w fw num (s .before) in
           let t : (eqb (getD (region ipermAt n w) ii 0) none && le (reduced g u kk) (getD (region valueAt n fw) jj nan)) ≡ true =
           rw (
@@ -343,5 +352,5 @@ outer-start {g} {u} {w} {fw} {num} {stats} p = record {
 }
 
 pub outer-end : {g : CostGraph} {u : List Float} {R : Improving} {j : ℕ} {w : List ℕ} {fw : List Float} {num : ℕ} {stats : HungarianStats}
-    → Outer g u R j w fw num stats → g .n ≤ j → improvingOf (g .n) w fw num stats ≡ R
-outer-end {g} {u} {R} {j} {w} {fw} {num} {stats} o h = sym (each-none (improve g u) j (g .n) (improvingOf (g .n) w fw num stats) h) ∙ o .run
+    → Outer g u R j w fw num stats → g .pattern .n ≤ j → improvingOf (g .pattern .n) w fw num stats ≡ R
+outer-end {g} {u} {R} {j} {w} {fw} {num} {stats} o h = sym (each-none (improve g u) j (g .pattern .n) (improvingOf (g .pattern .n) w fw num stats) h) ∙ o .run

@@ -11,7 +11,8 @@ use Rattle.float64.specs.Constants.{zero as fzero}
 use Rattle.sparse.specs.Validate.{sizeFault}
 use Rattle.sparse.proofs.First.{or-zero}
 use Rattle.sparse.proofs.Accepted.{sizes-accepted}
-use Rattle.hungarian.specs.Graph.{CostGraph, entries}
+use Rattle.sparse.specs.Pattern.{entries}
+use Rattle.hungarian.specs.Graph.{CostGraph}
 use Rattle.hungarian.specs.Test.{graphFault, graphLengths}
 use Rattle.hungarian.specs.Accepted.{Accepted}
 use Rattle.hungarian.specs.Match.{hungarianMatch}
@@ -26,15 +27,17 @@ use Rattle.hungarian_match.proofs.Outcomes.{not-matched, same}
 module _ (g : CostGraph) (A : Accepted g) where
   pub graph-fits : graphLengths g ≡ true
   unfolding graphFault
-  graph-fits = sizes-accepted (g .n) maxGeneral (entries g) (graphLengths g) .0 (or-zero (sizeFault (g .n) maxGeneral (entries g) (graphLengths g)) _ A .0) .2
+  graph-fits = sizes-accepted (g .pattern .n) maxGeneral (entries (g .pattern)) (graphLengths g) .0
+      (or-zero (sizeFault (g .pattern .n) maxGeneral (entries (g .pattern)) (graphLengths g)) _ A .0) .2
 
   -- an accepted graph has no fault, where every slice has its length
   no-fault : graphFault g true ≡ 0
   no-fault = subst (λ (b : Bool). graphFault g b ≡ 0) graph-fits A
 
   -- every slice has its length
-  pub lengths-fit : (s : Slices) → length (s .perm) ≡ g .n → length (s .u) ≡ g .n → length (s .v) ≡ g .n → length (s .work) ≡ 12 * g .n + 1
-      → length (s .fwork) ≡ 2 * g .n → matchLengths g s ≡ true
+  pub lengths-fit : (s : Slices) → length (s .perm) ≡ g .pattern .n → length (s .u) ≡ g .pattern .n → length (s .v) ≡ g .pattern .n
+      → length (s .work) ≡ 12 * g .pattern .n + 1
+      → length (s .fwork) ≡ 2 * g .pattern .n → matchLengths g s ≡ true
   unfolding matchLengths
   lengths-fit s p u v w f = rw (graph-fits, eq-eqb _ _ p, eq-eqb _ _ u, eq-eqb _ _ v, eq-eqb _ _ w, eq-eqb _ _ f) refl
 

@@ -13,7 +13,8 @@ use lib.Ieee.{Float, nan, binary64, sub}
 use Rattle.limits.specs.Limits.{none}
 use Rattle.slices.proofs.Lists.{copied, whole}
 use Rattle.float64.specs.Constants.{zero as fzero}
-use Rattle.hungarian.specs.Graph.{CostGraph, rowOf, graphOf}
+use Rattle.sparse.specs.Pattern.{rowOf}
+use Rattle.hungarian.specs.Graph.{CostGraph, graphOf}
 use Rattle.hungarian.specs.Init.{reduced}
 use Rattle.hungarian.specs.Match.{permOf, columnDuals, rowDuals}
 use Rattle.hungarian.specs.inner.Layout.{region, ipermAt, jpermAt}
@@ -28,7 +29,7 @@ module _ (g : CostGraph) where
   perm-length [] = refl
   perm-length (k ∷ ks) = ap suc (perm-length ks)
 
-  pub perm-at : (ks : List ℕ) (j : ℕ) → j < length ks → getD (permOf g ks) j 0 ≡ cond (eqb (getD ks j 0) none) none (rowOf g (getD ks j 0))
+  pub perm-at : (ks : List ℕ) (j : ℕ) → j < length ks → getD (permOf g ks) j 0 ≡ cond (eqb (getD ks j 0) none) none (rowOf (g .pattern) (getD ks j 0))
   unfolding permOf
   perm-at [] j h = absurd (omega arith)
   perm-at (k ∷ ks) zero h = refl
@@ -92,7 +93,8 @@ module _ {n : ℕ} {rows : List ℕ} {cost u : List Float} {ks perm : List ℕ} 
         (set v j (sub binary64 (getD cost (getD ks j 0) nan) (getD u (getD rows (getD ks j 0) 0) nan))) (j + 1)
     copy-matched t = record {
       rowsAt = λ colPtr. let g = graphOf n colPtr rows cost in
-          copied perm (permOf g ks) j (rowOf g (getD ks j 0)) 0 (omega arith) (rw (perm-length g ks) h) (sym (perm-at g ks j h ∙ rw t refl)) (C .rowsAt colPtr);
+          copied perm (permOf g ks) j (rowOf (g .pattern) (getD ks j 0)) 0 (omega arith) (rw (perm-length g ks) h) (sym (perm-at g ks j h ∙ rw t refl))
+          (C .rowsAt colPtr);
       dualsAt = λ colPtr. let g = graphOf n colPtr rows cost in
           copied v (columnDuals g u ks) j (reduced g u (getD ks j 0)) nan (omega arith) (rw (duals-length g u ks) h)
           (sym (dual-at g u ks j h ∙ rw t refl)) (C .dualsAt colPtr);

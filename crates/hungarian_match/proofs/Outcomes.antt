@@ -30,9 +30,9 @@ use Rattle.hungarian_match.proofs.Calls.{accepted-lengths}
 use Rattle.hungarian_match.proofs.Tests.{match-listed}
 
 -- ---- before the test
-pub pointers-fit : (g : CostGraph) (s : Slices) → matchLengths g s ≡ true → length (g .colPtr) ≡ g .n + 1
+pub pointers-fit : (g : CostGraph) (s : Slices) → matchLengths g s ≡ true → length (g .pattern .colPtr) ≡ g .pattern .n + 1
 unfolding matchLengths
-pointers-fit g s t = eqb-true _ _ (both (eqb (length (g .colPtr)) (g .n + 1)) _ (both (graphLengths g) _ t .0) .0)
+pointers-fit g s t = eqb-true _ _ (both (eqb (length (g .pattern .colPtr)) (g .pattern .n + 1)) _ (both (graphLengths g) _ t .0) .0)
 
 pub fault-is : (g : CostGraph) (s : Slices) {fault : ℕ} {lengths : Bool} → fault ≡ graphFault g lengths → lengths ≡ matchLengths g s
     → fault ≡ graphFault g (matchLengths g s)
@@ -73,7 +73,8 @@ module _ (g : CostGraph) (s : Slices) (e : graphFault g (matchLengths g s) ≡ 0
     leaves = rw (S .perm, S .u, S .v, S .matched, S .stats) refl
 
     pub matches : Matches g (Matched m) after
-    matches m' q = subst (λ (x : Counts). LargestMatch g (matchAfter x after)) (same q) (rw leaves (match-largest g (accepted-lengths g s e .accepted) d))
+    matches m' q = subst (λ (x : Counts). LargestMatch (g .pattern) (matchAfter x after)) (same q)
+        (rw leaves (match-largest g (accepted-lengths g s e .accepted) d))
 
     pub promised : Promised g (Matched m) after
     promised m' q w = subst (λ (x : Counts). Optimal g (matchAfter x after)) (same q) (rw leaves (match-optimal g (accepted-lengths g s e .accepted) w))

@@ -14,7 +14,8 @@ use Rattle.sparse.proofs.Alike as Alike
 use Rattle.sparse.proofs.Listed.{Listed, test, or-listed, first-listed, within, part}
 use Rattle.sparse.proofs.Theorems.{sizeNumbers, pointerNumbers, columnNumbers, sizes-listed, pointers-listed, general-columns-listed}
 use Rattle.cost_limit.specs.Range.{inRange}
-use Rattle.hungarian.specs.Graph.{CostGraph, entries}
+use Rattle.sparse.specs.Pattern.{entries}
+use Rattle.hungarian.specs.Graph.{CostGraph}
 use Rattle.hungarian.specs.Test.{costFault, graphFault}
 
 pub some : costRange ≢ 0
@@ -41,7 +42,7 @@ module _ (n : ℕ) (cost : List Float) where
 pub match-listed : (g : CostGraph) (lengths : Bool) → Listed graphNumbers (graphFault g lengths)
 unfolding listed within graphFault costFault
 match-listed g lengths =
-    or-listed (part sizeNumbers (sizes-listed (g .n) maxGeneral (entries g) lengths) refl)
-    (or-listed (part pointerNumbers (pointers-listed (g .n) (g .colPtr) (entries g)) refl)
-    (or-listed (part columnNumbers (general-columns-listed (g .n) (g .colPtr) (g .rowIdx)) refl)
-    (first-listed (length (g .cost)) 0 refl (λ k. test (inRange (g .n) (getD (g .cost) k nan)) costRange refl refl))))
+    or-listed (part sizeNumbers (sizes-listed (g .pattern .n) maxGeneral (entries (g .pattern)) lengths) refl)
+    (or-listed (part pointerNumbers (pointers-listed (g .pattern .n) (g .pattern .colPtr) (entries (g .pattern))) refl)
+    (or-listed (part columnNumbers (general-columns-listed (g .pattern .n) (g .pattern .colPtr) (g .pattern .rowIdx)) refl)
+    (first-listed (length (g .cost)) 0 refl (λ k. test (inRange (g .pattern .n) (getD (g .cost) k nan)) costRange refl refl))))

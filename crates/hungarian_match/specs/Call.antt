@@ -35,10 +35,10 @@ slices perm u v work fwork = record { perm = perm; u = u; v = v; work = work; fw
 unfoldable pub matchLengths : CostGraph → Slices → Bool
 matchLengths g s =
     graphLengths g
-    && (eqb (length (s .perm)) (g .n)
-    && (eqb (length (s .u)) (g .n)
-    && (eqb (length (s .v)) (g .n)
-    && (eqb (length (s .work)) (12 * g .n + 1) && eqb (length (s .fwork)) (2 * g .n)))))
+    && (eqb (length (s .perm)) (g .pattern .n)
+    && (eqb (length (s .u)) (g .pattern .n)
+    && (eqb (length (s .v)) (g .pattern .n)
+    && (eqb (length (s .work)) (12 * g .pattern .n + 1) && eqb (length (s .fwork)) (2 * g .pattern .n)))))
 
 -- the first thing wrong, 0 where nothing is
 abbrev pub matchFault : CostGraph → Slices → ℕ
@@ -92,7 +92,7 @@ pub record Answered (g : CostGraph) (s : Slices) (answer : Answer) : Type 0 wher
 
 -- any accepted costs: perm's pairs are entries, and a largest matching, complete where there is a complete one
 abbrev pub Matches : CostGraph → Answer → Slices → Type 0
-Matches g answer after = (m : Counts) → answer ≡ Matched m → LargestMatch g (matchAfter m after)
+Matches g answer after = (m : Counts) → answer ≡ Matched m → LargestMatch (g .pattern) (matchAfter m after)
 
 -- demand 3, of what the call leaves: with whole costs also of least total, with duals that show it
 abbrev pub Promised : CostGraph → Answer → Slices → Type 0

@@ -15,7 +15,8 @@ use Rattle.limits.specs.Limits.{none}
 use Rattle.float64.specs.inner.Keys.{Ordered, position}
 use Rattle.float64.proofs.Order.{lt-key, le-key}
 use Rattle.hungarian.specs.declared.HungarianStats.{HungarianStats}
-use Rattle.hungarian.specs.Graph.{CostGraph, rowOf}
+use Rattle.sparse.specs.Pattern.{rowOf}
+use Rattle.hungarian.specs.Graph.{CostGraph}
 use Rattle.hungarian.specs.inner.Layout.{region, ipermAt, poppedAt}
 use Rattle.hungarian.specs.Search.{among, reach, relax, edge}
 use Rattle.hungarian.proofs.Regions.{region-at}
@@ -42,7 +43,7 @@ module _ (n : ℕ) (w pos : List ℕ) (keys d : List Float) (frontier : Frontier
   bound = cond (lt (getD d i nan) (frontier .csp)) (getD d i nan) (frontier .csp)
 
   -- the definition's tests, in its order
-  tests : (g : CostGraph) (stats : HungarianStats) → rowOf g k ≡ i → edge g (region ipermAt n w) x j k (treeOf n w pos d frontier stats)
+  tests : (g : CostGraph) (stats : HungarianStats) → rowOf (g .pattern) k ≡ i → edge g (region ipermAt n w) x j k (treeOf n w pos d frontier stats)
       ≡ cond (among i (take (frontier .popped) (region poppedAt n w)) || le (frontier .csp) x) (treeOf n w pos d frontier stats)
       (cond (eqb (getD w i 0) none) (reach x j k (treeOf n w pos d frontier stats))
       (cond (lt x (getD d i nan)) (relax g (region ipermAt n w) x j k (treeOf n w pos d frontier stats)) (treeOf n w pos d frontier stats)))

@@ -9,7 +9,8 @@ use lib.Dec.{lit<}
 use lib.ListN.{length, getD, set, drop, length-set}
 use lib.Seq.{getD-drop, getD-set-other, drop-set-lt}
 use Rattle.limits.specs.Limits.{none}
-use Rattle.hungarian.specs.Graph.{CostGraph, rowOf}
+use Rattle.sparse.specs.Pattern.{rowOf}
+use Rattle.hungarian.specs.Graph.{CostGraph}
 use Rattle.hungarian.specs.Init.{Pairs}
 use Rattle.hungarian.specs.inner.Layout.{region, ipermAt, jpermAt, prAt, outAt}
 use Rattle.hungarian.specs.Search.{Tree, walk, flip}
@@ -42,7 +43,7 @@ pub record WalkAt (n : ℕ) (rows w₀ : List ℕ) (j most : ℕ) (R : WalkReady
   pub long : length w ≡ length w₀
   pub rest : drop (2 * n) w ≡ drop (2 * n) w₀
   pub on : Scanned (R .s) (R .r) (R .popped) column
-  pub run : (g : CostGraph) (t : Tree) (num : ℕ) → g .rowIdx ≡ rows → t .pr ≡ region prAt n w₀ → t .out ≡ region outAt n w₀ → walk g t left column
+  pub run : (g : CostGraph) (t : Tree) (num : ℕ) → g .pattern .rowIdx ≡ rows → t .pr ≡ region prAt n w₀ → t .out ≡ region outAt n w₀ → walk g t left column
       (pairsAt n w num) ≡ walk g t most j (pairsAt n w₀ num)
 
 module _ (n : ℕ) (rows w₀ : List ℕ) (j most : ℕ) (R : WalkReady n rows w₀ j) where
@@ -102,7 +103,7 @@ module _ (n : ℕ) (rows w₀ : List ℕ) (j most : ℕ) (R : WalkReady n rows w
 
       goes : (g : CostGraph) (t : Tree) (s : Pairs) (m : ℕ) → getD (t .pr) column 0 ≢ none → walk g t (suc m) column s ≡ walk g t m
           (getD (t .pr) column 0) (record {
-            iperm = set (s .iperm) (rowOf g (getD (t .out) column 0)) (getD (t .pr) column 0);
+            iperm = set (s .iperm) (rowOf (g .pattern) (getD (t .out) column 0)) (getD (t .pr) column 0);
             jperm =
                 set (s .jperm) (getD (t .pr) column 0) (getD (t .out) column 0);
             num = s .num;
@@ -111,7 +112,7 @@ module _ (n : ℕ) (rows w₀ : List ℕ) (j most : ℕ) (R : WalkReady n rows w
       goes g t s m o = rw (ne-eqb (getD (t .pr) column 0) none o)
 
       -- with words in place of the tree's lists
-      stored : (g : CostGraph) (t : Tree) (num m b o : ℕ) → getD (t .pr) column 0 ≡ b → getD (t .out) column 0 ≡ o → b ≢ none → g .rowIdx ≡ rows
+      stored : (g : CostGraph) (t : Tree) (num m b o : ℕ) → getD (t .pr) column 0 ≡ b → getD (t .out) column 0 ≡ o → b ≢ none → g .pattern .rowIdx ≡ rows
           → b < n → getD rows o 0 < n → walk g t m b (pairsAt n (set (set w (getD rows o 0) b) (n + b) o) num) ≡ walk g t (suc m) column (pairsAt n w num)
       stored g t num m b o p q z e hb ho =
           ap (walk g t m b) (pair-set n w (getD rows o 0) b o num ho hb)

@@ -24,7 +24,8 @@ use Rattle.index_heap.proofs.Rows.{update-rows, insert-rows}
 use Rattle.index_heap.proofs.Marks.{mapped, map-set, update-mapped, update-others}
 use Rattle.hungarian.specs.declared.HungarianStats.{HungarianStats}
 use Rattle.hungarian.specs.Counts.{larger}
-use Rattle.hungarian.specs.Graph.{CostGraph, rowOf}
+use Rattle.sparse.specs.Pattern.{rowOf}
+use Rattle.hungarian.specs.Graph.{CostGraph}
 use Rattle.hungarian.specs.inner.Layout.{region, ipermAt}
 use Rattle.hungarian.specs.Search.{Tree, relax}
 use Rattle.hungarian.proofs.Regions.{region-ends, region-length, region-at, region-set, region-other, region-apart, region-front}
@@ -162,7 +163,8 @@ relaxAt i jj x j k t = record {
   stats = t .stats;
 }
 
-relax-at : (g : CostGraph) (iperm : List ℕ) (x : Float) (j k : ℕ) (t : Tree) → relax g iperm x j k t ≡ relaxAt (rowOf g k) (getD iperm (rowOf g k) 0) x j k t
+relax-at : (g : CostGraph) (iperm : List ℕ) (x : Float) (j k : ℕ) (t : Tree) → relax g iperm x j k t ≡ relaxAt (rowOf (g .pattern) k)
+    (getD iperm (rowOf (g .pattern) k) 0) x j k t
 unfolding relax
 relax-at g iperm x j k t = refl
 

@@ -21,7 +21,8 @@ use Rattle.float64.proofs.WholeNumbers.{ordered}
 use Rattle.index_heap.specs.IndexHeap.{placeOf}
 use Rattle.index_heap.specs.inner.Slices.{Keyed}
 use Rattle.hungarian.specs.declared.HungarianStats.{HungarianStats}
-use Rattle.hungarian.specs.Graph.{CostGraph, rowOf, start, end, entries, InColumn}
+use Rattle.sparse.specs.Pattern.{rowOf, start, end, entries, InColumn}
+use Rattle.hungarian.specs.Graph.{CostGraph}
 use Rattle.hungarian.specs.inner.Layout.{region, ipermAt, touchedAt}
 use Rattle.matching.specs.Pairing.{matchedCount}
 use Rattle.hungarian.specs.Init.{Pairs}
@@ -32,7 +33,7 @@ use Rattle.hungarian.specs.inner.Setting.{Setting}
 use Rattle.hungarian.specs.inner.Between.{at, dual, Matched}
 use Rattle.hungarian.specs.inner.SearchTree.{Among, Grown, PathEnd}
 use Rattle.hungarian.proofs.Loops.{each-keeps}
-use Rattle.hungarian.proofs.Columns.{in-entries, row-below, pointers-rise}
+use Rattle.sparse.proofs.Columns.{in-entries, row-below, pointers-rise}
 use Rattle.hungarian.proofs.Regions.{region-length}
 use Rattle.hungarian.proofs.Rows.{at-most-all, distinct-append, among-cases, length-more}
 use Rattle.hungarian.proofs.HeapSteps.{heap-laws}
@@ -63,26 +64,27 @@ each-more from k f t h =
 
 -- ---- what `edge` asks, of any tree in memory
 module _ {g : CostGraph} {u : List Float} (w pos : List ℕ) (keys d : List Float) (frontier : Frontier) (stats : HungarianStats)
-    (S : Setting Number unitsPerOne (costLimit (g .n)) g) (Z : Sized (g .n) w pos keys frontier)
-    (K : Keyed d (frontier .len) 0 (drop (11 * g .n) w) keys) (F : Flagged (g .n) pos (treeOf (g .n) w pos d frontier stats .popped))
-    (M : Matched g (pairsOf (g .n) w))
-    (r : ℕ) (root : at (pairsOf (g .n) w .jperm) r ≡ none) (rank : ℕ → ℕ)
-    (G : Grown Number unitsPerOne (costLimit (g .n)) g (pairsOf (g .n) w) u r rank (treeOf (g .n) w pos d frontier stats))
-    (j k : ℕ) (x : Float) (E : Tree.Edge Number unitsPerOne (costLimit (g .n)) g (pairsOf (g .n) w) u r (treeOf (g .n) w pos d frontier stats) j k x) where
+    (S : Setting Number unitsPerOne (costLimit (g .pattern .n)) g) (Z : Sized (g .pattern .n) w pos keys frontier)
+    (K : Keyed d (frontier .len) 0 (drop (11 * g .pattern .n) w) keys) (F : Flagged (g .pattern .n) pos (treeOf (g .pattern .n) w pos d frontier stats .popped))
+    (M : Matched g (pairsOf (g .pattern .n) w))
+    (r : ℕ) (root : at (pairsOf (g .pattern .n) w .jperm) r ≡ none) (rank : ℕ → ℕ)
+    (G : Grown Number unitsPerOne (costLimit (g .pattern .n)) g (pairsOf (g .pattern .n) w) u r rank (treeOf (g .pattern .n) w pos d frontier stats))
+    (j k : ℕ) (x : Float) (E : Tree.Edge Number unitsPerOne (costLimit (g .pattern .n)) g (pairsOf (g .pattern .n) w) u r
+    (treeOf (g .pattern .n) w pos d frontier stats) j k x) where
   abbrev t : Tree
-  t = treeOf (g .n) w pos d frontier stats
+  t = treeOf (g .pattern .n) w pos d frontier stats
 
   abbrev i : ℕ
-  i = rowOf g k
+  i = rowOf (g .pattern) k
 
   abbrev n : ℕ
-  n = g .n
+  n = g .pattern .n
 
-  row : rowOf g k < g .n
-  row = row-below g (S .columns) j k (E .entry)
+  row : rowOf (g .pattern) k < g .pattern .n
+  row = row-below (g .pattern) (S .columns) j k (E .entry)
 
-  column-is : at (region ipermAt (g .n) w) (rowOf g k) ≡ getD w (rowOf g k) 0
-  column-is = iperm-at (g .n) w (rowOf g k) row
+  column-is : at (region ipermAt (g .pattern .n) w) (rowOf (g .pattern) k) ≡ getD w (rowOf (g .pattern) k) 0
+  column-is = iperm-at (g .pattern .n) w (rowOf (g .pattern) k) row
 
   number : (y : Float) → Number y → Ordered y
   number y h = ordered y h
@@ -94,7 +96,7 @@ module _ {g : CostGraph} {u : List Float} (w pos : List ℕ) (keys d : List Floa
   best : Ordered (t .csp) × (position (t .csp) ≤ position rinf)
   best = go (G .best)
     where
-      go : (t .csp ≡ rinf) ⊎ PathEnd Number unitsPerOne (costLimit (g .n)) g (pairsOf (g .n) w) u r (t .popped) (t .csp) (t .isp) (t .jsp)
+      go : (t .csp ≡ rinf) ⊎ PathEnd Number unitsPerOne (costLimit (g .pattern .n)) g (pairsOf (g .pattern .n) w) u r (t .popped) (t .csp) (t .isp) (t .jsp)
           → Ordered (t .csp) × (position (t .csp) ≤ position rinf)
       go (inl e) = (subst Ordered (sym e) (ordered rinf rinf-number), let z = ap position e in omega arith)
       go (inr p) =
@@ -104,13 +106,14 @@ module _ {g : CostGraph} {u : List Float} (w pos : List ℕ) (keys d : List Floa
                 omega arith,
           )
 
-  untouched : at (region ipermAt (g .n) w) i ≡ none → dual (t .d) i ≡ rinf
+  untouched : at (region ipermAt (g .pattern .n) w) i ≡ none → dual (t .d) i ≡ rinf
   untouched e = G .far i row (λ m. G .reached i m .matched e)
 
-  touched-length : length (take (frontier .touched) (region touchedAt (g .n) w)) ≡ frontier .touched
-  touched-length = length-take-le (frontier .touched) (region touchedAt (g .n) w) (rw (region-length touchedAt (g .n) w (omega (arith, Z .size))) (Z .touched))
+  touched-length : length (take (frontier .touched) (region touchedAt (g .pattern .n) w)) ≡ frontier .touched
+  touched-length = length-take-le (frontier .touched) (region touchedAt (g .pattern .n) w)
+      (rw (region-length touchedAt (g .pattern .n) w (omega (arith, Z .size))) (Z .touched))
 
-  module _ (matched : at (region ipermAt (g .n) w) i ≢ none) (open' : Among i (t .popped) → ⊥) where
+  module _ (matched : at (region ipermAt (g .pattern .n) w) i ≢ none) (open' : Among i (t .popped) → ⊥) where
     -- not popped: not marked
     unmarked-row : getD pos i 0 ≢ none
     unmarked-row = eqb-false (getD pos i 0) none (F i row ∙ go (among i (t .popped)) open')
@@ -121,27 +124,27 @@ module _ {g : CostGraph} {u : List Float} (w pos : List ℕ) (keys d : List Floa
 
     place : placeOf (t .heap) i ≡ getD pos i 0
     unfolding treeOf
-    place = place-in (g .n) w pos (frontier .len) i ∙ unmarked-open (getD pos i 0) unmarked-row
+    place = place-in (g .pattern .n) w pos (frontier .len) i ∙ unmarked-open (getD pos i 0) unmarked-row
 
     -- first touch: not in the heap
     first : (b : Bool) → (T b → Among i (t .touched)) → (T (not b) → Among i (t .touched) → ⊥) → eq (dual (t .d) i) rinf ≡ eqb (placeOf (t .heap) i) 0
     first true f h =
-        let e = Tree.near-not-far S M (heap-laws (g .n)) root t j k x E G matched open' (f tt) in
-        let l = Tree.within S M (heap-laws (g .n)) root t j k x E G matched open' (f tt) in
+        let e = Tree.near-not-far S M (heap-laws (g .pattern .n)) root t j k x E G matched open' (f tt) in
+        let l = Tree.within S M (heap-laws (g .pattern .n)) root t j k x E G matched open' (f tt) in
         e ∙ sym (ne-eqb (placeOf (t .heap) i) 0 (λ z. omega arith))
     first false f h =
-        let e = Tree.far-new S M (heap-laws (g .n)) root t j k x E G matched open' (h tt) in
-        let z = Tree.not-within S M (heap-laws (g .n)) root t j k x E G matched open' (h tt) in
+        let e = Tree.far-new S M (heap-laws (g .pattern .n)) root t j k x E G matched open' (h tt) in
+        let z = Tree.not-within S M (heap-laws (g .pattern .n)) root t j k x E G matched open' (h tt) in
         ap (λ (y : Float). eq y rinf) e ∙ Tree.rinf-equal ∙ sym (eq-eqb (placeOf (t .heap) i) 0 z)
 
-    room : placeOf (t .heap) i ≡ 0 → length (t .touched) < g .n
+    room : placeOf (t .heap) i ≡ 0 → length (t .touched) < g .pattern .n
     room e =
-        let new : Among i (t .touched) → ⊥ = λ m. let l = Tree.within S M (heap-laws (g .n)) root t j k x E G matched open' m in omega arith in
-        let h = at-most-all (g .n) (t .touched ++ (i ∷ [])) (distinct-append i (t .touched) (G .touchedOnce) new)
+        let new : Among i (t .touched) → ⊥ = λ m. let l = Tree.within S M (heap-laws (g .pattern .n)) root t j k x E G matched open' m in omega arith in
+        let h = at-most-all (g .pattern .n) (t .touched ++ (i ∷ [])) (distinct-append i (t .touched) (G .touchedOnce) new)
         (λ q m. ⊎-elim (λ (a : Among q (t .touched)). G .reached q a .row) (λ (e : q ≡ i). rw e row) (among-cases q i (t .touched) m)) in
         omega (arith, length-more i (t .touched))
 
-    relax-ready : RelaxReady (g .n) w pos keys d frontier i j k
+    relax-ready : RelaxReady (g .pattern .n) w pos keys d frontier i j k
     unfolding treeOf
     relax-ready = record {
       touching = record {
@@ -150,22 +153,22 @@ module _ {g : CostGraph} {u : List Float} (w pos : List ℕ) (keys d : List Floa
         row = row;
         heap = G .heap;
         room =
-            λ e. subst (λ (m : ℕ). m < g .n) touched-length (room (place ∙ e));
+            λ e. subst (λ (m : ℕ). m < g .pattern .n) touched-length (room (place ∙ e));
       };
       dCount = G .dCount;
       keyCount = Z .keyCount;
       keyed = K;
-      column = subst (λ (c : ℕ). c < g .n) column-is (M .paired .rows i row matched .range);
+      column = subst (λ (c : ℕ). c < g .pattern .n) column-is (M .paired .rows i row matched .range);
       from = E .entry .column;
-      entry = (let h = in-entries g (S .columns) j k (E .entry) in let f = S .fewEntries in small h f);
+      entry = (let h = in-entries (g .pattern) (S .columns) j k (E .entry) in let f = S .fewEntries in small h f);
       open' = unmarked-row;
       first = first (among i (t .touched)) (λ m. m) (λ o m. T-not (among i (t .touched)) o m) ∙ ap (λ (p : ℕ). eqb p 0) place;
     }
       where
-        small : k < entries g → entries g ≤ 262144 → k < 2 ^ 32
+        small : k < entries (g .pattern) → entries (g .pattern) ≤ 262144 → k < 2 ^ 32
         small h f = omega arith
 
-  edge-ready : EdgeReady (g .n) w pos keys d frontier i x j k
+  edge-ready : EdgeReady (g .pattern .n) w pos keys d frontier i x j k
   unfolding treeOf
   edge-ready = record {
     workspace = record { words = Z .size; small = S .fewColumns };
@@ -174,7 +177,7 @@ module _ {g : CostGraph} {u : List Float} (w pos : List ℕ) (keys d : List Floa
     dCount = G .dCount;
     keyed = K;
     from = E .entry .column;
-    entry = (let h = in-entries g (S .columns) j k (E .entry) in let f = S .fewEntries in small h f);
+    entry = (let h = in-entries (g .pattern) (S .columns) j k (E .entry) in let f = S .fewEntries in small h f);
     flagged = F i row;
     distance = ordered x (E .distance .distance .good);
     held = held (among i (t .touched)) (λ m. m) (λ o m. T-not (among i (t .touched)) o m);
@@ -184,23 +187,23 @@ module _ {g : CostGraph} {u : List Float} (w pos : List ℕ) (keys d : List Floa
     matched = λ o p. relax-ready (λ e. o (sym column-is ∙ e)) (λ m. absurd (subst T p m));
   }
     where
-      small : k < entries g → entries g ≤ 262144 → k < 2 ^ 32
+      small : k < entries (g .pattern) → entries (g .pattern) ≤ 262144 → k < 2 ^ 32
       small h f = omega arith
 
 -- ---- the loop over a column's entries, which stands at entry k
 pub record ScanAt (g : CostGraph) (u : List Float) (w₀ pos₀ : List ℕ) (keys₀ d₀ : List Float) (frontier₀ : Frontier) (root : Bool) (v : Float) (j : ℕ)
     (w pos : List ℕ) (keys d : List Float) (frontier : Frontier) (k : ℕ) : Type 0 where
-  pub lo : start g j ≤ k
-  pub hi : k ≤ end g j
+  pub lo : start (g .pattern) j ≤ k
+  pub hi : k ≤ end (g .pattern) j
   pub size : length w ≡ length w₀
   pub places : length pos ≡ length pos₀
   pub keyCount : length keys ≡ length keys₀
   pub dCount : length d ≡ length d₀
-  pub tree : (stats : HungarianStats) → treeOf (g .n) w pos d frontier stats ≡ each (start g j) k
-      (λ k. edge g (region ipermAt (g .n) w₀) (distanceBy root v g u k) j k) (treeOf (g .n) w₀ pos₀ d₀ frontier₀ stats)
-  pub same : Same (g .n) w₀ w pos₀ pos
-  pub counts : Kept (g .n) frontier₀ frontier
-  pub keyed : Keyed d (frontier .len) 0 (drop (11 * g .n) w) keys
+  pub tree : (stats : HungarianStats) → treeOf (g .pattern .n) w pos d frontier stats ≡ each (start (g .pattern) j) k
+      (λ k. edge g (region ipermAt (g .pattern .n) w₀) (distanceBy root v g u k) j k) (treeOf (g .pattern .n) w₀ pos₀ d₀ frontier₀ stats)
+  pub same : Same (g .pattern .n) w₀ w pos₀ pos
+  pub counts : Kept (g .pattern .n) frontier₀ frontier
+  pub keyed : Keyed d (frontier .len) 0 (drop (11 * g .pattern .n) w) keys
 
 -- pairs and marks that stay
 pub pairs-same : (n : ℕ) (w w' : List ℕ) → region 0 n w' ≡ region 0 n w → region 1 n w' ≡ region 1 n w → pairsOf n w' ≡ pairsOf n w
@@ -212,15 +215,15 @@ flagged-same n pos pos' popped e F i h = e i h ∙ F i h
 
 module _ (g : CostGraph) (u : List Float) (w₀ pos₀ : List ℕ) (keys₀ d₀ : List Float) (frontier₀ : Frontier) (root : Bool) (v : Float) (j : ℕ)
     (R : ScanReady g u w₀ pos₀ keys₀ d₀ frontier₀ root v j) where
-  pub pointers : (start g j ≤ end g j) × (end g j ≤ entries g) × (length (g .colPtr) ≡ suc (g .n))
+  pub pointers : (start (g .pattern) j ≤ end (g .pattern) j) × (end (g .pattern) j ≤ entries (g .pattern)) × (length (g .pattern .colPtr) ≡ suc (g .pattern .n))
   pointers = (
     R .setting .columns .pointers .rises j (R .column),
-    subst (λ (m : ℕ). end g j ≤ m) (R .setting .columns .pointers .last)
-        (pointers-rise g (R .setting .columns) (suc j) (g .n) (R .column) (omega arith)),
+    subst (λ (m : ℕ). end (g .pattern) j ≤ m) (R .setting .columns .pointers .last)
+        (pointers-rise (g .pattern) (R .setting .columns) (suc j) (g .pattern .n) (R .column) (omega arith)),
     R .setting .pointerCount,
   )
 
-  pub scan-start : ScanAt g u w₀ pos₀ keys₀ d₀ frontier₀ root v j w₀ pos₀ keys₀ d₀ frontier₀ (start g j)
+  pub scan-start : ScanAt g u w₀ pos₀ keys₀ d₀ frontier₀ root v j w₀ pos₀ keys₀ d₀ frontier₀ (start (g .pattern) j)
   scan-start = record {
     lo = omega arith;
     hi = pointers .0;
@@ -228,50 +231,52 @@ module _ (g : CostGraph) (u : List Float) (w₀ pos₀ : List ℕ) (keys₀ d₀
     places = refl;
     keyCount = refl;
     dCount = refl;
-    tree = λ stats. sym (each-none (start g j) (λ k. edge g (region ipermAt (g .n) w₀) (distanceBy root v g u k) j k)
-        (treeOf (g .n) w₀ pos₀ d₀ frontier₀ stats));
-    same = same-words (g .n) w₀ pos₀;
+    tree = λ stats. sym (each-none (start (g .pattern) j) (λ k. edge g (region ipermAt (g .pattern .n) w₀) (distanceBy root v g u k) j k)
+        (treeOf (g .pattern .n) w₀ pos₀ d₀ frontier₀ stats));
+    same = same-words (g .pattern .n) w₀ pos₀;
     counts = record { popped = refl; touched = λ h. h };
     keyed = R .keyed;
   }
 
   abbrev t₀ : Tree
-  t₀ = treeOf (g .n) w₀ pos₀ d₀ frontier₀ (R .stats)
+  t₀ = treeOf (g .pattern .n) w₀ pos₀ d₀ frontier₀ (R .stats)
 
   abbrev Held : Tree → Type 0
-  Held a = Grown Number unitsPerOne (costLimit (g .n)) g (pairsOf (g .n) w₀) u (R .r) (R .rank) a × (a .popped ≡ t₀ .popped)
+  Held a = Grown Number unitsPerOne (costLimit (g .pattern .n)) g (pairsOf (g .pattern .n) w₀) u (R .r) (R .rank) a × (a .popped ≡ t₀ .popped)
 
-  an-edge : (k : ℕ) (a : Tree) → InColumn g j k → a .popped ≡ t₀ .popped → Tree.Edge Number unitsPerOne (costLimit (g .n)) g (pairsOf (g .n) w₀) u
+  an-edge : (k : ℕ) (a : Tree) → InColumn (g .pattern) j k → a .popped ≡ t₀ .popped → Tree.Edge Number unitsPerOne (costLimit (g .pattern .n)) g
+      (pairsOf (g .pattern .n) w₀) u
       (R .r) a j k (distanceBy root v g u k)
   an-edge k a c e = record { from = rw e (R .scanned); entry = c; distance = rw e (R .distance k c) }
 
-  inside : (k : ℕ) → start g j ≤ k → k < end g j → InColumn g j k
+  inside : (k : ℕ) → start (g .pattern) j ≤ k → k < end (g .pattern) j → InColumn (g .pattern) j k
   inside k lo hi = record { column = R .column; above = lo; below = hi }
 
-  held-to : (k : ℕ) → start g j ≤ k → k ≤ end g j → Held (each (start g j) k (λ k. edge g (region ipermAt (g .n) w₀) (distanceBy root v g u k) j k) t₀)
+  held-to : (k : ℕ) → start (g .pattern) j ≤ k → k ≤ end (g .pattern) j → Held
+      (each (start (g .pattern) j) k (λ k. edge g (region ipermAt (g .pattern .n) w₀) (distanceBy root v g u k) j k) t₀)
   held-to k lo hi =
-      each-keeps (λ i a. Held a) (λ k. edge g (region ipermAt (g .n) w₀) (distanceBy root v g u k) j k) (start g j) k t₀ lo
+      each-keeps (λ i a. Held a) (λ k. edge g (region ipermAt (g .pattern .n) w₀) (distanceBy root v g u k) j k) (start (g .pattern) j) k t₀ lo
       (λ i a l h p.
       let E = an-edge i a (inside i l (omega arith)) (p .1) in (
-        Tree.edge-keeps (R .setting) (R .matched) (heap-laws (g .n)) (R .free) a j i (distanceBy root v g u i) E (p .0),
+        Tree.edge-keeps (R .setting) (R .matched) (heap-laws (g .pattern .n)) (R .free) a j i (distanceBy root v g u i) E (p .0),
         edge-later (R .setting) a j i
             (distanceBy root v g u i) E (p .0) .0 .popped ∙ p .1,
       ))
       (R .grown, refl)
 
   module _ (w pos : List ℕ) (keys d : List Float) (frontier : Frontier) (k : ℕ)
-      (I : ScanAt g u w₀ pos₀ keys₀ d₀ frontier₀ root v j w pos keys d frontier k) (below : k < end g j) where
-    pub entry-in : (k < entries g) × (rowOf g k < g .n) × (length (g .cost) ≡ entries g) × (length u ≡ g .n)
+      (I : ScanAt g u w₀ pos₀ keys₀ d₀ frontier₀ root v j w pos keys d frontier k) (below : k < end (g .pattern) j) where
+    pub entry-in : (k < entries (g .pattern)) × (rowOf (g .pattern) k < g .pattern .n) × (length (g .cost) ≡ entries (g .pattern)) × (length u ≡ g .pattern .n)
     entry-in = let c = inside k (I .lo) below in
-        (in-entries g (R .setting .columns) j k c, row-below g (R .setting .columns) j k c, R .setting .costCount, R .duals)
+        (in-entries (g .pattern) (R .setting .columns) j k c, row-below (g .pattern) (R .setting .columns) j k c, R .setting .costCount, R .duals)
 
-    held-now : Held (treeOf (g .n) w pos d frontier (R .stats))
+    held-now : Held (treeOf (g .pattern .n) w pos d frontier (R .stats))
     held-now = rw (I .tree (R .stats)) (held-to k (I .lo) (I .hi))
 
-    same-pairs : pairsOf (g .n) w ≡ pairsOf (g .n) w₀
-    same-pairs = pairs-same (g .n) w₀ w (I .same .iperm) (I .same .jperm)
+    same-pairs : pairsOf (g .pattern .n) w ≡ pairsOf (g .pattern .n) w₀
+    same-pairs = pairs-same (g .pattern .n) w₀ w (I .same .iperm) (I .same .jperm)
 
-    pub scan-edge : EdgeReady (g .n) w pos keys d frontier (rowOf g k) (distanceBy root v g u k) j k
+    pub scan-edge : EdgeReady (g .pattern .n) w pos keys d frontier (rowOf (g .pattern) k) (distanceBy root v g u k) j k
     scan-edge =
         edge-ready w pos keys d frontier (R .stats) (R .setting)
         (record {
@@ -283,15 +288,15 @@ module _ (g : CostGraph) (u : List Float) (w₀ pos₀ : List ℕ) (keys₀ d₀
           popped = rw (I .counts .popped) (R .sized .popped);
         })
         (I .keyed)
-        (flagged-same (g .n) pos₀ pos (treeOf (g .n) w pos d frontier (R .stats) .popped) (I .same .marks) (rw (held-now .1) (R .flagged)))
+        (flagged-same (g .pattern .n) pos₀ pos (treeOf (g .pattern .n) w pos d frontier (R .stats) .popped) (I .same .marks) (rw (held-now .1) (R .flagged)))
         (subst (Matched g) (sym same-pairs) (R .matched)) (R .r) (subst (λ (s : Pairs). at (s .jperm) (R .r) ≡ none) (sym same-pairs) (R .free)) (R .rank)
-        (subst (λ (s : Pairs). Grown Number unitsPerOne (costLimit (g .n)) g s u (R .r) (R .rank) (treeOf (g .n) w pos d frontier (R .stats)))
+        (subst (λ (s : Pairs). Grown Number unitsPerOne (costLimit (g .pattern .n)) g s u (R .r) (R .rank) (treeOf (g .pattern .n) w pos d frontier (R .stats)))
         (sym same-pairs) (held-now .0)) j k (distanceBy root v g u k)
-        (subst (λ (s : Pairs). Tree.Edge Number unitsPerOne (costLimit (g .n)) g s u (R .r) (treeOf (g .n) w pos d frontier (R .stats)) j k
-        (distanceBy root v g u k)) (sym same-pairs) (an-edge k (treeOf (g .n) w pos d frontier (R .stats)) (inside k (I .lo) below) (held-now .1)))
+        (subst (λ (s : Pairs). Tree.Edge Number unitsPerOne (costLimit (g .pattern .n)) g s u (R .r) (treeOf (g .pattern .n) w pos d frontier (R .stats)) j k
+        (distanceBy root v g u k)) (sym same-pairs) (an-edge k (treeOf (g .pattern .n) w pos d frontier (R .stats)) (inside k (I .lo) below) (held-now .1)))
 
     pub scan-turn : (w' pos' : List ℕ) (keys' d' : List Float) (frontier' : Frontier) → length w' ≡ length w → length pos' ≡ length pos
-        → length keys' ≡ length keys → length d' ≡ length d → Passes (g .n) w w' pos pos' keys' d d' frontier frontier' (rowOf g k)
+        → length keys' ≡ length keys → length d' ≡ length d → Passes (g .pattern .n) w w' pos pos' keys' d d' frontier frontier' (rowOf (g .pattern) k)
         (distanceBy root v g u k) j k → ScanAt g u w₀ pos₀ keys₀ d₀ frontier₀ root v j w' pos' keys' d' frontier' (k + 1)
     scan-turn w' pos' keys' d' frontier' e ep ek f P = record {
       lo = omega (arith, I .lo);
@@ -301,10 +306,10 @@ module _ (g : CostGraph) (u : List Float) (w₀ pos₀ : List ℕ) (keys₀ d₀
       keyCount = ek ∙ I .keyCount;
       dCount = f ∙ I .dCount;
       tree = λ stats.
-          P .tree g stats refl ∙ ap (λ (l : List ℕ). edge g l (distanceBy root v g u k) j k (treeOf (g .n) w pos d frontier stats)) (I .same .iperm)
-          ∙ ap (edge g (region ipermAt (g .n) w₀) (distanceBy root v g u k) j k) (I .tree stats)
-          ∙ sym (each-more (start g j) k (λ k. edge g (region ipermAt (g .n) w₀) (distanceBy root v g u k) j k)
-          (treeOf (g .n) w₀ pos₀ d₀ frontier₀ stats) (I .lo));
+          P .tree g stats refl ∙ ap (λ (l : List ℕ). edge g l (distanceBy root v g u k) j k (treeOf (g .pattern .n) w pos d frontier stats)) (I .same .iperm)
+          ∙ ap (edge g (region ipermAt (g .pattern .n) w₀) (distanceBy root v g u k) j k) (I .tree stats)
+          ∙ sym (each-more (start (g .pattern) j) k (λ k. edge g (region ipermAt (g .pattern .n) w₀) (distanceBy root v g u k) j k)
+          (treeOf (g .pattern .n) w₀ pos₀ d₀ frontier₀ stats) (I .lo));
       same = record {
         iperm = P .same .iperm ∙ I .same .iperm;
         jperm = P .same .jperm ∙ I .same .jperm;
@@ -316,11 +321,12 @@ module _ (g : CostGraph) (u : List Float) (w₀ pos₀ : List ℕ) (keys₀ d₀
     }
 
   pub scan-end : (w pos : List ℕ) (keys d : List Float) (frontier : Frontier) (k : ℕ)
-      → ScanAt g u w₀ pos₀ keys₀ d₀ frontier₀ root v j w pos keys d frontier k → end g j ≤ k → Scans g u w₀ w pos₀ pos keys d₀ d frontier₀ frontier root v j
+      → ScanAt g u w₀ pos₀ keys₀ d₀ frontier₀ root v j w pos keys d frontier k → end (g .pattern) j ≤ k
+      → Scans g u w₀ w pos₀ pos keys d₀ d frontier₀ frontier root v j
   scan-end w pos keys d frontier k I h = record {
     tree = λ stats. I .tree stats
-        ∙ ap (λ (m : ℕ). each (start g j) m (λ k. edge g (region ipermAt (g .n) w₀) (distanceBy root v g u k) j k)
-        (treeOf (g .n) w₀ pos₀ d₀ frontier₀ stats)) (let e : k ≡ end g j = omega (arith, I .hi) in e);
+        ∙ ap (λ (m : ℕ). each (start (g .pattern) j) m (λ k. edge g (region ipermAt (g .pattern .n) w₀) (distanceBy root v g u k) j k)
+        (treeOf (g .pattern .n) w₀ pos₀ d₀ frontier₀ stats)) (let e : k ≡ end (g .pattern) j = omega (arith, I .hi) in e);
     same = I .same;
     counts = I .counts;
     keyed = I .keyed;

@@ -29,18 +29,18 @@ pub standing-at : {g : CostGraph} {u : List Float} {w pos : List ℕ} {keys d : 
 standing-at {g} {u} {w} {pos} {keys} {d} {r} e A = subst (Standing g u w pos keys d r) e A
 
 module _ (g : CostGraph) (u : List Float) (w pos : List ℕ) (keys d : List Float) (r : Counts) (j : ℕ) (A : Standing g u w pos keys d r j)
-    (below : j < g .n) where
+    (below : j < g .pattern .n) where
   abbrev x : Running
-  x = runningOf (g .n) u w pos d (r .stats)
+  x = runningOf (g .pattern .n) u w pos d (r .stats)
 
-  free-word : at (region jpermAt (g .n) w) j ≡ getD w (g .n + j) 0
-  free-word = jperm-at (g .n) w j below
+  free-word : at (region jpermAt (g .pattern .n) w) j ≡ getD w (g .pattern .n + j) 0
+  free-word = jperm-at (g .pattern .n) w j below
 
-  runs : Runs Number unitsPerOne (costLimit (g .n)) g (initial-counts (A .setting) .0) j (runningOf (g .n) u w pos d (r .stats))
-  runs = subst (Runs Number unitsPerOne (costLimit (g .n)) g (initial-counts (A .setting) .0) j) (sym (A .state))
+  runs : Runs Number unitsPerOne (costLimit (g .pattern .n)) g (initial-counts (A .setting) .0) j (runningOf (g .pattern .n) u w pos d (r .stats))
+  runs = subst (Runs Number unitsPerOne (costLimit (g .pattern .n)) g (initial-counts (A .setting) .0) j) (sym (A .state))
       (turns (A .setting) (λ e. absurd (inexact e)) j (omega arith))
 
-  pub search-asks : getD w (g .n + j) 0 ≡ none → SearchReady g u w pos keys d (r .stats) j
+  pub search-asks : getD w (g .pattern .n + j) 0 ≡ none → SearchReady g u w pos keys d (r .stats) j
   search-asks e = record {
     setting = A .setting;
     size = A .size;
@@ -54,11 +54,11 @@ module _ (g : CostGraph) (u : List Float) (w pos : List ℕ) (keys d : List Floa
     free = free-word ∙ e;
   }
 
-  next-turn : stateAt g (j + 1) ≡ augment g j (runningOf (g .n) u w pos d (r .stats))
+  next-turn : stateAt g (j + 1) ≡ augment g j (runningOf (g .pattern .n) u w pos d (r .stats))
   unfolding runTo
   next-turn = each-more 0 j (augment g) _ (omega arith) ∙ ap (augment g j) (sym (A .state))
 
-  pub column-passes : getD w (g .n + j) 0 ≢ none → Standing g u w pos keys d r (j + 1)
+  pub column-passes : getD w (g .pattern .n + j) 0 ≢ none → Standing g u w pos keys d r (j + 1)
   unfolding augment
   column-passes o = record {
     setting = A .setting;
@@ -66,12 +66,12 @@ module _ (g : CostGraph) (u : List Float) (w pos : List ℕ) (keys d : List Floa
     places = A .places;
     keyCount = A .keyCount;
     state =
-        sym (next-turn ∙ rw (ne-eqb (at (region jpermAt (g .n) w) j) none (λ e. o (sym free-word ∙ e))) refl);
+        sym (next-turn ∙ rw (ne-eqb (at (region jpermAt (g .pattern .n) w) j) none (λ e. o (sym free-word ∙ e))) refl);
     number = A .number;
     flagged = A .flagged;
   }
 
-  pub column-searched : getD w (g .n + j) 0 ≡ none → (u' : List Float) (w' pos' : List ℕ) (keys' d' : List Float) (r' : Counts) → length w' ≡ length w
+  pub column-searched : getD w (g .pattern .n + j) 0 ≡ none → (u' : List Float) (w' pos' : List ℕ) (keys' d' : List Float) (r' : Counts) → length w' ≡ length w
       → length pos' ≡ length pos → length keys' ≡ length keys → Augments g u u' w w' pos pos' d d' j (r .stats) r' → Standing g u' w' pos' keys' d' r' (j + 1)
   unfolding augment
   column-searched e u' w' pos' keys' d' r' long places keyCount B = record {
@@ -79,7 +79,7 @@ module _ (g : CostGraph) (u : List Float) (w pos : List ℕ) (keys d : List Floa
     size = long ∙ A .size;
     places = places ∙ A .places;
     keyCount = keyCount ∙ A .keyCount;
-    state = B .state ∙ sym (next-turn ∙ rw (eq-eqb (at (region jpermAt (g .n) w) j) none (free-word ∙ e)) refl);
+    state = B .state ∙ sym (next-turn ∙ rw (eq-eqb (at (region jpermAt (g .pattern .n) w) j) none (free-word ∙ e)) refl);
     number = B .number;
     flagged = B .flagged;
   }

@@ -34,49 +34,51 @@ unmarked-zeros zero = refl
 unmarked-zeros (suc n) = (λ z. unmarked-zero z ∷ unmarked-zeros n z)
 
 module _ (g : CostGraph) (u : List Float) (w : List ℕ) (num : ℕ) (stats : HungarianStats) (A : Started g u w num stats) (D : Doubles g) where
-  S : Setting Number unitsPerOne (costLimit (g .n)) g
+  S : Setting Number unitsPerOne (costLimit (g .pattern .n)) g
   S = near-setting g (A .accepted) D
 
-  pub few : g .n ≤ 4096
+  pub few : g .pattern .n ≤ 4096
   few = S .fewColumns
 
   -- no heap was made yet
   pub slots : stats .«heap_init_slots» ≡ 0
   slots = ap (λ (c : HungarianStats). c .«heap_init_slots») (A .counts ∙ initial-counts S .1)
 
-  module _ (w' pos' : List ℕ) (keys d' : List Float) (P : Prepared (g .n) w w' pos' d') (long : length w' ≡ length w) (keyCount : length keys ≡ g .n) where
-    pairs-now : pairsOf (g .n) w' ≡ initial g .pairs
+  module _ (w' pos' : List ℕ) (keys d' : List Float) (P : Prepared (g .pattern .n) w w' pos' d') (long : length w' ≡ length w)
+      (keyCount : length keys ≡ g .pattern .n) where
+    pairs-now : pairsOf (g .pattern .n) w' ≡ initial g .pairs
     pairs-now =
-        let c : matchedCount none (g .n) (λ j. getD (pairsOf (g .n) w' .jperm) j 0) ≡ initial g .pairs .num =
-        ap (λ (l : List ℕ). matchedCount none (g .n) (at l)) (P .jperm ∙ A .jperm) ∙ sym (initial-matched S .counted) in
+        let c : matchedCount none (g .pattern .n) (λ j. getD (pairsOf (g .pattern .n) w' .jperm) j 0) ≡ initial g .pairs .num =
+        ap (λ (l : List ℕ). matchedCount none (g .pattern .n) (at l)) (P .jperm ∙ A .jperm) ∙ sym (initial-matched S .counted) in
         λ z. record { iperm = (P .iperm ∙ A .iperm) z; jperm = (P .jperm ∙ A .jperm) z; num = c z }
 
-    heap-now : heapIn (g .n) w' pos' 0 ≡ record { heap = replicate (g .n + 1) 0; pos = replicate (g .n) 0; len = 0 }
+    heap-now : heapIn (g .pattern .n) w' pos' 0 ≡ record { heap = replicate (g .pattern .n + 1) 0; pos = replicate (g .pattern .n) 0; len = 0 }
     unfolding heapIn
-    heap-now = let e : map unmarked pos' ≡ replicate (g .n) 0 = ap (map unmarked) (P .places) ∙ unmarked-zeros (g .n) in
+    heap-now = let e : map unmarked pos' ≡ replicate (g .pattern .n) 0 = ap (map unmarked) (P .places) ∙ unmarked-zeros (g .pattern .n) in
         λ z. record { heap = P .heap z; pos = e z; len = 0 }
 
-    pub start-stands : (made : HungarianStats) → made ≡ heapMade (g .n) stats → Standing g u w' pos' keys d' (record { matched = num; stats = made }) 0
+    pub start-stands : (made : HungarianStats) → made ≡ heapMade (g .pattern .n) stats → Standing g u w' pos' keys d' (record { matched = num; stats = made }) 0
     unfolding runTo
     start-stands made e = record {
       setting = S;
       size = long ∙ A .size;
-      places = ap length (P .places) ∙ length-replicate (g .n) 0;
+      places = ap length (P .places) ∙ length-replicate (g .pattern .n) 0;
       keyCount = keyCount;
       state =
-          let counts : made ≡ heapMade (g .n) (initial g .stats) = e ∙ ap (heapMade (g .n)) (A .counts) in
+          let counts : made ≡ heapMade (g .pattern .n) (initial g .stats) = e ∙ ap (heapMade (g .pattern .n)) (A .counts) in
           (λ z. record { pairs = pairs-now z; u = A .duals z; d = P .distances z; heap = heap-now z; pr = P .pr z; out = P .out z; stats = counts z })
           ∙ sym (each-none 0 (augment g) _);
       number = A .number ∙ sym (ap (λ (p : Pairs). p .num) pairs-now);
       flagged = none-marked;
     }
       where
-        none-marked : Flagged (g .n) pos' []
+        none-marked : Flagged (g .pattern .n) pos' []
         none-marked i h = unfold among in
             subst (λ (l : List ℕ). eqb (getD l i 0) none ≡ false) (sym (P .places))
-            (subst (λ (p : ℕ). eqb p none ≡ false) (sym (getD-replicate (g .n) i 0 0 h)) refl)
+            (subst (λ (p : ℕ). eqb p none ≡ false) (sym (getD-replicate (g .pattern .n) i 0 0 h)) refl)
 
-pub end-searched : (g : CostGraph) (u : List Float) (w pos : List ℕ) (keys d : List Float) (r : Counts) → Standing g u w pos keys d r (g .n) → Searched g u w r
+pub end-searched : (g : CostGraph) (u : List Float) (w pos : List ℕ) (keys d : List Float) (r : Counts) → Standing g u w pos keys d r (g .pattern .n)
+    → Searched g u w r
 unfolding searched
 end-searched g u w pos keys d r A = record {
   iperm = ap (λ (x : Running). x .pairs .iperm) (A .state);

@@ -22,7 +22,8 @@ use Rattle.sparse.specs.Validate.{sizeFault, pointerFault, generalColumns}
 use Rattle.sparse.proofs.First.{or-zero, unless-holds, answer-first, answer-second}
 use Rattle.sparse.proofs.Accepted.{sizes-accepted, pointers-accepted, general-columns}
 use Rattle.sparse.proofs.Listed.{Listed, test, or-listed, within, part}
-use Rattle.hungarian.specs.Graph.{CostGraph, costOf, entries}
+use Rattle.sparse.specs.Pattern.{entries}
+use Rattle.hungarian.specs.Graph.{CostGraph, costOf}
 use Rattle.hungarian.specs.Accepted.{Accepted, Doubles}
 use Rattle.hungarian.specs.Test.{graphFault, graphLengths}
 use Rattle.hungarian.specs.Optimal.{WholeCosts}
@@ -42,8 +43,8 @@ use Rattle.match_check.proofs.Ours.{left-certified}
 
 -- ---- the lengths
 pub record Fitting (g : CostGraph) (s : Claim) : Type 0 where
-  pub pointers : length (g .colPtr) ≡ g .n + 1
-  pub costs : length (g .cost) ≡ length (g .rowIdx)
+  pub pointers : length (g .pattern .colPtr) ≡ g .pattern .n + 1
+  pub costs : length (g .cost) ≡ length (g .pattern .rowIdx)
   pub graph : graphLengths g ≡ true
   pub long : Long g s
 
@@ -51,9 +52,9 @@ pub fitting : (g : CostGraph) (s : Claim) → checkLengths g s ≡ true → Fitt
 unfolding checkLengths
 fitting g s t =
     let a = both (graphLengths g) _ t in
-    let l = both (eqb (length (g .colPtr)) (g .n + 1)) (eqb (length (g .cost)) (length (g .rowIdx))) (a .0) in
-    let p = both (eqb (length (s .perm)) (g .n)) _ (a .1) in
-    let d = both (eqb (length (s .u)) (g .n)) (eqb (length (s .v)) (g .n)) (p .1) in
+    let l = both (eqb (length (g .pattern .colPtr)) (g .pattern .n + 1)) (eqb (length (g .cost)) (length (g .pattern .rowIdx))) (a .0) in
+    let p = both (eqb (length (s .perm)) (g .pattern .n)) _ (a .1) in
+    let d = both (eqb (length (s .u)) (g .pattern .n)) (eqb (length (s .v)) (g .pattern .n)) (p .1) in
     record {
       pointers = eqb-true _ _ (l .0);
       costs = eqb-true _ _ (l .1);
@@ -65,16 +66,16 @@ fits-lengths : (g : CostGraph) (s : Claim) → graphLengths g ≡ true → Long 
 unfolding checkLengths
 fits-lengths g s t l = rw (
   t,
-  eq-eqb (length (s .perm)) (g .n) (l .rows),
-  eq-eqb (length (s .u)) (g .n) (l .rowDuals),
-  eq-eqb (length (s .v)) (g .n)
+  eq-eqb (length (s .perm)) (g .pattern .n) (l .rows),
+  eq-eqb (length (s .u)) (g .pattern .n) (l .rowDuals),
+  eq-eqb (length (s .v)) (g .pattern .n)
       (l .columnDuals),
 ) refl
 
 all-fit : (g : CostGraph) (lengths : Bool) → graphFault g lengths ≡ 0 → lengths ≡ true
 unfolding graphFault
-all-fit g lengths e = sizes-accepted (g .n) maxGeneral (length (g .rowIdx)) lengths .0
-    (or-zero (sizeFault (g .n) maxGeneral (length (g .rowIdx)) lengths) _ e .0) .2
+all-fit g lengths e = sizes-accepted (g .pattern .n) maxGeneral (length (g .pattern .rowIdx)) lengths .0
+    (or-zero (sizeFault (g .pattern .n) maxGeneral (length (g .pattern .rowIdx)) lengths) _ e .0) .2
 
 -- ---- a graph that passes
 module _ (g : CostGraph) (s : Claim) (e : graphFault g (checkLengths g s) ≡ 0) where
@@ -84,20 +85,20 @@ module _ (g : CostGraph) (s : Claim) (e : graphFault g (checkLengths g s) ≡ 0)
   pub graph-accepted : Accepted g
   graph-accepted = subst (λ (t : Bool). graphFault g t ≡ 0) (all-fit g (checkLengths g s) e ∙ sym (fit .graph)) e
 
-  pub ready : Checkable (g .n) (g .colPtr) (g .rowIdx) (g .cost) s
+  pub ready : Checkable (g .pattern .n) (g .pattern .colPtr) (g .pattern .rowIdx) (g .cost) s
   unfolding graphFault
   ready =
-      let z = or-zero (sizeFault (g .n) maxGeneral (length (g .rowIdx)) (checkLengths g s)) _ e in
-      let y = or-zero (pointerFault (g .n) (g .colPtr) (length (g .rowIdx))) _ (z .1) in
-      let x = or-zero (generalColumns (g .n) (g .colPtr) (g .rowIdx)) _ (y .1) in
-      let t = sizes-accepted (g .n) maxGeneral (length (g .rowIdx)) (checkLengths g s) .0 (z .0) in
+      let z = or-zero (sizeFault (g .pattern .n) maxGeneral (length (g .pattern .rowIdx)) (checkLengths g s)) _ e in
+      let y = or-zero (pointerFault (g .pattern .n) (g .pattern .colPtr) (length (g .pattern .rowIdx))) _ (z .1) in
+      let x = or-zero (generalColumns (g .pattern .n) (g .pattern .colPtr) (g .pattern .rowIdx)) _ (y .1) in
+      let t = sizes-accepted (g .pattern .n) maxGeneral (length (g .pattern .rowIdx)) (checkLengths g s) .0 (z .0) in
       record {
         pattern = record {
           few = t .0;
           entries = t .1;
           pointers = fit .pointers;
           columns =
-              general-columns (pointers-accepted (g .n) (g .colPtr) (length (g .rowIdx)) .0 (y .0)) .0 (x .0);
+              general-columns (pointers-accepted (g .pattern .n) (g .pattern .colPtr) (length (g .pattern .rowIdx)) .0 (y .0)) .0 (x .0);
         };
         costs = fit .costs;
         rows = fit .long .rows;
@@ -116,17 +117,18 @@ low-mag true a b m l h = omega arith
 low-mag false a b m l h = omega arith
 
 module _ (g : CostGraph) (a : Accepted g) (d : Doubles g) where
-  S : Setting Number unitsPerOne (costLimit (g .n)) g
+  S : Setting Number unitsPerOne (costLimit (g .pattern .n)) g
   S = near-setting g a d
 
-  limit-small : 0 < g .n → costLimit (g .n) * unitsPerOne ≤ 2 ^ 50 * unitsPerOne
-  limit-small h = mul-le-mul-right unitsPerOne (let m : 1 * costLimit (g .n) ≤ g .n * costLimit (g .n) = mul-le-mul-right (costLimit (g .n)) h in
-      omega (arith, one-mul (costLimit (g .n)), S .product, S .fewColumns))
+  limit-small : 0 < g .pattern .n → costLimit (g .pattern .n) * unitsPerOne ≤ 2 ^ 50 * unitsPerOne
+  limit-small h = mul-le-mul-right unitsPerOne (let m : 1 * costLimit (g .pattern .n) ≤ g .pattern .n * costLimit (g .pattern .n) = mul-le-mul-right
+      (costLimit (g .pattern .n)) h in
+      omega (arith, one-mul (costLimit (g .pattern .n)), S .product, S .fewColumns))
 
-  cost-size : (k : ℕ) → k < entries g → magnitude (costOf g k) ≤ 2 ^ 50 * unitsPerOne
+  cost-size : (k : ℕ) → k < entries (g .pattern) → magnitude (costOf g k) ≤ 2 ^ 50 * unitsPerOne
   unfolding position
   cost-size k h =
-      let m = low-mag (negative (costOf g k)) (magnitude (costOf g k)) (costLimit (g .n) * unitsPerOne) (mag-lt (costOf g k) (S .good k h))
+      let m = low-mag (negative (costOf g k)) (magnitude (costOf g k)) (costLimit (g .pattern .n) * unitsPerOne) (mag-lt (costOf g k) (S .good k h))
       (S .low k h) (S .high k h) in
       omega (arith, limit-small (omega (arith, S .columns .inside k h)))
 
@@ -153,7 +155,7 @@ check-listed : (g : CostGraph) (s : Claim) → Listed checkNumbers (checkFault g
 unfolding listed within checkFault claimFault
 check-listed g s = or-listed (part graphNumbers (match-listed g (checkLengths g s)) refl)
     (or-listed (test (wholeCosts (g .cost)) costRange refl refl)
-    (or-listed (test (pairingFits g (s .perm)) incompleteMatching refl refl)
+    (or-listed (test (pairingFits (g .pattern) (s .perm)) incompleteMatching refl refl)
     (or-listed (test (dualsHold g s) infeasibleDuals refl refl) (test (sumsReached g s) loosePair refl refl))))
 
 -- ---- accepted exactly where certified

@@ -1,24 +1,24 @@
 -- The loops over columns: where a column's entries stand, and what the column's own test is worth among all.
 use mathlib.Core.Path.{_≡_, sym, ap, _∙_}
 use mathlib.Core.Bool.{Bool}
-use mathlib.Core.List.{[], List}
+use mathlib.Core.List.{List}
 use Prim.Native.Nat.{ℕ, suc, _+_, _-_, _≤_, _<_}
 use native.Mathlib.Nat.{le-refl}
 use native.Mathlib.Numerals.{add-one}
 use native.Mathlib.Omega.{arith}
 use lib.ListN.{length, getD}
 use lib.Ieee.{Float}
-use Rattle.hungarian.specs.Graph.{graphOf}
-use Rattle.hungarian.proofs.Columns.{pointers-rise}
+use Rattle.sparse.specs.Pattern.{pattern}
+use Rattle.sparse.proofs.Columns.{pointers-rise}
 use Rattle.match_check.specs.Check.{Claim, everyOf, someOf}
-use Rattle.match_check.specs.inner.Steps.{Pattern, Stretch, Checkable}
+use Rattle.match_check.specs.inner.Steps.{AcceptedPattern, Stretch, Checkable}
 
-module _ {n : ℕ} {colPtr rowIdx : List ℕ} (p : Pattern n colPtr rowIdx) (j : ℕ) (h : j < n) where
+module _ {n : ℕ} {colPtr rowIdx : List ℕ} (p : AcceptedPattern n colPtr rowIdx) (j : ℕ) (h : j < n) where
   pub rises : getD colPtr j 0 ≤ getD colPtr (j + 1) 0
-  rises = pointers-rise (graphOf n colPtr rowIdx []) (p .columns) j (j + 1) (omega arith) (omega arith)
+  rises = pointers-rise (pattern n colPtr rowIdx) (p .columns) j (j + 1) (omega arith) (omega arith)
 
   pub within : getD colPtr (j + 1) 0 ≤ length rowIdx
-  within = let l = pointers-rise (graphOf n colPtr rowIdx []) (p .columns) (j + 1) n (omega arith) (le-refl n) in omega (arith, p .columns .pointers .last)
+  within = let l = pointers-rise (pattern n colPtr rowIdx) (p .columns) (j + 1) n (omega arith) (le-refl n) in omega (arith, p .columns .pointers .last)
 
 pub stretch : {n : ℕ} {colPtr rowIdx : List ℕ} {cost : List Float} {s : Claim} → Checkable n colPtr rowIdx cost s → (j : ℕ) → j < n
     → Stretch (getD colPtr j 0) (getD colPtr (j + 1) 0) rowIdx cost (s .u)

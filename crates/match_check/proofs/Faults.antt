@@ -1,24 +1,18 @@
 -- The tests of a claim one after the other: each answer is the first fault's number.
 use mathlib.Core.Path.{_≡_, refl, sym, _∙_}
 use mathlib.Core.Bool.{Bool, true, false}
-use mathlib.Core.List.{[]}
 use Rattle.refusal.specs.Refusal.{accepted, incompleteMatching, infeasibleDuals, loosePair}
-use Rattle.hungarian.specs.Graph.{CostGraph, graphOf}
-use Rattle.match_check.specs.Check.{Claim, pairsStand, pairingFits, dualsHold, sumsReached, claimFault}
+use Rattle.hungarian.specs.Graph.{CostGraph}
+use Rattle.match_check.specs.Check.{Claim, pairingFits, dualsHold, sumsReached, claimFault}
 
--- costs do not matter to the pairs
-module _ (g : CostGraph) (s : Claim) {pairing : Bool} (p : pairing ≡ pairingFits (graphOf (g .n) (g .colPtr) (g .rowIdx) []) (s .perm)) where
-  pairing-is : pairing ≡ pairingFits g (s .perm)
-  unfolding pairingFits pairsStand
-  pairing-is = p
-
+module _ (g : CostGraph) (s : Claim) {pairing : Bool} (p : pairing ≡ pairingFits (g .pattern) (s .perm)) where
   pub by-pairing : pairing ≡ false → incompleteMatching ≡ claimFault g s
   unfolding claimFault
-  by-pairing z = let q : pairingFits g (s .perm) ≡ false = sym pairing-is ∙ z in rw q refl
+  by-pairing z = let q : pairingFits (g .pattern) (s .perm) ≡ false = sym p ∙ z in rw q refl
 
   module _ (y : pairing ≡ true) {duals : Bool} (d : duals ≡ dualsHold g s) where
-    paired : pairingFits g (s .perm) ≡ true
-    paired = sym pairing-is ∙ y
+    paired : pairingFits (g .pattern) (s .perm) ≡ true
+    paired = sym p ∙ y
 
     pub by-duals : duals ≡ false → infeasibleDuals ≡ claimFault g s
     unfolding claimFault

@@ -13,7 +13,7 @@ use lib.Ieee.Bits.{is-true}
 use lib.ListN.{length, getD, set, replicate, length-set}
 use lib.Seq.{getD-set-same, getD-set-other}
 use Rattle.slices.proofs.Lists.{zeros}
-use Rattle.hungarian.specs.Graph.{CostGraph}
+use Rattle.sparse.specs.Pattern.{Pattern}
 use Rattle.match_check.specs.Check.{someOf, takenBefore, rowsBelow, rowsOnce, pairsStand, pairingFits}
 use Rattle.match_check.proofs.Every.{some-more, every-first}
 
@@ -67,7 +67,7 @@ row-in perm t few j h = let b =
     ltb-true (getD perm j 0) (length perm) (every-first (λ i. ltb (getD perm i 0) (length perm)) (length perm) (is-true _ t) j h) in omega arith
 
 -- ---- the three tests of the pairs, one after the other
-module _ (g : CostGraph) (perm : List ℕ) {below : Bool} (b : below ≡ rowsBelow (g .n) perm) where
+module _ (g : Pattern) (perm : List ℕ) {below : Bool} (b : below ≡ rowsBelow (g .n) perm) where
   pub lacks-rows : below ≡ false → false ≡ pairingFits g perm
   unfolding pairingFits
   lacks-rows t = let q : rowsBelow (g .n) perm ≡ false = sym b ∙ t in rw q refl

@@ -32,22 +32,22 @@ module _ (g : CostGraph) (a : Accepted g) (w : WholeCosts g) where
   doubles : Doubles g
   doubles k h = w k h .1 .double
 
-  last-length : length (lastDuals g) ≡ g .n
+  last-length : length (lastDuals g) ≡ g .pattern .n
   unfolding lastDuals searched
-  last-length = go (eqb (initial g .pairs .num) (g .n))
+  last-length = go (eqb (initial g .pairs .num) (g .pattern .n))
     where
-      S : Setting Number unitsPerOne (costLimit (g .n)) g
+      S : Setting Number unitsPerOne (costLimit (g .pattern .n)) g
       S = near-setting g a doubles
 
-      go : (b : Bool) → length (cond b (firstDuals g) (searched g (firstDuals g) (initial g) .u)) ≡ g .n
+      go : (b : Bool) → length (cond b (firstDuals g) (searched g (firstDuals g) (initial g) .u)) ≡ g .pattern .n
       go true = initial-bounded S .dualCount
-      go false = turns S (exact-start S) (g .n) (le-refl (g .n)) .bounded .dualCount
+      go false = turns S (exact-start S) (g .pattern .n) (le-refl (g .pattern .n)) .bounded .dualCount
 
-  row-duals : length (hungarianMatch g .u) ≡ g .n
+  row-duals : length (hungarianMatch g .u) ≡ g .pattern .n
   unfolding finish
   row-duals = ap (λ (m : Matching). length (m .u)) (last-finishes g) ∙ rows-length (lastPairs g .iperm) (lastDuals g) ∙ last-length
 
-  column-duals : length (hungarianMatch g .v) ≡ g .n
+  column-duals : length (hungarianMatch g .v) ≡ g .pattern .n
   unfolding finish
   column-duals = ap (λ (m : Matching). length (m .v)) (last-finishes g) ∙ duals-length g (lastDuals g) (lastPairs g .jperm)
       ∙ last-matched g a doubles .columnCount
@@ -57,7 +57,7 @@ pub record Found (g : CostGraph) (s : Claim) : Type 0 where
   pub graph : Accepted g
   pub costs : WholeCosts g
   pub left : s ≡ claim (hungarianMatch g .perm) (hungarianMatch g .u) (hungarianMatch g .v)
-  pub full : hungarianMatch g .matched ≡ g .n
+  pub full : hungarianMatch g .matched ≡ g .pattern .n
 
 pub ours-certified : (g : CostGraph) (s : Claim) → Found g s → Certified g s
 unfolding matchedEntries
@@ -84,7 +84,7 @@ unfolding matchOutcome finished
 left-certified g s o = go (matchFault g (o .before)) refl (o .number) (o .matched) (o .left)
   where
     go : (fault : ℕ) → matchFault g (o .before) ≡ fault → numberOf (refusing Refused fault (finished g (o .before)) (o .before) .answer) ≡ 0
-        → getD (countsLeft (refusing Refused fault (finished g (o .before)) (o .before) .answer) (o .counts)) 0 0 ≡ g .n
+        → getD (countsLeft (refusing Refused fault (finished g (o .before)) (o .before) .answer) (o .counts)) 0 0 ≡ g .pattern .n
         → s ≡ claimLeft (refusing Refused fault (finished g (o .before)) (o .before) .after) → Certified g s
     go zero e z full left = ours-certified g s (record { graph = accepted-lengths g (o .before) e .accepted; costs = o .costs; left = left; full = full })
     go (suc fault) e z full left = let w : ⊥ = omega arith in absurd w

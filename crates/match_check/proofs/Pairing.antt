@@ -20,8 +20,8 @@ use Rattle.matching.specs.Pairing.{pairedEntries}
 use Rattle.matching.proofs.Sums.{Sent, counting, count-le, sum-const, sum-parts, sum-under, or-zero-true}
 use Rattle.matching.proofs.Matchings.{size-bound}
 use Rattle.matching.proofs.Pairings.{not-eqb}
-use Rattle.hungarian.specs.Graph.{CostGraph, rowOf, colOf, entries, start, end, bipartite, InColumn}
-use Rattle.hungarian.proofs.Columns.{in-range, in-column, simple, column-is, in-entries, row-below}
+use Rattle.sparse.specs.Pattern.{Pattern, rowOf, columnOf, entries, start, end, bipartite, InColumn}
+use Rattle.sparse.proofs.Columns.{in-range, in-column, simple, column-is, in-entries, row-below}
 use Rattle.match_check.specs.Check.{someOf, hasRow, rowFresh, pairStands, rowsBelow, rowsOnce, pairsStand, pairingFits}
 use Rattle.match_check.proofs.Every.{every-first, first-every}
 
@@ -58,7 +58,7 @@ some-found f count k i l h t = go (someOf count f k) refl
     go false e = let s : k + (i - k) ≡ i = omega arith in sym (subst (λ (m : ℕ). f m ≡ false) s (some-none f count k e (i - k) (omega arith))) ∙ t
 
 -- ---- a pairing that passes
-module _ (g : CostGraph) (perm : List ℕ) (w : Columns (g .n) (g .colPtr) (g .rowIdx)) (t : pairingFits g perm ≡ true) where
+module _ (g : Pattern) (perm : List ℕ) (w : Columns (g .n) (g .colPtr) (g .rowIdx)) (t : pairingFits g perm ≡ true) where
   standing : (rowsOnce (g .n) perm && pairsStand g perm) ≡ true
   unfolding pairingFits
   standing = both (rowsBelow (g .n) perm) _ t .1
@@ -92,22 +92,22 @@ module _ (g : CostGraph) (perm : List ℕ) (w : Columns (g .n) (g .colPtr) (g .r
   abbrev pairs : ℕ → Bool
   pairs = pairedEntries (bipartite g) (λ j. getD perm j 0)
 
-  row-is : (k : ℕ) → T (pairs k) → getD perm (colOf g k) 0 ≡ rowOf g k
+  row-is : (k : ℕ) → T (pairs k) → getD perm (columnOf g k) 0 ≡ rowOf g k
   unfolding pairedEntries
-  row-is k s = eqb→eq (getD perm (colOf g k) 0) (rowOf g k) s
+  row-is k s = eqb→eq (getD perm (columnOf g k) 0) (rowOf g k) s
 
   matching : IsMatching (bipartite g) pairs
   matching = record {
     rows = λ k l b d s r e. simple g w k l b d e
-        (once (colOf g k) (colOf g l) (in-range g w .cols k b) (in-range g w .cols l d) (row-is k s ∙ e ∙ sym (row-is l r)));
+        (once (columnOf g k) (columnOf g l) (in-range g w .cols k b) (in-range g w .cols l d) (row-is k s ∙ e ∙ sym (row-is l r)));
     cols = λ k l b d s r e. simple g w k l b d (sym (row-is k s) ∙ ap (λ (j : ℕ). getD perm j 0) e ∙ row-is l r) e;
   }
 
-  sent : (j : ℕ) → j < g .n → Sent (entries g) (λ i. 1) (λ k. orZero (pairs k) 1) (λ i k. colOf g k ≡ i) j
+  sent : (j : ℕ) → j < g .n → Sent (entries g) (λ i. 1) (λ k. orZero (pairs k) 1) (λ i k. columnOf g k ≡ i) j
   unfolding pairedEntries
   sent j h =
       let r = pair-entry j h in
-      let e : colOf g (r .0) ≡ j = column-is g w j (r .0) (r .1) in
+      let e : columnOf g (r .0) ≡ j = column-is g w j (r .0) (r .1) in
       let s : T (pairs (r .0)) = eq→eqb (ap (λ (i : ℕ). getD perm i 0) e ∙ sym (r .2)) in
       record { place = r .0; range = in-entries g w j (r .0) (r .1); sent = e; enough = omega (arith, or-zero-true (pairs (r .0)) 1 s) }
 
@@ -117,7 +117,7 @@ module _ (g : CostGraph) (perm : List ℕ) (w : Columns (g .n) (g .colPtr) (g .r
     arith,
     mul-one (g .n),
     sum-const (g .n) 1,
-    counting (g .n) (entries g) (λ i. 1) (λ k. orZero (pairs k) 1) (λ i k. colOf g k ≡ i)
+    counting (g .n) (entries g) (λ i. 1) (λ k. orZero (pairs k) 1) (λ i k. columnOf g k ≡ i)
         (λ i h p. sent i h) (λ i j k b d p q. sym p ∙ q),
   )
 
@@ -125,21 +125,21 @@ module _ (g : CostGraph) (perm : List ℕ) (w : Columns (g .n) (g .colPtr) (g .r
   complete = record { matching = matching; full = let a = size-bound (in-range g w) matching in omega (arith, enough) }
 
 -- ---- a complete matching passes
-module _ (g : CostGraph) (perm : List ℕ) (w : Columns (g .n) (g .colPtr) (g .rowIdx))
+module _ (g : Pattern) (perm : List ℕ) (w : Columns (g .n) (g .colPtr) (g .rowIdx))
     (c : Complete (bipartite g) (pairedEntries (bipartite g) (λ j. getD perm j 0))) where
   abbrev held : ℕ → Bool
   held = pairedEntries (bipartite g) (λ j. getD perm j 0)
 
-  held-row : (k : ℕ) → T (held k) → getD perm (colOf g k) 0 ≡ rowOf g k
+  held-row : (k : ℕ) → T (held k) → getD perm (columnOf g k) 0 ≡ rowOf g k
   unfolding pairedEntries
-  held-row k s = eqb→eq (getD perm (colOf g k) 0) (rowOf g k) s
+  held-row k s = eqb→eq (getD perm (columnOf g k) 0) (rowOf g k) s
 
   -- a column without its entry would leave too few
   stands : (j : ℕ) → j < g .n → hasRow (g .rowIdx) (getD perm j 0) (start g j) (end g j) ≡ true
   unfolding size
   stands j h = go (hasRow (g .rowIdx) (getD perm j 0) (start g j) (end g j)) refl
     where
-      elsewhere : hasRow (g .rowIdx) (getD perm j 0) (start g j) (end g j) ≡ false → (k : ℕ) → k < entries g → T (held k) → colOf g k ≢ j
+      elsewhere : hasRow (g .rowIdx) (getD perm j 0) (start g j) (end g j) ≡ false → (k : ℕ) → k < entries g → T (held k) → columnOf g k ≢ j
       elsewhere z k b s e =
           let i : InColumn g j k = subst (λ (m : ℕ). InColumn g m k) e (in-column g w k b) in
           let r : getD (g .rowIdx) k 0 ≡ getD perm j 0 = sym (held-row k s) ∙ ap (λ (m : ℕ). getD perm m 0) e in
@@ -150,8 +150,8 @@ module _ (g : CostGraph) (perm : List ℕ) (w : Columns (g .n) (g .colPtr) (g .r
       go : (b : Bool) → hasRow (g .rowIdx) (getD perm j 0) (start g j) (end g j) ≡ b → b ≡ true
       go true z = refl
       go false z =
-          let l = count-le (entries g) (g .n) held (λ i. not (eqb i j)) (colOf g)
-          (λ k b s. (in-range g w .cols k b, not-eqb (colOf g k) j (elsewhere z k b s))) (c .matching .cols) in
+          let l = count-le (entries g) (g .n) held (λ i. not (eqb i j)) (columnOf g)
+          (λ k b s. (in-range g w .cols k b, not-eqb (columnOf g k) j (elsewhere z k b s))) (c .matching .cols) in
           let y : ⊥ = omega (
             arith,
             l,
@@ -181,7 +181,7 @@ module _ (g : CostGraph) (perm : List ℕ) (w : Columns (g .n) (g .colPtr) (g .r
       let b = entry-at j l in
       let q : a .0 ≡ b .0 = c .matching .rows (a .0) (b .0) (in-entries g w i (a .0) (a .1)) (in-entries g w j (b .0) (b .1))
       (is-held i (a .0) (a .1) (a .2)) (is-held j (b .0) (b .1) (b .2)) (a .2 ∙ e ∙ sym (b .2)) in
-      sym (column-is g w i (a .0) (a .1)) ∙ ap (colOf g) q ∙ column-is g w j (b .0) (b .1)
+      sym (column-is g w i (a .0) (a .1)) ∙ ap (columnOf g) q ∙ column-is g w j (b .0) (b .1)
 
   pub complete-passes : pairingFits g perm ≡ true
   unfolding pairingFits rowsBelow rowsOnce pairsStand

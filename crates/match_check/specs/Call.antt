@@ -15,7 +15,8 @@ use Rattle.refusal.specs.Listed.{OneOf, checkNumbers}
 use Rattle.float64.specs.Number.{wholeOf, IsWhole}
 use Rattle.matching.specs.Matching.{Complete, LeastTotal}
 use Rattle.matching.specs.Pairing.{pairedEntries}
-use Rattle.hungarian.specs.Graph.{CostGraph, bipartite, rowOf, colOf, costOf, entries}
+use Rattle.sparse.specs.Pattern.{Pattern, bipartite, rowOf, columnOf, entries}
+use Rattle.hungarian.specs.Graph.{CostGraph, costOf}
 use Rattle.hungarian.specs.Accepted.{Accepted}
 use Rattle.hungarian.specs.Optimal.{WholeCosts, amount}
 use Rattle.hungarian_match.specs.Call.{Slices, countsLeft, matchOutcome, numberOf as matchNumber}
@@ -40,7 +41,7 @@ checked g s = verdictOf (checkFault g s)
 
 -- ---- what an accepted claim is
 -- the pairs (perm j, j) as a set of entries
-abbrev pub pairs : CostGraph → Claim → ℕ → Bool
+abbrev pub pairs : Pattern → Claim → ℕ → Bool
 pairs g s = pairedEntries (bipartite g) (rowFor s)
 
 -- x stands for a whole number, of at most 2 ^ 50 in size
@@ -53,16 +54,18 @@ pub record FitDual (x : Float) : Type 0 where
 pub record Certified (g : CostGraph) (s : Claim) : Type 0 where
   pub graph : Accepted g
   pub costs : WholeCosts g
-  pub rowCount : length (s .perm) ≡ g .n
-  pub rowDuals : length (s .u) ≡ g .n
-  pub columnDuals : length (s .v) ≡ g .n
-  pub complete : Complete (bipartite g) (pairs g s)
-  pub rows : (i : ℕ) → i < g .n → FitDual (rowDual s i)
-  pub columns : (j : ℕ) → j < g .n → FitDual (columnDual s j)
-  pub feasible : (k : ℕ) → k < entries g
-      → (wholeOf (rowDual s (rowOf g k)) +ℤ wholeOf (columnDual s (colOf g k))) ≤ℤ wholeOf (costOf g k)
-  pub tight : (k : ℕ) → k < entries g → T (pairs g s k)
-      → wholeOf (rowDual s (rowOf g k)) +ℤ wholeOf (columnDual s (colOf g k)) ≡ wholeOf (costOf g k)
+  pub rowCount : length (s .perm) ≡ g .pattern .n
+  pub rowDuals : length (s .u) ≡ g .pattern .n
+  pub columnDuals : length (s .v) ≡ g .pattern .n
+  pub complete : Complete (bipartite (g .pattern)) (pairs (g .pattern) s)
+  pub rows : (i : ℕ) → i < g .pattern .n → FitDual (rowDual s i)
+  pub columns : (j : ℕ) → j < g .pattern .n → FitDual (columnDual s j)
+  pub feasible : (k : ℕ) → k < entries (g .pattern)
+      → (wholeOf (rowDual s (rowOf (g .pattern) k)) +ℤ wholeOf (columnDual s (columnOf (g .pattern) k)))
+      ≤ℤ wholeOf (costOf g k)
+  pub tight : (k : ℕ) → k < entries (g .pattern) → T (pairs (g .pattern) s k)
+      → wholeOf (rowDual s (rowOf (g .pattern) k)) +ℤ wholeOf (columnDual s (columnOf (g .pattern) k))
+      ≡ wholeOf (costOf g k)
 
 -- accepted exactly then
 abbrev pub Exactly : CostGraph → Claim → ℕ → Type 0
@@ -70,7 +73,7 @@ Exactly g s number = (number ≡ accepted) ↔ Certified g s
 
 -- accepted means: a complete matching, and no complete matching costs less
 abbrev pub Least : CostGraph → Claim → ℕ → Type 0
-Least g s number = number ≡ accepted → LeastTotal (bipartite g) (amount g) (pairs g s)
+Least g s number = number ≡ accepted → LeastTotal (bipartite (g .pattern)) (amount g) (pairs (g .pattern) s)
 
 -- ---- our own matches
 -- the perm, u and v among the slices of the match
@@ -84,7 +87,7 @@ pub record Ours (g : CostGraph) (s : Claim) : Type 0 where
   pub before : Slices
   pub counts : List ℕ
   pub number : matchNumber (matchOutcome g before .answer) ≡ accepted
-  pub matched : getD (countsLeft (matchOutcome g before .answer) counts) 0 0 ≡ g .n
+  pub matched : getD (countsLeft (matchOutcome g before .answer) counts) 0 0 ≡ g .pattern .n
   pub left : s ≡ claimLeft (matchOutcome g before .after)
 
 abbrev pub OursAccepted : CostGraph → Claim → ℕ → Type 0

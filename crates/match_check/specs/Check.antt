@@ -11,7 +11,8 @@ use lib.Ieee.Scale.{finite}
 use Rattle.refusal.specs.Refusal.{costRange, incompleteMatching, infeasibleDuals, loosePair}
 use Rattle.float64.specs.Number.{unitsPerOne, magnitude}
 use Rattle.sparse.specs.Fault.{unless, orElse}
-use Rattle.hungarian.specs.Graph.{CostGraph, rowOf, costOf, start, end}
+use Rattle.sparse.specs.Pattern.{Pattern, rowOf, start, end}
+use Rattle.hungarian.specs.Graph.{CostGraph, costOf}
 use Rattle.hungarian.specs.Test.{graphFault, graphLengths}
 
 -- ---- tests over several places
@@ -48,7 +49,8 @@ columnDual s j = getD (s .v) j nan
 unfoldable pub checkLengths : CostGraph → Claim → Bool
 checkLengths g s =
     graphLengths g
-    && (eqb (length (s .perm)) (g .n) && (eqb (length (s .u)) (g .n) && eqb (length (s .v)) (g .n)))
+    && (eqb (length (s .perm)) (g .pattern .n)
+    && (eqb (length (s .u)) (g .pattern .n) && eqb (length (s .v)) (g .pattern .n)))
 
 -- ---- 8
 -- x stands for a whole number: its size in units of 2 ^ -1074 is a multiple of the number 1
@@ -80,13 +82,13 @@ abbrev pub hasRow : List ℕ → ℕ → ℕ → ℕ → Bool
 hasRow rowIdx i from to = someOf (to - from) (λ k. eqb (getD rowIdx k 0) i) from
 
 -- each column has an entry in its row
-abbrev pub pairStands : CostGraph → List ℕ → ℕ → Bool
+abbrev pub pairStands : Pattern → List ℕ → ℕ → Bool
 pairStands g perm j = hasRow (g .rowIdx) (getD perm j 0) (start g j) (end g j)
 
-unfoldable pub pairsStand : CostGraph → List ℕ → Bool
+unfoldable pub pairsStand : Pattern → List ℕ → Bool
 pairsStand g perm = everyOf (g .n) (pairStands g perm) 0
 
-unfoldable pub pairingFits : CostGraph → List ℕ → Bool
+unfoldable pub pairingFits : Pattern → List ℕ → Bool
 unfolding rowsBelow rowsOnce pairsStand
 pairingFits g perm = rowsBelow (g .n) perm && (rowsOnce (g .n) perm && pairsStand g perm)
 
@@ -102,25 +104,26 @@ smallWholes l = everyOf (length l) (λ i. smallWhole (getD l i nan)) 0
 
 -- entry k of column j: the sum of the two duals is at most the cost. Of duals that fit, the doubles' sum is exact
 abbrev pub sumBelow : CostGraph → Claim → ℕ → ℕ → Bool
-sumBelow g s j k = le (add binary64 (rowDual s (rowOf g k)) (columnDual s j)) (costOf g k)
+sumBelow g s j k = le (add binary64 (rowDual s (rowOf (g .pattern) k)) (columnDual s j)) (costOf g k)
 
 abbrev pub columnBelow : CostGraph → Claim → ℕ → Bool
-columnBelow g s j = everyOf (end g j - start g j) (sumBelow g s j) (start g j)
+columnBelow g s j = everyOf (end (g .pattern) j - start (g .pattern) j) (sumBelow g s j) (start (g .pattern) j)
 
 unfoldable pub sumsBelow : CostGraph → Claim → Bool
-sumsBelow g s = everyOf (g .n) (columnBelow g s) 0
+sumsBelow g s = everyOf (g .pattern .n) (columnBelow g s) 0
 
 -- ---- 32
 -- entry k of column j: it is not the column's pair, or the sum is at least the cost
 abbrev pub sumReached : CostGraph → Claim → ℕ → ℕ → Bool
 sumReached g s j k =
-    not (eqb (rowOf g k) (rowFor s j)) || le (costOf g k) (add binary64 (rowDual s (rowOf g k)) (columnDual s j))
+    not (eqb (rowOf (g .pattern) k) (rowFor s j))
+    || le (costOf g k) (add binary64 (rowDual s (rowOf (g .pattern) k)) (columnDual s j))
 
 abbrev pub columnReached : CostGraph → Claim → ℕ → Bool
-columnReached g s j = everyOf (end g j - start g j) (sumReached g s j) (start g j)
+columnReached g s j = everyOf (end (g .pattern) j - start (g .pattern) j) (sumReached g s j) (start (g .pattern) j)
 
 unfoldable pub sumsReached : CostGraph → Claim → Bool
-sumsReached g s = everyOf (g .n) (columnReached g s) 0
+sumsReached g s = everyOf (g .pattern .n) (columnReached g s) 0
 
 -- ---- the whole check
 -- 31 covers the duals and the sums of all entries
@@ -132,7 +135,7 @@ dualsHold g s = smallWholes (s .u) && (smallWholes (s .v) && sumsBelow g s)
 unfoldable pub claimFault : CostGraph → Claim → ℕ
 unfolding pairingFits dualsHold sumsReached
 claimFault g s =
-    orElse (unless (pairingFits g (s .perm)) incompleteMatching)
+    orElse (unless (pairingFits (g .pattern) (s .perm)) incompleteMatching)
     (orElse (unless (dualsHold g s) infeasibleDuals) (unless (sumsReached g s) loosePair))
 
 -- the first thing wrong, 0 where nothing is

@@ -3,18 +3,18 @@
 use hungarian_match::graph_test;
 ghost use mathlib.Core.Path.{_≡_};
 ghost use mathlib.Core.Bool.{not, _||_};
-ghost use mathlib.Core.List.{[]};
 ghost use Prim.Native.Nat.{_+_, _-_, _^_, _≤_, _<_};
 ghost use lib.Dec.{T, eqb};
 ghost use lib.ListN.{length, getD, replicate};
 ghost use lib.Ieee.{nan, binary64, add, le};
 ghost use Rattle.limits.specs.Limits.{maxColumns};
+ghost use Rattle.sparse.specs.Pattern.{pattern};
 ghost use Rattle.hungarian.specs.Graph.{graphOf};
 ghost use Rattle.match_check.specs.Check.{everyOf, hasRow, rowsBelow, rowsOnce, pairsStand, pairingFits};
 ghost use Rattle.match_check.specs.Check.{smallWhole, smallWholes, dualsHold, sumsBelow, sumsReached, claim};
 ghost use Rattle.match_check.specs.Check.{checkLengths, claimFault};
 ghost use Rattle.match_check.specs.Call.{Promises};
-ghost use Rattle.match_check.specs.inner.Steps.{Pattern, Stretch, Checkable};
+ghost use Rattle.match_check.specs.inner.Steps.{AcceptedPattern, Stretch, Checkable};
 
 // What `check_match` answers: nothing is wrong, or why it refuses.
 pub enum Verdict {
@@ -107,10 +107,10 @@ pub fn has_row(row: u32, row_idx: &[u32], from: usize, to: usize) -> bool
 
 // Whether each column has an entry in its row.
 fn pairs_stand(n: usize, col_ptr: &[u32], row_idx: &[u32], perm: &[u32]) -> bool
-    requires { ⌜ Pattern n (now «col_ptr») (now «row_idx») ⌝ ∗ ⌜ length (now perm) ≡ n ⌝ }
+    requires { ⌜ AcceptedPattern n (now «col_ptr») (now «row_idx») ⌝ ∗ ⌜ length (now perm) ≡ n ⌝ }
     ensures { λ r.
-        let g = graphOf n (now («col_ptr» .entry)) (now («row_idx» .entry)) [] in
-        ⌜ r ≡ pairsStand g (now (perm .entry)) ⌝ }
+        let p = pattern n (now («col_ptr» .entry)) (now («row_idx» .entry)) in
+        ⌜ r ≡ pairsStand p (now (perm .entry)) ⌝ }
 {
     let mut fine = true;
     for j in 0..n {
@@ -127,10 +127,10 @@ fn pairs_stand(n: usize, col_ptr: &[u32], row_idx: &[u32], perm: &[u32]) -> bool
 
 // Whether the pairs are a complete matching.
 pub fn pairing_fits(n: u32, col_ptr: &[u32], row_idx: &[u32], perm: &[u32]) -> bool
-    requires { ⌜ Pattern n (now «col_ptr») (now «row_idx») ⌝ ∗ ⌜ length (now perm) ≡ n ⌝ }
+    requires { ⌜ AcceptedPattern n (now «col_ptr») (now «row_idx») ⌝ ∗ ⌜ length (now perm) ≡ n ⌝ }
     ensures { λ r.
-        let g = graphOf n (now («col_ptr» .entry)) (now («row_idx» .entry)) [] in
-        ⌜ r ≡ pairingFits g (now (perm .entry)) ⌝ }
+        let p = pattern n (now («col_ptr» .entry)) (now («row_idx» .entry)) in
+        ⌜ r ≡ pairingFits p (now (perm .entry)) ⌝ }
 {
     if !rows_below(n, perm) {
         return false;

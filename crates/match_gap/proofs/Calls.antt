@@ -15,7 +15,7 @@ use Rattle.slices.specs.Outcome.{Outcome, outcomeIs, refusing}
 use Rattle.slices.proofs.Refusing.{refused-is}
 use Rattle.float64.specs.Number.{Number, unitsPerOne, magnitude}
 use Rattle.cost_limit.specs.Range.{costLimit}
-use Rattle.hungarian.specs.Graph.{CostGraph, costOf, entries}
+use Rattle.hungarian.specs.Graph.{CostGraph, costOf}
 use Rattle.hungarian.specs.Accepted.{Doubles}
 use Rattle.hungarian.specs.inner.Setting.{Setting}
 use Rattle.hungarian.proofs.Accepts.{near-setting}
@@ -52,10 +52,10 @@ module _ (digits : ℕ) (g : CostGraph) (c : Claim) (gap : List ℕ) (d : (k : �
     columns : AllIn (1074 - digits) (c .v)
     columns = all-in digits (c .v) (b .columns) (P .columns)
 
-    pub measurable : Measurable (1074 - digits) (g .n) (g .colPtr) (g .rowIdx) (g .cost) c
+    pub measurable : Measurable (1074 - digits) (g .pattern .n) (g .pattern .colPtr) (g .pattern .rowIdx) (g .cost) c
     measurable = record { lists = ready g c (P .graph); units = omega arith; costs = costs; rows = rows; columns = columns }
 
-    S : Setting Number unitsPerOne (costLimit (g .n)) g
+    S : Setting Number unitsPerOne (costLimit (g .pattern .n)) g
     S = near-setting g (graph-accepted g c (P .graph)) doubles
 
     few : Few (step digits) g c
@@ -71,7 +71,7 @@ module _ (digits : ℕ) (g : CostGraph) (c : Claim) (gap : List ℕ) (d : (k : �
     positive = pow-pos (1074 - digits)
 
     near-enough : NearLeast digits (gapOf (step digits) g c) g c
-    near-enough = let full = complete g (c .perm) (S .columns) (P .pairing) in
+    near-enough = let full = complete (g .pattern) (c .perm) (S .columns) (P .pairing) in
         record { complete = full; near = near-least (step digits) positive g c S few full }
 
     certified : checkFault g c ≡ 0 → Certified g c

@@ -19,10 +19,11 @@ use Rattle.matching.specs.Sum.{sumTo}
 use Rattle.matching.specs.Pairing.{pairedEntries}
 use Rattle.matching.proofs.Sums.{sum-same, sum-const}
 use Rattle.cost_limit.specs.Range.{costLimit}
-use Rattle.hungarian.specs.Graph.{CostGraph, rowOf, colOf, costOf, entries, start, end, InColumn}
+use Rattle.sparse.specs.Pattern.{rowOf, columnOf, entries, start, end, InColumn}
+use Rattle.hungarian.specs.Graph.{CostGraph, costOf}
 use Rattle.hungarian.specs.inner.Setting.{Setting}
 use Rattle.hungarian.proofs.Accepts.{whole-setting}
-use Rattle.hungarian.proofs.Columns.{in-entries, column-is, row-below}
+use Rattle.sparse.proofs.Columns.{in-entries, column-is, row-below}
 use Rattle.match_check.specs.Check.{Claim, rowFor, rowDual, columnDual}
 use Rattle.match_check.specs.Call.{Certified, pairs}
 use Rattle.match_check.proofs.Wholes.{number-size}
@@ -133,51 +134,51 @@ module _ (digits : ℕ) (few : digits ≤ 50) where
       )
 
   module _ (g : CostGraph) (c : Claim) (y : Certified g c) (f : Few s g c) where
-    S : Setting IsWhole 0 (costLimit (g .n)) g
+    S : Setting IsWhole 0 (costLimit (g .pattern .n)) g
     S = whole-setting g (y .graph) (y .costs)
 
-    module _ (j k : ℕ) (h : j < g .n) (a : start g j ≤ k) (b : k < end g j) where
-      spot : InColumn g j k
+    module _ (j k : ℕ) (h : j < g .pattern .n) (a : start (g .pattern) j ≤ k) (b : k < end (g .pattern) j) where
+      spot : InColumn (g .pattern) j k
       spot = record { column = h; above = a; below = b }
 
-      inside : k < entries g
-      inside = in-entries g (S .columns) j k spot
+      inside : k < entries (g .pattern)
+      inside = in-entries (g .pattern) (S .columns) j k spot
 
-      col-is : colOf g k ≡ j
-      col-is = column-is g (S .columns) j k spot
+      col-is : columnOf (g .pattern) k ≡ j
+      col-is = column-is (g .pattern) (S .columns) j k spot
 
-      row-lt : rowOf g k < g .n
-      row-lt = row-below g (S .columns) j k spot
+      row-lt : rowOf (g .pattern) k < g .pattern .n
+      row-lt = row-below (g .pattern) (S .columns) j k spot
 
-      feasible : T (leZ (wholeOf (rowDual c (rowOf g k)) +ℤ wholeOf (columnDual c j)) (wholeOf (costOf g k)))
-      feasible = subst (λ (i : ℕ). T (leZ (wholeOf (rowDual c (rowOf g k)) +ℤ wholeOf (columnDual c i)) (wholeOf (costOf g k)))) col-is
+      feasible : T (leZ (wholeOf (rowDual c (rowOf (g .pattern) k)) +ℤ wholeOf (columnDual c j)) (wholeOf (costOf g k)))
+      feasible = subst (λ (i : ℕ). T (leZ (wholeOf (rowDual c (rowOf (g .pattern) k)) +ℤ wholeOf (columnDual c i)) (wholeOf (costOf g k)))) col-is
           (y .feasible k inside .le)
 
       no-excess : excessAt s g c j k ≡ 0
       no-excess =
           omega (
             arith,
-            times (wholeOf (rowDual c (rowOf g k))) (wholeOf (columnDual c j)) (wholeOf (costOf g k)) feasible,
-            upper-parts (rowDual c (rowOf g k)) (y .rows (rowOf g k) row-lt .isWhole) (f .rows (rowOf g k) row-lt),
+            times (wholeOf (rowDual c (rowOf (g .pattern) k))) (wholeOf (columnDual c j)) (wholeOf (costOf g k)) feasible,
+            upper-parts (rowDual c (rowOf (g .pattern) k)) (y .rows (rowOf (g .pattern) k) row-lt .isWhole) (f .rows (rowOf (g .pattern) k) row-lt),
             upper-parts (columnDual c j) (y .columns j h .isWhole) (f .columns j h),
             lower-parts (costOf g k) (y .costs k inside) (f .costs k inside),
           )
 
       no-lack : lackAt s g c j k ≡ 0
       unfolding pairedEntries
-      no-lack = go (eqb (rowOf g k) (rowFor c j)) refl
+      no-lack = go (eqb (rowOf (g .pattern) k) (rowFor c j)) refl
         where
-          go : (t : Bool) → eqb (rowOf g k) (rowFor c j) ≡ t
-              → cond t (upper s (costOf g k) + zeroStep - (lower s (rowDual c (rowOf g k)) + lower s (columnDual c j))) 0 ≡ 0
+          go : (t : Bool) → eqb (rowOf (g .pattern) k) (rowFor c j) ≡ t
+              → cond t (upper s (costOf g k) + zeroStep - (lower s (rowDual c (rowOf (g .pattern) k)) + lower s (columnDual c j))) 0 ≡ 0
           go false e = refl
           go true e =
-              let t : T (pairs g c k) = eq→eqb (ap (rowFor c) col-is ∙ sym (eqb-true (rowOf g k) (rowFor c j) e)) in
-              let q : wholeOf (rowDual c (rowOf g k)) +ℤ wholeOf (columnDual c j) ≡ wholeOf (costOf g k) =
-              subst (λ (i : ℕ). wholeOf (rowDual c (rowOf g k)) +ℤ wholeOf (columnDual c i) ≡ wholeOf (costOf g k)) col-is (y .tight k inside t) in
+              let t : T (pairs (g .pattern) c k) = eq→eqb (ap (rowFor c) col-is ∙ sym (eqb-true (rowOf (g .pattern) k) (rowFor c j) e)) in
+              let q : wholeOf (rowDual c (rowOf (g .pattern) k)) +ℤ wholeOf (columnDual c j) ≡ wholeOf (costOf g k) =
+              subst (λ (i : ℕ). wholeOf (rowDual c (rowOf (g .pattern) k)) +ℤ wholeOf (columnDual c i) ≡ wholeOf (costOf g k)) col-is (y .tight k inside t) in
               omega (
                 arith,
-                times-back (wholeOf (rowDual c (rowOf g k))) (wholeOf (columnDual c j)) (wholeOf (costOf g k)) q,
-                lower-parts (rowDual c (rowOf g k)) (y .rows (rowOf g k) row-lt .isWhole) (f .rows (rowOf g k) row-lt),
+                times-back (wholeOf (rowDual c (rowOf (g .pattern) k))) (wholeOf (columnDual c j)) (wholeOf (costOf g k)) q,
+                lower-parts (rowDual c (rowOf (g .pattern) k)) (y .rows (rowOf (g .pattern) k) row-lt .isWhole) (f .rows (rowOf (g .pattern) k) row-lt),
                 lower-parts (columnDual c j) (y .columns j h .isWhole) (f .columns j h),
                 upper-parts (costOf g k) (y .costs k inside) (f .costs k inside),
               )
@@ -185,8 +186,8 @@ module _ (digits : ℕ) (few : digits ≤ 50) where
     pub no-gap : gapOf s g c ≡ 0
     unfolding gapOf
     no-gap =
-        sum-same (g .n) (λ j. columnExcess s g c j + columnLack s g c j) (λ j. 0)
-        (λ j h. ap₂ _+_ (span-none (excessAt s g c j) (start g j) (end g j) (λ k a b. no-excess j k h a b))
-        (span-none (lackAt s g c j) (start g j) (end g j) (λ k a b. no-lack j k h a b)))
-        ∙ sum-const (g .n) 0
-        ∙ mul-zero (g .n)
+        sum-same (g .pattern .n) (λ j. columnExcess s g c j + columnLack s g c j) (λ j. 0)
+        (λ j h. ap₂ _+_ (span-none (excessAt s g c j) (start (g .pattern) j) (end (g .pattern) j) (λ k a b. no-excess j k h a b))
+        (span-none (lackAt s g c j) (start (g .pattern) j) (end (g .pattern) j) (λ k a b. no-lack j k h a b)))
+        ∙ sum-const (g .pattern .n) 0
+        ∙ mul-zero (g .pattern .n)

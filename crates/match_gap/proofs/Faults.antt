@@ -2,7 +2,7 @@
 use mathlib.Core.Path.{_≡_, refl, sym, ap, _∙_, subst}
 use mathlib.Core.Logic.{_≢_}
 use mathlib.Core.Bool.{Bool, true, false, _&&_}
-use mathlib.Core.List.{List, []}
+use mathlib.Core.List.{List}
 use Prim.Native.Nat.{ℕ, _+_, _-_, _*_, _^_, _≤_, _<_}
 use native.Mathlib.Omega.{arith}
 use borrow.Author.Tests.{leb-true, le-leb, lt-leb, eqb-true}
@@ -20,10 +20,11 @@ use Rattle.sparse.specs.Validate.{sizeFault}
 use Rattle.sparse.proofs.Accepted.{sizes-accepted}
 use Rattle.sparse.proofs.First.{or-zero, unless-holds, answer-first, answer-second}
 use Rattle.sparse.proofs.Listed.{Listed, test, or-listed, within, part}
-use Rattle.hungarian.specs.Graph.{CostGraph, graphOf}
+use Rattle.sparse.specs.Pattern.{Pattern}
+use Rattle.hungarian.specs.Graph.{CostGraph}
 use Rattle.hungarian.specs.Test.{graphFault}
 use Rattle.hungarian_match.proofs.Tests.{match-listed}
-use Rattle.match_check.specs.Check.{Claim, checkLengths, pairingFits, pairsStand}
+use Rattle.match_check.specs.Check.{Claim, checkLengths, pairingFits}
 use Rattle.match_check.proofs.Every.{every-first}
 use Rattle.match_check.proofs.Calling.{fitting}
 use Rattle.match_gap.specs.Rounding.{zeroStep, step, inSteps}
@@ -31,7 +32,7 @@ use Rattle.match_gap.specs.Gap.{maxDigits, allInSteps, gapLengths, pairs
 use Rattle.match_gap.specs.inner.Scans.{InSteps, AllIn}
 
 -- ---- 30 and 31
-module _ (s : ℕ) (g : CostGraph) (c : Claim) {pairing : Bool} (p : pairing ≡ pairingFits g (c .perm)) where
+module _ (s : ℕ) (g : Pattern) (c : Claim) {pairing : Bool} (p : pairing ≡ pairingFits g (c .perm)) where
   pub by-pairing : pairing ≡ false → incompleteMatching ≡ pairsFault s g c
   unfolding pairsFault
   by-pairing z = let q : pairingFits g (c .perm) ≡ false = sym p ∙ z in rw q refl
@@ -45,17 +46,12 @@ module _ (s : ℕ) (g : CostGraph) (c : Claim) {pairing : Bool} (p : pairing ≡
     unfolding pairsFault
     by-duals z = let q : pairingFits g (c .perm) ≡ true = sym p ∙ y in rw (q, ← a, ← b, z) refl
 
--- costs do not matter to the pairs
-pub costs-aside : (s n : ℕ) (colPtr rowIdx : List ℕ) (cost : List Float) (c : Claim) → pairsFault s (graphOf n colPtr rowIdx []) c ≡ pairsFault s
-    (graphOf n colPtr rowIdx cost) c
-unfolding pairsFault pairingFits pairsStand
-costs-aside s n colPtr rowIdx cost c = refl
-
 -- ---- 3
 lengths-fit : (g : CostGraph) (lengths : Bool) → graphFault g lengths ≡ 0 → lengths ≡ true
 unfolding graphFault
 lengths-fit g lengths e =
-    sizes-accepted (g .n) maxGeneral (length (g .rowIdx)) lengths .0 (or-zero (sizeFault (g .n) maxGeneral (length (g .rowIdx)) lengths) _ e .0) .2
+    sizes-accepted (g .pattern .n) maxGeneral (length (g .pattern .rowIdx)) lengths .0
+    (or-zero (sizeFault (g .pattern .n) maxGeneral (length (g .pattern .rowIdx)) lengths) _ e .0) .2
 
 all-fit : (g : CostGraph) (c : Claim) (gap : List ℕ) → graphFault g (gapLengths g c gap) ≡ 0 → (checkLengths g c ≡ true) × (length gap ≡ 1)
 unfolding gapLengths
@@ -68,7 +64,7 @@ unfolding gapLengths
 lengths-are g c gap e = ap (λ (t : Bool). t && eqb (length gap) 1) e
 
 pub pointers-fit : (g : CostGraph) (c : Claim) (gap : List ℕ) {fit : Bool} → fit ≡ checkLengths g c → (fit && eqb (length gap) 1) ≡ true
-    → length (g .colPtr) ≡ g .n + 1
+    → length (g .pattern .colPtr) ≡ g .pattern .n + 1
 pointers-fit g c gap {fit} e t = fitting g c (sym e ∙ both fit (eqb (length gap) 1) t .0) .pointers
 
 -- ---- the call's own tests
@@ -97,7 +93,7 @@ module _ (digits : ℕ) (g : CostGraph) (c : Claim) (gap : List ℕ) where
           let w : graphFault g (gapLengths g c gap) ≡ 0 = sym tested ∙ z in
           rw (le-leb digits maxDigits few, w, q) refl
 
-      pub by-pairs : costs ≡ true → {fault : ℕ} → fault ≡ pairsFault (step digits) g c → fault ≡ gapFault digits g c gap
+      pub by-pairs : costs ≡ true → {fault : ℕ} → fault ≡ pairsFault (step digits) (g .pattern) c → fault ≡ gapFault digits g c gap
       unfolding gapFault
       by-pairs t e =
           let q : allInSteps (step digits) (g .cost) ≡ true = sym k ∙ t in
@@ -110,7 +106,7 @@ pub record Passed (digits : ℕ) (g : CostGraph) (c : Claim) (gap : List ℕ) : 
   pub graph : graphFault g (checkLengths g c) ≡ 0
   pub room : length gap ≡ 1
   pub costs : allInSteps (step digits) (g .cost) ≡ true
-  pub pairing : pairingFits g (c .perm) ≡ true
+  pub pairing : pairingFits (g .pattern) (c .perm) ≡ true
   pub rows : allInSteps (step digits) (c .u) ≡ true
   pub columns : allInSteps (step digits) (c .v) ≡ true
 
@@ -120,7 +116,7 @@ passed digits g c gap e =
     let a = or-zero (unless (leb digits maxDigits) indexRange) _ e in
     let b = or-zero (graphFault g (gapLengths g c gap)) _ (a .1) in
     let d = or-zero (unless (allInSteps (step digits) (g .cost)) costRange) _ (b .1) in
-    let f = or-zero (unless (pairingFits g (c .perm)) incompleteMatching) _ (d .1) in
+    let f = or-zero (unless (pairingFits (g .pattern) (c .perm)) incompleteMatching) _ (d .1) in
     let l = all-fit g c gap (b .0) in
     let h = both (allInSteps (step digits) (c .u)) (allInSteps (step digits) (c .v)) (unless-holds _ infeasibleDuals (omega arith) (f .1)) in
     record {
@@ -148,5 +144,5 @@ gap-listed digits g c gap =
     or-listed (test (leb digits maxDigits) indexRange refl refl)
     (or-listed (part graphNumbers (match-listed g (gapLengths g c gap)) refl)
     (or-listed (test (allInSteps (step digits) (g .cost)) costRange refl refl)
-    (or-listed (test (pairingFits g (c .perm)) incompleteMatching refl refl)
+    (or-listed (test (pairingFits (g .pattern) (c .perm)) incompleteMatching refl refl)
     (test (allInSteps (step digits) (c .u) && allInSteps (step digits) (c .v)) infeasibleDuals refl refl))))

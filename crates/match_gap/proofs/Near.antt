@@ -17,9 +17,10 @@ use Rattle.matching.specs.Matching.{Complete, total}
 use Rattle.matching.specs.Pairing.{pairedEntries}
 use Rattle.matching.proofs.Sums.{sum-add, sum-times}
 use Rattle.matching.proofs.Exchange.{exchange}
-use Rattle.hungarian.specs.Graph.{CostGraph, bipartite, rowOf, colOf, costOf, entries, start, end, InColumn}
+use Rattle.sparse.specs.Pattern.{bipartite, rowOf, columnOf, entries, start, end, InColumn}
+use Rattle.hungarian.specs.Graph.{CostGraph, costOf}
 use Rattle.hungarian.specs.inner.Setting.{Setting}
-use Rattle.hungarian.proofs.Columns.{in-column, in-range, row-below}
+use Rattle.sparse.proofs.Columns.{in-column, in-range, row-below}
 use Rattle.match_check.specs.Check.{Claim, rowFor, rowDual, columnDual}
 use Rattle.match_check.specs.Call.{pairs}
 use Rattle.match_gap.specs.Rounding.{zeroStep, lower, upper}
@@ -30,9 +31,9 @@ use Rattle.match_gap.proofs.Most.{most-span}
 
 -- in steps of s units: all the numbers of a graph and a claim
 pub record Few (s : ℕ) (g : CostGraph) (c : Claim) : Type 0 where
-  pub costs : (k : ℕ) → k < entries g → magnitude (costOf g k) ≤ zeroStep * s
-  pub rows : (i : ℕ) → i < g .n → magnitude (rowDual c i) ≤ zeroStep * s
-  pub columns : (j : ℕ) → j < g .n → magnitude (columnDual c j) ≤ zeroStep * s
+  pub costs : (k : ℕ) → k < entries (g .pattern) → magnitude (costOf g k) ≤ zeroStep * s
+  pub rows : (i : ℕ) → i < g .pattern .n → magnitude (rowDual c i) ≤ zeroStep * s
+  pub columns : (j : ℕ) → j < g .pattern .n → magnitude (columnDual c j) ≤ zeroStep * s
 
 -- a difference of places, in units
 steps-below : (s a b l h : ℕ) → (x y z : ℕ) → a + b - (l + zeroStep) ≤ h → x ≤ a * s → y ≤ b * s → l * s ≤ z → x + y ≤ z + (h * s + zeroStep * s)
@@ -61,80 +62,84 @@ steps-above s a b l h x y z e f i j =
       j,
     )
 
-module _ (s : ℕ) (p : 0 < s) (g : CostGraph) (c : Claim) (S : Setting Number unitsPerOne (costLimit (g .n)) g) (f : Few s g c) where
+module _ (s : ℕ) (p : 0 < s) (g : CostGraph) (c : Claim) (S : Setting Number unitsPerOne (costLimit (g .pattern .n)) g) (f : Few s g c) where
   excess : ℕ → ℕ
   excess j = columnExcess s g c j
 
   lack : ℕ → ℕ
   lack j = columnLack s g c j
 
-  module _ (k : ℕ) (h : k < entries g) where
-    column : InColumn g (colOf g k) k
-    column = in-column g (S .columns) k h
+  module _ (k : ℕ) (h : k < entries (g .pattern)) where
+    column : InColumn (g .pattern) (columnOf (g .pattern) k) k
+    column = in-column (g .pattern) (S .columns) k h
 
     cost-few : magnitude (costOf g k) ≤ zeroStep * s
     cost-few = f .costs k h
 
-    row-few : magnitude (rowDual c (rowOf g k)) ≤ zeroStep * s
-    row-few = f .rows (rowOf g k) (row-below g (S .columns) (colOf g k) k column)
+    row-few : magnitude (rowDual c (rowOf (g .pattern) k)) ≤ zeroStep * s
+    row-few = f .rows (rowOf (g .pattern) k) (row-below (g .pattern) (S .columns) (columnOf (g .pattern) k) k column)
 
-    column-few : magnitude (columnDual c (colOf g k)) ≤ zeroStep * s
-    column-few = f .columns (colOf g k) (column .column)
+    column-few : magnitude (columnDual c (columnOf (g .pattern) k)) ≤ zeroStep * s
+    column-few = f .columns (columnOf (g .pattern) k) (column .column)
 
     cost-place : unitsAt s (costOf g k) ≡ zeroStep * s + magnitude (costOf g k)
     cost-place = not-below s (costOf g k) (S .good k h) (S .low k h)
 
-    below : unitsAt s (rowDual c (rowOf g k)) + unitsAt s (columnDual c (colOf g k)) ≤ magnitude
-        (costOf g k) + (excess (colOf g k) * s + (zeroStep * s + zeroStep * s))
+    below : unitsAt s (rowDual c (rowOf (g .pattern) k)) + unitsAt s (columnDual c (columnOf (g .pattern) k)) ≤ magnitude
+        (costOf g k) + (excess (columnOf (g .pattern) k) * s + (zeroStep * s + zeroStep * s))
     unfolding excess
     below =
-        let e : excessAt s g c (colOf g k) k ≤ columnExcess s g c (colOf g k) =
-        most-span (excessAt s g c (colOf g k)) (start g (colOf g k)) (end g (colOf g k)) k (column .above) (column .below) in
+        let e : excessAt s g c (columnOf (g .pattern) k) k ≤ columnExcess s g c (columnOf (g .pattern) k) =
+        most-span (excessAt s g c (columnOf (g .pattern) k)) (start (g .pattern) (columnOf (g .pattern) k)) (end (g .pattern) (columnOf (g .pattern) k)) k
+        (column .above) (column .below) in
         omega (
           arith,
           cost-place,
-          steps-below s (upper s (rowDual c (rowOf g k))) (upper s (columnDual c (colOf g k))) (lower s (costOf g k))
-              (columnExcess s g c (colOf g k)) _ _ _ e (upper-above s p (rowDual c (rowOf g k)) row-few)
-              (upper-above s p (columnDual c (colOf g k)) column-few) (lower-below s p (costOf g k) cost-few),
+          steps-below s (upper s (rowDual c (rowOf (g .pattern) k))) (upper s (columnDual c (columnOf (g .pattern) k))) (lower s (costOf g k))
+              (columnExcess s g c (columnOf (g .pattern) k)) _ _ _ e (upper-above s p (rowDual c (rowOf (g .pattern) k)) row-few)
+              (upper-above s p (columnDual c (columnOf (g .pattern) k)) column-few) (lower-below s p (costOf g k) cost-few),
         )
 
-    is-pair : T (pairs g c k) → eqb (rowOf g k) (rowFor c (colOf g k)) ≡ true
+    is-pair : T (pairs (g .pattern) c k) → eqb (rowOf (g .pattern) k) (rowFor c (columnOf (g .pattern) k)) ≡ true
     unfolding pairedEntries
-    is-pair t = eq-eqb _ _ (sym (eqb→eq (rowFor c (colOf g k)) (rowOf g k) t))
+    is-pair t = eq-eqb _ _ (sym (eqb→eq (rowFor c (columnOf (g .pattern) k)) (rowOf (g .pattern) k) t))
 
-    above : T (pairs g c k) → magnitude (costOf g k) + (zeroStep * s + zeroStep * s) ≤ lack
-        (colOf g k) * s + (unitsAt s (rowDual c (rowOf g k)) + unitsAt s (columnDual c (colOf g k)))
+    above : T (pairs (g .pattern) c k) → magnitude (costOf g k) + (zeroStep * s + zeroStep * s) ≤ lack
+        (columnOf (g .pattern) k) * s + (unitsAt s (rowDual c (rowOf (g .pattern) k)) + unitsAt s (columnDual c (columnOf (g .pattern) k)))
     unfolding lack
     above t =
-        let e : lackAt s g c (colOf g k) k ≤ columnLack s g c (colOf g k) =
-        most-span (lackAt s g c (colOf g k)) (start g (colOf g k)) (end g (colOf g k)) k (column .above) (column .below) in
-        let d : upper s (costOf g k) + zeroStep - (lower s (rowDual c (rowOf g k)) + lower s (columnDual c (colOf g k))) ≤ columnLack s g c (colOf g k) =
+        let e : lackAt s g c (columnOf (g .pattern) k) k ≤ columnLack s g c (columnOf (g .pattern) k) =
+        most-span (lackAt s g c (columnOf (g .pattern) k)) (start (g .pattern) (columnOf (g .pattern) k)) (end (g .pattern) (columnOf (g .pattern) k)) k
+        (column .above) (column .below) in
+        let d : upper s (costOf g k) + zeroStep - (lower s (rowDual c (rowOf (g .pattern) k)) + lower s (columnDual c (columnOf (g .pattern) k)))
+        ≤ columnLack s g c (columnOf (g .pattern) k) =
         rw (is-pair t) at e in
         omega (
           arith,
           cost-place,
-          steps-above s (lower s (rowDual c (rowOf g k))) (lower s (columnDual c (colOf g k))) (upper s (costOf g k))
-              (columnLack s g c (colOf g k)) _ _ _ d (lower-below s p (rowDual c (rowOf g k)) row-few)
-              (lower-below s p (columnDual c (colOf g k)) column-few) (upper-above s p (costOf g k) cost-few),
+          steps-above s (lower s (rowDual c (rowOf (g .pattern) k))) (lower s (columnDual c (columnOf (g .pattern) k))) (upper s (costOf g k))
+              (columnLack s g c (columnOf (g .pattern) k)) _ _ _ d (lower-below s p (rowDual c (rowOf (g .pattern) k)) row-few)
+              (lower-below s p (columnDual c (columnOf (g .pattern) k)) column-few) (upper-above s p (costOf g k) cost-few),
         )
 
-  gap-is : sumTo (g .n) (λ j. excess j * s) + sumTo (g .n) (λ j. lack j * s) ≡ gapOf s g c * s
+  gap-is : sumTo (g .pattern .n) (λ j. excess j * s) + sumTo (g .pattern .n) (λ j. lack j * s) ≡ gapOf s g c * s
   gap-is =
-      let e : gapOf s g c ≡ sumTo (g .n) (λ j. excess j + lack j) = unfold gapOf excess lack in refl in
+      let e : gapOf s g c ≡ sumTo (g .pattern .n) (λ j. excess j + lack j) = unfold gapOf excess lack in refl in
       omega (
         arith,
-        sum-times (g .n) excess s,
-        sum-times (g .n) lack s,
-        ap (λ (x : ℕ). x * s) (e ∙ sum-add (g .n) excess lack),
-        add-mul (sumTo (g .n) excess) (sumTo (g .n) lack) s,
+        sum-times (g .pattern .n) excess s,
+        sum-times (g .pattern .n) lack s,
+        ap (λ (x : ℕ). x * s) (e ∙ sum-add (g .pattern .n) excess lack),
+        add-mul (sumTo (g .pattern .n) excess) (sumTo (g .pattern .n) lack) s,
       )
 
-  pub near-least : Complete (bipartite g) (pairs g c) → (R : ℕ → Bool) → Complete (bipartite g) R → unitsOf g (pairs g c) ≤ unitsOf g R + gapOf s g c * s
+  pub near-least : Complete (bipartite (g .pattern)) (pairs (g .pattern) c) → (R : ℕ → Bool) → Complete (bipartite (g .pattern)) R
+      → unitsOf g (pairs (g .pattern) c) ≤ unitsOf g R + gapOf s g c * s
   unfolding unitsOf
   near-least full R r =
       omega (
         arith,
         gap-is,
-        exchange (in-range g (S .columns)) full r (λ k. magnitude (costOf g k)) (λ j. excess j * s) (λ j. lack j * s) (λ i. unitsAt s (rowDual c i))
+        exchange (in-range (g .pattern) (S .columns)) full r (λ k. magnitude (costOf g k)) (λ j. excess j * s) (λ j. lack j * s) (λ i. unitsAt s (rowDual c i))
             (λ j. unitsAt s (columnDual c j)) (zeroStep * s + zeroStep * s) below above,
       )

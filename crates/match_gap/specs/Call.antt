@@ -10,7 +10,8 @@ use Rattle.refusal.specs.Listed.{OneOf, gapNumbers}
 use Rattle.slices.specs.Outcome.{Outcome, outcomeIs, refusing}
 use Rattle.float64.specs.Number.{magnitude}
 use Rattle.matching.specs.Matching.{Complete, total}
-use Rattle.hungarian.specs.Graph.{CostGraph, bipartite, costOf}
+use Rattle.sparse.specs.Pattern.{bipartite}
+use Rattle.hungarian.specs.Graph.{CostGraph, costOf}
 use Rattle.match_check.specs.Check.{Claim, checkFault}
 use Rattle.match_check.specs.Call.{pairs}
 use Rattle.match_gap.specs.Rounding.{step}
@@ -33,12 +34,13 @@ gapOutcome digits g c gap =
 -- the exact sum of the costs of a set of entries, in units of 2 ^ -1074
 unfoldable pub unitsOf : CostGraph → (ℕ → Bool) → ℕ
 unfolding total
-unitsOf g S = total (bipartite g) (λ k. magnitude (costOf g k)) S
+unitsOf g S = total (bipartite (g .pattern)) (λ k. magnitude (costOf g k)) S
 
 -- the pairs are a complete matching, and no complete matching costs less by more than `gap` steps
 pub record NearLeast (digits gap : ℕ) (g : CostGraph) (c : Claim) : Type 0 where
-  pub complete : Complete (bipartite g) (pairs g c)
-  pub near : (R : ℕ → Bool) → Complete (bipartite g) R → unitsOf g (pairs g c) ≤ unitsOf g R + gap * step digits
+  pub complete : Complete (bipartite (g .pattern)) (pairs (g .pattern) c)
+  pub near : (R : ℕ → Bool) → Complete (bipartite (g .pattern)) R → unitsOf g (pairs (g .pattern) c) ≤ unitsOf g R
+      + gap * step digits
 
 -- of what an accepted call leaves
 abbrev pub Near : ℕ → CostGraph → Claim → ℕ → List ℕ → Type 0

@@ -9,7 +9,8 @@ use lib.Ieee.{Float, nan}
 use Rattle.refusal.specs.Refusal.{indexRange, costRange, incompleteMatching, infeasibleDuals}
 use Rattle.sparse.specs.Fault.{unless, orElse}
 use Rattle.matching.specs.Sum.{sumTo}
-use Rattle.hungarian.specs.Graph.{CostGraph, rowOf, costOf, start, end}
+use Rattle.sparse.specs.Pattern.{Pattern, rowOf, start, end}
+use Rattle.hungarian.specs.Graph.{CostGraph, costOf}
 use Rattle.hungarian.specs.Counts.{larger}
 use Rattle.hungarian.specs.Test.{graphFault}
 use Rattle.match_check.specs.Check.{Claim, rowFor, rowDual, columnDual, everyOf, checkLengths, pairingFits}
@@ -18,13 +19,14 @@ use Rattle.match_gap.specs.Rounding.{zeroStep, step, inSteps, lower, upp
 -- ---- the gap
 -- how far u + v of entry k, of column j, can be above its cost, in steps of s units
 abbrev pub excessAt : ℕ → CostGraph → Claim → ℕ → ℕ → ℕ
-excessAt s g c j k = upper s (rowDual c (rowOf g k)) + upper s (columnDual c j) - (lower s (costOf g k) + zeroStep)
+excessAt s g c j k =
+    upper s (rowDual c (rowOf (g .pattern) k)) + upper s (columnDual c j) - (lower s (costOf g k) + zeroStep)
 
 -- how much it can lack of its cost, if it is the column's pair
 abbrev pub lackAt : ℕ → CostGraph → Claim → ℕ → ℕ → ℕ
 lackAt s g c j k =
-    cond (eqb (rowOf g k) (rowFor c j))
-    (upper s (costOf g k) + zeroStep - (lower s (rowDual c (rowOf g k)) + lower s (columnDual c j)))
+    cond (eqb (rowOf (g .pattern) k) (rowFor c j))
+    (upper s (costOf g k) + zeroStep - (lower s (rowDual c (rowOf (g .pattern) k)) + lower s (columnDual c j)))
     0
 
 -- the largest of `most` and of f at `count` places from k on
@@ -35,15 +37,15 @@ mostOf (suc count) f k most = mostOf count f (suc k) (larger most (f k))
 
 -- the largest over the entries of a column, 0 if there are none
 abbrev pub columnExcess : ℕ → CostGraph → Claim → ℕ → ℕ
-columnExcess s g c j = mostOf (end g j - start g j) (excessAt s g c j) (start g j) 0
+columnExcess s g c j = mostOf (end (g .pattern) j - start (g .pattern) j) (excessAt s g c j) (start (g .pattern) j) 0
 
 abbrev pub columnLack : ℕ → CostGraph → Claim → ℕ → ℕ
-columnLack s g c j = mostOf (end g j - start g j) (lackAt s g c j) (start g j) 0
+columnLack s g c j = mostOf (end (g .pattern) j - start (g .pattern) j) (lackAt s g c j) (start (g .pattern) j) 0
 
 -- the gap: both, summed over the columns
 unfoldable pub gapOf : ℕ → CostGraph → Claim → ℕ
 unfolding mostOf
-gapOf s g c = sumTo (g .n) (λ j. columnExcess s g c j + columnLack s g c j)
+gapOf s g c = sumTo (g .pattern .n) (λ j. columnExcess s g c j + columnLack s g c j)
 
 -- ---- what is wrong
 -- the digits that a step may have behind the point
@@ -61,7 +63,7 @@ unfolding checkLengths
 gapLengths g c gap = checkLengths g c && eqb (length gap) 1
 
 -- 30, then 31, of an accepted graph
-unfoldable pub pairsFault : ℕ → CostGraph → Claim → ℕ
+unfoldable pub pairsFault : ℕ → Pattern → Claim → ℕ
 unfolding pairingFits allInSteps
 pairsFault s g c =
     orElse (unless (pairingFits g (c .perm)) incompleteMatching)
@@ -73,4 +75,4 @@ unfolding gapLengths allInSteps pairsFault step
 gapFault digits g c gap =
     orElse (unless (leb digits maxDigits) indexRange)
     (orElse (graphFault g (gapLengths g c gap))
-    (orElse (unless (allInSteps (step digits) (g .cost)) costRange) (pairsFault (step digits) g c)))
+    (orElse (unless (allInSteps (step digits) (g .cost)) costRange) (pairsFault (step digits) (g .pattern) c)))

@@ -6,16 +6,16 @@ use match_check::lengths_fit;
 use match_check::pairing_fits;
 ghost use mathlib.Core.Path.{_≡_};
 ghost use mathlib.Core.Bool.{cond};
-ghost use mathlib.Core.List.{[], _∷_};
 ghost use Prim.Native.Nat.{_+_, _-_, _*_, _^_, _≤_, _<_};
 ghost use lib.Dec.{eqb};
 ghost use lib.ListN.{length, getD};
 ghost use lib.Ieee.{nan, binary64, ofBits};
 ghost use Rattle.float64.specs.Number.{magnitude};
+ghost use Rattle.sparse.specs.Pattern.{pattern};
 ghost use Rattle.hungarian.specs.Graph.{graphOf};
 ghost use Rattle.match_check.specs.Check.{claim};
 ghost use Rattle.match_gap.specs.Rounding.{zeroStep, step, floorIn, ceilingIn, lower, upper};
-ghost use Rattle.match_check.specs.inner.Steps.{Pattern};
+ghost use Rattle.match_check.specs.inner.Steps.{AcceptedPattern};
 ghost use Rattle.match_gap.specs.Gap.{gapOf, allInSteps, pairsFault, gapFault};
 ghost use Rattle.match_gap.specs.Call.{Promises};
 ghost use Rattle.match_gap.specs.inner.Scans.{digitsOf, scaleOf, Measured, Shifted, InSteps, StepLimit};
@@ -250,11 +250,11 @@ fn pairs_fault(
     limit: f64,
     digits: u32,
 ) -> u32
-    requires { ⌜ Pattern n (now «col_ptr») (now «row_idx») ⌝ ∗ ⌜ length (now perm) ≡ n ⌝ }
+    requires { ⌜ AcceptedPattern n (now «col_ptr») (now «row_idx») ⌝ ∗ ⌜ length (now perm) ≡ n ⌝ }
     requires { ⌜ StepLimit digits limit ⌝ }
     ensures { λ r.
-        let g = graphOf n (now («col_ptr» .entry)) (now («row_idx» .entry)) [] in
-        ⌜ r ≡ pairsFault (step digits) g (claim (now (perm .entry)) (now (u .entry)) (now (v .entry))) ⌝ }
+        let p = pattern n (now («col_ptr» .entry)) (now («row_idx» .entry)) in
+        ⌜ r ≡ pairsFault (step digits) p (claim (now (perm .entry)) (now (u .entry)) (now (v .entry))) ⌝ }
 {
     if !pairing_fits(n, col_ptr, row_idx, perm) {
         return refusal::INCOMPLETE_MATCHING;

@@ -31,7 +31,8 @@ use Rattle.matching.specs.Matching.{Largest}
 use Rattle.matching.specs.Pairing.{pairedEntries}
 use Rattle.float64.specs.Number.{Number, unitsPerOne}
 use Rattle.cost_limit.specs.Range.{costLimit}
-use Rattle.hungarian.specs.Graph.{CostGraph, colOf, entries, bipartite, graphOf}
+use Rattle.sparse.specs.Pattern.{Pattern, pattern, columnOf, entries, bipartite}
+use Rattle.hungarian.specs.Graph.{withCosts}
 use Rattle.hungarian.specs.Match.{hungarianMatch}
 use Rattle.hungarian.specs.Optimal.{LargestMatch, matchedEntries}
 use Rattle.hungarian.specs.inner.Setting.{Setting}
@@ -40,8 +41,8 @@ use Rattle.hungarian.proofs.Theorems.{match-largest}
 use Rattle.hungarian_match.specs.Call.{matchFault, numberOf as matchNumber, finished, matchOutcome}
 use Rattle.hungarian_match.specs.declared.Answer.the-variants as Answer
 use Rattle.hungarian_match.proofs.Calls.{accepted-lengths}
-use Rattle.match_check.specs.inner.Steps.{Pattern}
-use Rattle.match_largest.specs.Marks.{pattern, rowAt, isFree, mark, pairsFit, isMet, markedColumns, markedRows, isLargest, patternFault, pairingFault}
+use Rattle.match_check.specs.inner.Steps.{AcceptedPattern}
+use Rattle.match_largest.specs.Marks.{rowAt, isFree, mark, pairsFit, isMet, markedColumns, markedRows, isLargest, patternFault, pairingFault}
 use Rattle.match_largest.specs.Call.{numberOf, Slices, slices, largestLengths, largestFault, pairCount, marksOf, largestOutcome, pairs}
 use Rattle.match_largest.specs.Call.{IsLargestOf, Room, Exactly, Shown, Shows, Ours, OursAccepted}
 use Rattle.match_largest.specs.inner.Sweeps.{Searched}
@@ -53,13 +54,13 @@ use Rattle.match_largest.proofs.Pairs.{fits-at, fits-good, good-fits}
 use Rattle.match_largest.proofs.Largest.{held-largest, largest-held, shown}
 
 -- ---- 3
-pub record Fitting (g : CostGraph) (perm : List ℕ) (s : Slices) : Type 0 where
+pub record Fitting (g : Pattern) (perm : List ℕ) (s : Slices) : Type 0 where
   pub pointers : length (g .colPtr) ≡ g .n + 1
   pub places : length perm ≡ g .n
   pub room : Room g s
 
-module _ (g : CostGraph) (perm : List ℕ) (s : Slices) where
-  pub fitting : largestLengths g perm s ≡ true → Fitting g perm s
+module _ (g : Pattern) (perm : List ℕ) (s : Slices) where
+  pub fitting : largestLengths (g .n) (g .colPtr) perm s ≡ true → Fitting g perm s
   unfolding largestLengths
   fitting t =
       let a = both (eqb (length (g .colPtr)) (g .n + 1)) _ t in
@@ -72,17 +73,17 @@ module _ (g : CostGraph) (perm : List ℕ) (s : Slices) where
         room = record { columns = eqb-true _ _ (c .0); rows = eqb-true _ _ (d .0); matched = eqb-true _ _ (d .1) };
       }
 
-  fits : Fitting g perm s → largestLengths g perm s ≡ true
+  fits : Fitting g perm s → largestLengths (g .n) (g .colPtr) perm s ≡ true
   unfolding largestLengths
   fits f = rw (eq-eqb _ _ (f .pointers), eq-eqb _ _ (f .places), eq-eqb _ _ (f .room .columns), eq-eqb _ _ (f .room .rows), eq-eqb _ _ (f .room .matched)) refl
 
 -- ---- an accepted pattern
-module _ (g : CostGraph) (lengths : Bool) (z : patternFault g lengths ≡ 0) where
+module _ (g : Pattern) (lengths : Bool) (z : patternFault g lengths ≡ 0) where
   pub all-fit : lengths ≡ true
   unfolding patternFault
   all-fit = sizes-accepted (g .n) maxGeneral (length (g .rowIdx)) lengths .0 (or-zero (sizeFault (g .n) maxGeneral (length (g .rowIdx)) lengths) _ z .0) .2
 
-  pub pattern-is : length (g .colPtr) ≡ g .n + 1 → Pattern (g .n) (g .colPtr) (g .rowIdx)
+  pub pattern-is : length (g .colPtr) ≡ g .n + 1 → AcceptedPattern (g .n) (g .colPtr) (g .rowIdx)
   unfolding patternFault
   pattern-is p =
       let a = or-zero (sizeFault (g .n) maxGeneral (length (g .rowIdx)) lengths) _ z in
@@ -96,7 +97,7 @@ module _ (g : CostGraph) (lengths : Bool) (z : patternFault g lengths ≡ 0) whe
             general-columns (pointers-accepted (g .n) (g .colPtr) (length (g .rowIdx)) .0 (b .0)) .0 (b .1);
       }
 
-is-pattern : (g : CostGraph) → g .n ≤ 4096 → entries g ≤ 262144 → Columns (g .n) (g .colPtr) (g .rowIdx) → patternFault g true ≡ 0
+is-pattern : (g : Pattern) → g .n ≤ 4096 → entries g ≤ 262144 → Columns (g .n) (g .colPtr) (g .rowIdx) → patternFault g true ≡ 0
 unfolding patternFault
 is-pattern g few limit w =
     let a : sizeFault (g .n) maxGeneral (length (g .rowIdx)) true ≡ 0 = sizes-accepted (g .n) maxGeneral (length (g .rowIdx)) true .1 (few, limit, refl) in
@@ -105,22 +106,22 @@ is-pattern g few limit w =
     rw (a, b, c) refl
 
 -- ---- what an accepted call has passed
-pub record Passed (g : CostGraph) (perm : List ℕ) (s : Slices) : Type 0 where
+pub record Passed (g : Pattern) (perm : List ℕ) (s : Slices) : Type 0 where
   pub fit : Fitting g perm s
-  pub shape : Pattern (g .n) (g .colPtr) (g .rowIdx)
+  pub shape : AcceptedPattern (g .n) (g .colPtr) (g .rowIdx)
   pub pairing : pairsFit g perm ≡ true
   pub rows : isLargest g perm ≡ true
 
-module _ (g : CostGraph) (perm : List ℕ) (s : Slices) where
+module _ (g : Pattern) (perm : List ℕ) (s : Slices) where
   pub passed : largestFault g perm s ≡ 0 → Passed g perm s
   unfolding largestFault pairingFault
   passed z =
-      let a = or-zero (patternFault g (largestLengths g perm s)) _ z in
+      let a = or-zero (patternFault g (largestLengths (g .n) (g .colPtr) perm s)) _ z in
       let b = or-zero (unless (pairsFit g perm) incompleteMatching) _ (a .1) in
-      let f = fitting g perm s (all-fit g (largestLengths g perm s) (a .0)) in
+      let f = fitting g perm s (all-fit g (largestLengths (g .n) (g .colPtr) perm s) (a .0)) in
       record {
         fit = f;
-        shape = pattern-is g (largestLengths g perm s) (a .0) (f .pointers);
+        shape = pattern-is g (largestLengths (g .n) (g .colPtr) perm s) (a .0) (f .pointers);
         pairing = unless-holds _ incompleteMatching (omega arith) (b .0);
         rows = unless-holds _ notLargest (omega arith) (b .1);
       }
@@ -158,13 +159,13 @@ module _ (g : CostGraph) (perm : List ℕ) (s : Slices) where
           let q = l .stand j d f' in
           let same : p .entry ≡ q .entry = l .largest .matching .rows (p .entry) (q .entry) (p .within) (q .within) (its-pair i b f) (its-pair j d f')
           (p .row ∙ e ∙ sym (q .row)) in
-          sym (p .column) ∙ ap (colOf g) same ∙ q .column;
+          sym (p .column) ∙ ap (columnOf g) same ∙ q .column;
     }
 
     largest-passes : Room g s → largestFault g perm s ≡ 0
     unfolding largestFault pairingFault
     largest-passes r =
-        let a : largestLengths g perm s ≡ true = fits g perm s (record { pointers = l .pointers; places = l .places; room = r }) in
+        let a : largestLengths (g .n) (g .colPtr) perm s ≡ true = fits g perm s (record { pointers = l .pointers; places = l .places; room = r }) in
         rw (
           a,
           is-pattern g (l .few) (l .fewEntries) (l .inOrder),
@@ -174,50 +175,46 @@ module _ (g : CostGraph) (perm : List ℕ) (s : Slices) where
         ) refl
 
 -- ---- our own matches
-pub ours-largest : (g : CostGraph) (perm : List ℕ) → Ours g perm → IsLargestOf g perm
-unfolding matchOutcome finished colOf matchedEntries
-ours-largest g perm o = go (matchFault (graphOf (g .n) (g .colPtr) (g .rowIdx) (o .cost)) (o .before)) refl (o .number) (o .left)
+pub ours-largest : (g : Pattern) (perm : List ℕ) → Ours g perm → IsLargestOf g perm
+unfolding matchOutcome finished matchedEntries
+ours-largest g perm o = go (matchFault (withCosts g (o .cost)) (o .before)) refl (o .number) (o .left)
   where
-    found : matchFault (graphOf (g .n) (g .colPtr) (g .rowIdx) (o .cost)) (o .before) ≡ 0
-        → IsLargestOf g (hungarianMatch (graphOf (g .n) (g .colPtr) (g .rowIdx) (o .cost)) .perm)
+    found : matchFault (withCosts g (o .cost)) (o .before) ≡ 0
+        → IsLargestOf g (hungarianMatch (withCosts g (o .cost)) .perm)
     found e =
-        let c : CostGraph = graphOf (g .n) (g .colPtr) (g .rowIdx) (o .cost) in
+        let c = withCosts g (o .cost) in
         let a = accepted-lengths c (o .before) e .accepted in
         let S : Setting Number unitsPerOne (costLimit (g .n)) c = near-setting c a (o .doubles) in
-        let r : LargestMatch c (hungarianMatch c) = match-largest c a (o .doubles) in
+        let r : LargestMatch g (hungarianMatch c) = match-largest c a (o .doubles) in
         record {
           few = S .fewColumns;
           fewEntries = S .fewEntries;
           pointers = omega (arith, S .pointerCount);
           inOrder = S .columns;
           places = r .places;
-          stand = λ j h f. let q = r .pairs j h f in record { entry = q .entry; within = q .within; row = q .row; column = q .column };
-          largest = record {
-            matching = record { rows = r .matching .rows; cols = r .matching .cols };
-            most =
-                λ R m. omega (arith, r .largest R (record { rows = m .rows; cols = m .cols }), r .pairCount);
-          };
+          stand = r .pairs;
+          largest = record { matching = r .matching; most = λ R m. omega (arith, r .largest R m, r .pairCount) };
         }
 
-    go : (f : ℕ) → matchFault (graphOf (g .n) (g .colPtr) (g .rowIdx) (o .cost)) (o .before) ≡ f
-        → matchNumber (refusing Answer.Refused f (finished (graphOf (g .n) (g .colPtr) (g .rowIdx) (o .cost)) (o .before)) (o .before) .answer) ≡ 0
-        → perm ≡ refusing Answer.Refused f (finished (graphOf (g .n) (g .colPtr) (g .rowIdx) (o .cost)) (o .before)) (o .before) .after .perm
+    go : (f : ℕ) → matchFault (withCosts g (o .cost)) (o .before) ≡ f
+        → matchNumber (refusing Answer.Refused f (finished (withCosts g (o .cost)) (o .before)) (o .before) .answer) ≡ 0
+        → perm ≡ refusing Answer.Refused f (finished (withCosts g (o .cost)) (o .before)) (o .before) .after .perm
         → IsLargestOf g perm
     go zero e z left = subst (IsLargestOf g) (sym left) (found e)
     go (suc f) e z left = let y : ⊥ = omega (arith, z) in absurd y
 
 -- ---- 0 1 2 3 4 5 7 30 33 and no other number
-largest-listed : (g : CostGraph) (perm : List ℕ) (s : Slices) → Listed largestNumbers (largestFault g perm s)
+largest-listed : (g : Pattern) (perm : List ℕ) (s : Slices) → Listed largestNumbers (largestFault g perm s)
 unfolding listed within largestFault patternFault pairingFault
 largest-listed g perm s =
     or-listed
-    (or-listed (part sizeNumbers (sizes-listed (g .n) maxGeneral (length (g .rowIdx)) (largestLengths g perm s)) refl)
+    (or-listed (part sizeNumbers (sizes-listed (g .n) maxGeneral (length (g .rowIdx)) (largestLengths (g .n) (g .colPtr) perm s)) refl)
     (or-listed (part pointerNumbers (pointers-listed (g .n) (g .colPtr) (length (g .rowIdx))) refl)
     (part columnNumbers (general-columns-listed (g .n) (g .colPtr) (g .rowIdx)) refl)))
     (or-listed (test (pairsFit g perm) incompleteMatching refl refl) (test (isLargest g perm) notLargest refl refl))
 
 -- ---- the clauses, of any answer
-module _ (g : CostGraph) (perm : List ℕ) (s : Slices) where
+module _ (g : Pattern) (perm : List ℕ) (s : Slices) where
   abbrev Follows : ℕ → Slices → Type 0
   Follows number after = OneOf largestNumbers number × (Exactly g perm s number × (Shows g perm number after × OursAccepted g perm s number))
 
@@ -248,27 +245,18 @@ module _ (g : CostGraph) (perm : List ℕ) (s : Slices) where
           (numbered n, (exactly n, (λ m. let q : ⊥ = omega (arith, m, n, z) in absurd q, ours n)))
 
 -- ---- the answers
-refused-by : (g : CostGraph) (perm : List ℕ) (s : Slices) {fault : ℕ} → fault ≢ 0 → fault ≡ largestFault g perm s
+refused-by : (g : Pattern) (perm : List ℕ) (s : Slices) {fault : ℕ} → fault ≢ 0 → fault ≡ largestFault g perm s
     → outcomeIs (Refused fault) s ≡ largestOutcome g perm s
 unfolding largestOutcome
 refused-by g perm s z e = refused-is Refused (outcomeIs Accepted (marksOf g perm)) s e z
 
--- the lengths need no rows
-pub lengths-are : (n : ℕ) (colPtr rowIdx perm : List ℕ) (s : Slices) → largestLengths (pattern n colPtr []) perm s ≡ largestLengths
-    (pattern n colPtr rowIdx) perm s
-unfolding largestLengths
-lengths-are n colPtr rowIdx perm s = refl
-
-module _ (n : ℕ) (colPtr rowIdx perm : List ℕ) (s : Slices) {lengths : Bool} (l : lengths ≡ largestLengths (pattern n colPtr []) perm s) where
-  lengths-fit : lengths ≡ largestLengths (pattern n colPtr rowIdx) perm s
-  lengths-fit = l ∙ lengths-are n colPtr rowIdx perm s
-
+module _ (n : ℕ) (colPtr rowIdx perm : List ℕ) (s : Slices) {lengths : Bool} (l : lengths ≡ largestLengths n colPtr perm s) where
   pub pointers-fit : lengths ≡ true → length colPtr ≡ n + 1
-  pointers-fit t = fitting (pattern n colPtr rowIdx) perm s (sym lengths-fit ∙ t) .pointers
+  pointers-fit t = fitting (pattern n colPtr rowIdx) perm s (sym l ∙ t) .pointers
 
   module _ {shape : ℕ} (f : shape ≡ patternFault (pattern n colPtr rowIdx) lengths) where
-    tested : shape ≡ patternFault (pattern n colPtr rowIdx) (largestLengths (pattern n colPtr rowIdx) perm s)
-    tested = f ∙ ap (patternFault (pattern n colPtr rowIdx)) lengths-fit
+    tested : shape ≡ patternFault (pattern n colPtr rowIdx) (largestLengths n colPtr perm s)
+    tested = f ∙ ap (patternFault (pattern n colPtr rowIdx)) l
 
     pub by-shape : shape ≢ 0 → outcomeIs (Refused shape) s ≡ largestOutcome (pattern n colPtr rowIdx) perm s
     unfolding largestFault
@@ -278,7 +266,7 @@ module _ (n : ℕ) (colPtr rowIdx perm : List ℕ) (s : Slices) {lengths : Bool}
       pub fit : Fitting (pattern n colPtr rowIdx) perm s
       fit = fitting (pattern n colPtr rowIdx) perm s (all-fit (pattern n colPtr rowIdx) _ (sym tested ∙ z))
 
-      pub shape-is : Pattern n colPtr rowIdx
+      pub shape-is : AcceptedPattern n colPtr rowIdx
       shape-is = pattern-is (pattern n colPtr rowIdx) _ (sym tested ∙ z) (fit .pointers)
 
       module _ {fault : ℕ} (p : fault ≡ pairingFault (pattern n colPtr rowIdx) perm) where

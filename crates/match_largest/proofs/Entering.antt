@@ -14,7 +14,8 @@ use lib.Seq.{getD-set-same, getD-set-other}
 use Rattle.limits.specs.Limits.{none}
 use Rattle.match_check.specs.Check.{someOf, takenBefore, pairStands}
 use Rattle.match_check.proofs.Columns.{some-column}
-use Rattle.match_largest.specs.Marks.{pattern, rowAt, pairFits}
+use Rattle.sparse.specs.Pattern.{pattern}
+use Rattle.match_largest.specs.Marks.{rowAt, pairFits}
 use Rattle.match_largest.specs.inner.Sweeps.{Entered}
 use Rattle.match_largest.proofs.Pairs.{taken-by, by-taken}
 

@@ -19,8 +19,8 @@ use Rattle.matching.specs.Matching.{IsMatching, Largest, size}
 use Rattle.matching.specs.Pairing.{pairedEntries, matchedCount}
 use Rattle.matching.proofs.Sums.{or-zero-pos, sum-same, sum-add, sum-parts, sum-const, Sent, counting, count-le}
 use Rattle.matching.proofs.Matchings.{Closed, largest}
-use Rattle.hungarian.specs.Graph.{CostGraph, rowOf, colOf, entries, bipartite}
-use Rattle.hungarian.proofs.Columns.{in-range, simple}
+use Rattle.sparse.specs.Pattern.{Pattern, rowOf, columnOf, entries, bipartite}
+use Rattle.sparse.proofs.Columns.{in-range, simple}
 use Rattle.match_check.specs.Check.{takenBefore}
 use Rattle.match_check.proofs.Every.{every-first, first-every}
 use Rattle.match_largest.specs.Marks.{rowAt, isFree, markedColumns, markedRows, isHeld, isLargest}
@@ -29,23 +29,23 @@ use Rattle.match_largest.proofs.Berge.{Good, Walk, larger, good-matchin
 use Rattle.match_largest.proofs.Rounds.{column-reached, reached-column, row-reached, reached-row, column-bit, row-bit, columns-length, rows-length}
 use Rattle.match_largest.proofs.Pairs.{taken-by, not-taken}
 
-module _ (g : CostGraph) (perm : List ℕ) (w : Columns (g .n) (g .colPtr) (g .rowIdx)) (p : Good (bipartite g) none (rowAt perm)) where
+module _ (g : Pattern) (perm : List ℕ) (w : Columns (g .n) (g .colPtr) (g .rowIdx)) (p : Good (bipartite g) none (rowAt perm)) where
   abbrev columnMark : ℕ → ℕ
   columnMark j = getD (markedColumns g perm) j 0
 
   abbrev rowMark : ℕ → ℕ
   rowMark i = getD (markedRows g perm) i 0
 
-  column-in : (k : ℕ) → k < entries g → colOf g k < g .n
+  column-in : (k : ℕ) → k < entries g → columnOf g k < g .n
   column-in k h = in-range g w .cols k h
 
   row-in : (k : ℕ) → k < entries g → rowOf g k < g .n
   row-in k h = in-range g w .rows k h
 
   -- every entry of a marked column is in a marked row
-  pub closed : (k : ℕ) → k < entries g → columnMark (colOf g k) ≡ 1 → rowMark (rowOf g k) ≡ 1
+  pub closed : (k : ℕ) → k < entries g → columnMark (columnOf g k) ≡ 1 → rowMark (rowOf g k) ≡ 1
   closed k h m = reached-row g perm w (rowOf g k) (row-in k h)
-      (record { entry = k; within = h; row = refl; column = column-reached g perm w (colOf g k) (column-in k h) m })
+      (record { entry = k; within = h; row = refl; column = column-reached g perm w (columnOf g k) (column-in k h) m })
 
   free-marked : (j : ℕ) → j < g .n → rowAt perm j ≡ none → columnMark j ≡ 1
   free-marked j h e = reached-column g perm w (Reached.begins h e)
@@ -74,7 +74,7 @@ module _ (g : CostGraph) (perm : List ℕ) (w : Columns (g .n) (g .colPtr) (g .r
           let r = p .stand j h (λ e. T-not (eqb (columnMark j) 1) z (eq→eqb (free-marked j h e))) in
           (r .0, r .1, eq→eqb (ap (rowAt perm) (r .3) ∙ sym (r .2)), r .3);
       inside = λ k h z.
-          let c = held (rowOf g k) (row-in k h) (closed k h (eqb→eq (columnMark (colOf g k)) 1 z)) in
+          let c = held (rowOf g k) (row-in k h) (closed k h (eqb→eq (columnMark (columnOf g k)) 1 z)) in
           let r = p .stand (c .column) (c .within) (λ e. let y : ⊥ = omega (arith, c .row, p .outside, row-in k h) in y) in
           (r .0, r .1, eq→eqb (ap (rowAt perm) (r .3) ∙ sym (r .2)), r .2 ∙ c .row, eq→eqb (ap columnMark (r .3) ∙ c .marked));
     }
@@ -143,14 +143,14 @@ module _ (g : CostGraph) (perm : List ℕ) (w : Columns (g .n) (g .colPtr) (g .r
         sum-const (g .n) 1,
         mul-one (g .n),
         sum-same (entries g) (λ k. orZero (R k) 1)
-            (λ k. orZero (R k && eqb (columnMark (colOf g k)) 1) 1 + orZero (R k && not (eqb (columnMark (colOf g k)) 1)) 1)
-            (λ k h. split (R k) (eqb (columnMark (colOf g k)) 1)),
-        sum-add (entries g) (λ k. orZero (R k && eqb (columnMark (colOf g k)) 1) 1) (λ k. orZero (R k && not (eqb (columnMark (colOf g k)) 1)) 1),
-        count-le (entries g) (g .n) (λ k. R k && eqb (columnMark (colOf g k)) 1) (λ i. eqb (rowMark i) 1) (rowOf g)
-            (λ k h t. (row-in k h, eq→eqb (closed k h (eqb→eq (columnMark (colOf g k)) 1 (both-in (R k) (eqb (columnMark (colOf g k)) 1) t .1)))))
+            (λ k. orZero (R k && eqb (columnMark (columnOf g k)) 1) 1 + orZero (R k && not (eqb (columnMark (columnOf g k)) 1)) 1)
+            (λ k h. split (R k) (eqb (columnMark (columnOf g k)) 1)),
+        sum-add (entries g) (λ k. orZero (R k && eqb (columnMark (columnOf g k)) 1) 1) (λ k. orZero (R k && not (eqb (columnMark (columnOf g k)) 1)) 1),
+        count-le (entries g) (g .n) (λ k. R k && eqb (columnMark (columnOf g k)) 1) (λ i. eqb (rowMark i) 1) (rowOf g)
+            (λ k h t. (row-in k h, eq→eqb (closed k h (eqb→eq (columnMark (columnOf g k)) 1 (both-in (R k) (eqb (columnMark (columnOf g k)) 1) t .1)))))
             (λ k l b d s t e. m .rows k l b d (both-in (R k) _ s .0) (both-in (R l) _ t .0) e),
-        count-le (entries g) (g .n) (λ k. R k && not (eqb (columnMark (colOf g k)) 1)) (λ j. not (eqb (columnMark j) 1)) (colOf g)
-            (λ k h t. (column-in k h, both-in (R k) (not (eqb (columnMark (colOf g k)) 1)) t .1))
+        count-le (entries g) (g .n) (λ k. R k && not (eqb (columnMark (columnOf g k)) 1)) (λ j. not (eqb (columnMark j) 1)) (columnOf g)
+            (λ k h t. (column-in k h, both-in (R k) (not (eqb (columnMark (columnOf g k)) 1)) t .1))
             (λ k l b d s t e. m .cols k l b d (both-in (R k) _ s .0) (both-in (R l) _ t .0) e),
       )
 

@@ -13,8 +13,8 @@ use lib.ListN.{getD}
 use Rattle.limits.specs.Limits.{none}
 use Rattle.slices.proofs.Bools.{both}
 use Rattle.sparse.specs.Columns.{Columns}
-use Rattle.hungarian.specs.Graph.{CostGraph, rowOf, colOf, entries, start, end, bipartite, InColumn}
-use Rattle.hungarian.proofs.Columns.{in-column, in-range, column-is, in-entries}
+use Rattle.sparse.specs.Pattern.{Pattern, rowOf, columnOf, entries, start, end, bipartite, InColumn}
+use Rattle.sparse.proofs.Columns.{in-column, in-range, column-is, in-entries}
 use Rattle.match_check.specs.Check.{takenBefore, rowFresh, pairStands}
 use Rattle.match_check.proofs.Every.{every-first, first-every}
 use Rattle.match_check.proofs.Pairing.{some-place, some-none, none-some, some-found}
@@ -33,12 +33,12 @@ not-taken perm m i t c h =
     eqb-false (getD perm c 0) i (subst (λ (d : ℕ). eqb (getD perm d 0) i ≡ false) (zero-add c) (some-none (λ d. eqb (getD perm d 0) i) m 0 t c h))
 
 -- ---- a pair that fits
-pub record Fits (g : CostGraph) (perm : List ℕ) (j : ℕ) : Type 0 where
+pub record Fits (g : Pattern) (perm : List ℕ) (j : ℕ) : Type 0 where
   pub below : rowAt perm j < g .n
   pub fresh : takenBefore perm j (rowAt perm j) ≡ false
   pub stands : pairStands g perm j ≡ true
 
-module _ (g : CostGraph) (perm : List ℕ) (t : pairsFit g perm ≡ true) where
+module _ (g : Pattern) (perm : List ℕ) (t : pairsFit g perm ≡ true) where
   pub fits-at : (j : ℕ) → j < g .n → rowAt perm j ≢ none → Fits g perm j
   unfolding pairsFit
   fits-at j h f =
@@ -54,7 +54,7 @@ module _ (g : CostGraph) (perm : List ℕ) (t : pairsFit g perm ≡ true) where
   not-before i j l h f e = not-taken perm j (rowAt perm j) (fits-at j h f .fresh) i l e
 
   module _ (few : g .n ≤ 4096) (w : Columns (g .n) (g .colPtr) (g .rowIdx)) where
-    stand : (j : ℕ) → j < g .n → rowAt perm j ≢ none → (k : ℕ) × (k < entries g) × (rowOf g k ≡ rowAt perm j) × (colOf g k ≡ j)
+    stand : (j : ℕ) → j < g .n → rowAt perm j ≢ none → (k : ℕ) × (k < entries g) × (rowOf g k ≡ rowAt perm j) × (columnOf g k ≡ j)
     stand j h f =
         let r = some-place (λ k. eqb (getD (g .rowIdx) k 0) (getD perm j 0)) (end g j - start g j) (start g j) (fits-at j h f .stands) in
         let c : InColumn g j (r .0) = record { column = h; above = r .1; below = omega (arith, r .1, r .2) } in
@@ -73,7 +73,7 @@ module _ (g : CostGraph) (perm : List ℕ) (t : pairsFit g perm ≡ true) where
     fits-good = record { outside = omega arith; stand = stand; once = once }
 
 -- ---- a good pairing passes
-module _ (g : CostGraph) (perm : List ℕ) (w : Columns (g .n) (g .colPtr) (g .rowIdx)) (p : Good (bipartite g) none (rowAt perm)) where
+module _ (g : Pattern) (perm : List ℕ) (w : Columns (g .n) (g .colPtr) (g .rowIdx)) (p : Good (bipartite g) none (rowAt perm)) where
   fresh : (j : ℕ) → j < g .n → rowAt perm j ≢ none → takenBefore perm j (rowAt perm j) ≡ false
   fresh j h f = none-some (λ c. eqb (getD perm c 0) (getD perm j 0)) j 0
       (λ i l. ne-eqb (getD perm (0 + i) 0) (getD perm j 0) (λ e. let q = p .once (0 + i) j (omega arith) h (λ z. f (sym e ∙ z)) e in let z : ⊥ =

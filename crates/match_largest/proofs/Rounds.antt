@@ -17,8 +17,8 @@ use Rattle.sparse.specs.Columns.{Columns}
 use Rattle.matching.specs.Sum.{sumTo, updated}
 use Rattle.matching.proofs.Updated.{updated-same, updated-other}
 use Rattle.matching.proofs.Sums.{sum-le, sum-const, sum-updated}
-use Rattle.hungarian.specs.Graph.{CostGraph, rowOf, colOf, entries}
-use Rattle.hungarian.proofs.Columns.{in-range}
+use Rattle.sparse.specs.Pattern.{Pattern, rowOf, columnOf, entries}
+use Rattle.sparse.proofs.Columns.{in-range}
 use Rattle.match_check.proofs.Pairing.{some-place, some-found}
 use Rattle.match_largest.specs.Marks.{rowAt, isFree, mark, isMet, columnsAfter, markedColumns, markedRows}
 use Rattle.match_largest.specs.Call.{Reached, ReachedRow}
@@ -66,21 +66,21 @@ sum-lt n v w i b h l = omega (arith, sum-updated n w i (v i) b, sum-le n v (upda
     ]
 
 -- ---- rows that a marked column has an entry in
-module _ (g : CostGraph) (columns : List ℕ) (i : ℕ) where
-  pub met-entry : isMet g columns i ≡ true → (k : ℕ) × (k < entries g) × (rowOf g k ≡ i) × (getD columns (colOf g k) 0 ≡ 1)
+module _ (g : Pattern) (columns : List ℕ) (i : ℕ) where
+  pub met-entry : isMet g columns i ≡ true → (k : ℕ) × (k < entries g) × (rowOf g k ≡ i) × (getD columns (columnOf g k) 0 ≡ 1)
   unfolding isMet
   met-entry e =
-      let r = some-place (λ k. eqb (rowOf g k) i && eqb (getD columns (colOf g k) 0) 1) (entries g) 0 e in
-      let b = both (eqb (rowOf g (r .0)) i) (eqb (getD columns (colOf g (r .0)) 0) 1) (r .3) in
+      let r = some-place (λ k. eqb (rowOf g k) i && eqb (getD columns (columnOf g k) 0) 1) (entries g) 0 e in
+      let b = both (eqb (rowOf g (r .0)) i) (eqb (getD columns (columnOf g (r .0)) 0) 1) (r .3) in
       (r .0, omega (arith, r .2), eqb-true _ _ (b .0), eqb-true _ _ (b .1))
 
-  pub entry-met : (k : ℕ) → k < entries g → rowOf g k ≡ i → getD columns (colOf g k) 0 ≡ 1 → isMet g columns i ≡ true
+  pub entry-met : (k : ℕ) → k < entries g → rowOf g k ≡ i → getD columns (columnOf g k) 0 ≡ 1 → isMet g columns i ≡ true
   unfolding isMet
   entry-met k h e m =
-      some-found (λ l. eqb (rowOf g l) i && eqb (getD columns (colOf g l) 0) 1) (entries g) 0 k (omega arith) (omega arith)
-      (rw (eq-eqb (rowOf g k) i e, eq-eqb (getD columns (colOf g k) 0) 1 m) refl)
+      some-found (λ l. eqb (rowOf g l) i && eqb (getD columns (columnOf g l) 0) 1) (entries g) 0 k (omega arith) (omega arith)
+      (rw (eq-eqb (rowOf g k) i e, eq-eqb (getD columns (columnOf g k) 0) 1 m) refl)
 
-module _ (g : CostGraph) (perm : List ℕ) (w : Columns (g .n) (g .colPtr) (g .rowIdx)) where
+module _ (g : Pattern) (perm : List ℕ) (w : Columns (g .n) (g .colPtr) (g .rowIdx)) where
   -- column j is marked after so many rounds
   abbrev At : ℕ → ℕ → Type 0
   At t j = getD (columnsAfter g perm t) j 0 ≡ 1
@@ -97,12 +97,12 @@ module _ (g : CostGraph) (perm : List ℕ) (w : Columns (g .n) (g .colPtr) (g .r
   free-at zero j h e = first-at j h ∙ is-mark e
   free-at (suc t) j h e = next-at t j h ∙ is-mark (or-first (isMet g (columnsAfter g perm t) (rowAt perm j)) e)
 
-  by-entry : (t j k : ℕ) → j < g .n → k < entries g → rowOf g k ≡ rowAt perm j → At t (colOf g k) → At (suc t) j
+  by-entry : (t j k : ℕ) → j < g .n → k < entries g → rowOf g k ≡ rowAt perm j → At t (columnOf g k) → At (suc t) j
   by-entry t j k h l e m = next-at t j h ∙ is-mark (or-second (isFree perm j) (entry-met g (columnsAfter g perm t) (rowAt perm j) k l e m))
 
   -- a column that is marked in a round is free, or has the row of an entry of one marked before
   abbrev Came : ℕ → ℕ → Type 0
-  Came t j = (isFree perm j ≡ true) ⊎ ((k : ℕ) × (k < entries g) × (rowOf g k ≡ rowAt perm j) × At t (colOf g k))
+  Came t j = (isFree perm j ≡ true) ⊎ ((k : ℕ) × (k < entries g) × (rowOf g k ≡ rowAt perm j) × At t (columnOf g k))
 
   came : (t j : ℕ) → j < g .n → At (suc t) j → Came t j
   came t j h m = go (or-is (isFree perm j) _ (mark-is _ (sym (next-at t j h) ∙ m)))
@@ -111,14 +111,14 @@ module _ (g : CostGraph) (perm : List ℕ) (w : Columns (g .n) (g .colPtr) (g .r
       go (inl e) = inl e
       go (inr e) = inr (met-entry g (columnsAfter g perm t) (rowAt perm j) e)
 
-  column : (k : ℕ) → k < entries g → colOf g k < g .n
+  column : (k : ℕ) → k < entries g → columnOf g k < g .n
   column k h = in-range g w .cols k h
 
   grows : (t j : ℕ) → j < g .n → At t j → At (suc t) j
   grows zero j h m = free-at 1 j h (mark-is (isFree perm j) (sym (first-at j h) ∙ m))
-  grows (suc t) j h m = go (came t j h m) (λ k b. grows t (colOf g k) (column k b))
+  grows (suc t) j h m = go (came t j h m) (λ k b. grows t (columnOf g k) (column k b))
     where
-      go : Came t j → ((k : ℕ) → k < entries g → At t (colOf g k) → At (suc t) (colOf g k)) → At (suc (suc t)) j
+      go : Came t j → ((k : ℕ) → k < entries g → At t (columnOf g k) → At (suc t) (columnOf g k)) → At (suc (suc t)) j
       go (inl e) f = free-at (suc (suc t)) j h e
       go (inr c) f = by-entry (suc t) j (c .0) h (c .1) (c .2) (f (c .0) (c .1) (c .3))
 
@@ -131,7 +131,7 @@ module _ (g : CostGraph) (perm : List ℕ) (w : Columns (g .n) (g .colPtr) (g .r
     where
       go : Came (suc t) j → At (suc t) j
       go (inl e) = free-at (suc t) j h e
-      go (inr c) = by-entry t j (c .0) h (c .1) (c .2) (s (colOf g (c .0)) (column (c .0) (c .1)) (c .3))
+      go (inr c) = by-entry t j (c .0) h (c .1) (c .2) (s (columnOf g (c .0)) (column (c .0) (c .1)) (c .3))
 
   bit : (t j : ℕ) → j < g .n → getD (columnsAfter g perm t) j 0 ≤ 1
   bit zero j h = omega (arith, first-at j h, mark-bit (isFree perm j))
@@ -178,9 +178,9 @@ module _ (g : CostGraph) (perm : List ℕ) (w : Columns (g .n) (g .colPtr) (g .r
   -- ---- the marks
   reached-at : (t j : ℕ) → j < g .n → At t j → Reached g perm j
   reached-at zero j h m = Reached.begins h (eqb-true (rowAt perm j) none (mark-is (isFree perm j) (sym (first-at j h) ∙ m)))
-  reached-at (suc t) j h m = go (came t j h m) (λ k b. reached-at t (colOf g k) (column k b))
+  reached-at (suc t) j h m = go (came t j h m) (λ k b. reached-at t (columnOf g k) (column k b))
     where
-      go : Came t j → ((k : ℕ) → k < entries g → At t (colOf g k) → Reached g perm (colOf g k)) → Reached g perm j
+      go : Came t j → ((k : ℕ) → k < entries g → At t (columnOf g k) → Reached g perm (columnOf g k)) → Reached g perm j
       go (inl e) f = Reached.begins h (eqb-true (rowAt perm j) none e)
       go (inr c) f = Reached.goes (c .0) (c .1) (f (c .0) (c .1) (c .3)) h (sym (c .2))
 
@@ -212,12 +212,12 @@ module _ (g : CostGraph) (perm : List ℕ) (w : Columns (g .n) (g .colPtr) (g .r
   pub row-reached : (i : ℕ) → i < g .n → getD (markedRows g perm) i 0 ≡ 1 → ReachedRow g perm i
   row-reached i h m =
       let c = met-entry g (markedColumns g perm) i (mark-is _ (sym (row-is i h) ∙ m)) in
-      record { entry = c .0; within = c .1; row = c .2; column = column-reached (colOf g (c .0)) (column (c .0) (c .1)) (c .3) }
+      record { entry = c .0; within = c .1; row = c .2; column = column-reached (columnOf g (c .0)) (column (c .0) (c .1)) (c .3) }
 
   pub reached-row : (i : ℕ) → i < g .n → ReachedRow g perm i → getD (markedRows g perm) i 0 ≡ 1
   reached-row i h r = row-is i h ∙ is-mark (entry-met g (markedColumns g perm) i (r .entry) (r .within) (r .row) (reached-column (r .column)))
 
-pub columns-length : (g : CostGraph) (perm : List ℕ) → length (markedColumns g perm) ≡ g .n
+pub columns-length : (g : Pattern) (perm : List ℕ) → length (markedColumns g perm) ≡ g .n
 unfolding markedColumns columnsAfter
 columns-length g perm = go (g .n)
   where
@@ -225,6 +225,6 @@ columns-length g perm = go (g .n)
     go zero = length-table (g .n) (λ j. mark (isFree perm j))
     go (suc t) = length-table (g .n) (λ j. mark (isFree perm j || isMet g (columnsAfter g perm t) (rowAt perm j)))
 
-pub rows-length : (g : CostGraph) (perm : List ℕ) → length (markedRows g perm) ≡ g .n
+pub rows-length : (g : Pattern) (perm : List ℕ) → length (markedRows g perm) ≡ g .n
 unfolding markedRows
 rows-length g perm = length-table (g .n) (λ i. mark (isMet g (markedColumns g perm) i))

@@ -19,18 +19,18 @@ use Rattle.sparse.specs.Columns.{Columns}
 use Rattle.matching.specs.Sum.{sumTo, orZero}
 use Rattle.matching.proofs.Sums.{sum-same, sum-parts, sum-const, count-le}
 use Rattle.matching.proofs.Pairings.{apart, not-eqb}
-use Rattle.hungarian.specs.Graph.{CostGraph, rowOf, bipartite}
+use Rattle.sparse.specs.Pattern.{Pattern, pattern, rowOf, bipartite}
 use Rattle.match_check.specs.Check.{everyOf, takenBefore}
-use Rattle.match_check.specs.inner.Steps.{Pattern}
+use Rattle.match_check.specs.inner.Steps.{AcceptedPattern}
 use Rattle.match_check.proofs.Every.{every-same}
-use Rattle.match_largest.specs.Marks.{pattern, rowAt, isFree, pairsFit, markedRows, isHeld, isLargest, pairingFault}
+use Rattle.match_largest.specs.Marks.{rowAt, isFree, pairsFit, markedRows, isHeld, isLargest, pairingFault}
 use Rattle.match_largest.specs.Call.{Reached}
 use Rattle.match_largest.specs.inner.Sweeps.{Entered, Queued, Led, unmet, Sweeping, Swept, Searched}
 use Rattle.match_largest.proofs.Berge.{Good}
 use Rattle.match_largest.proofs.Pairs.{taken-by, by-taken, fits-good}
 use Rattle.match_largest.proofs.Rounds.{same-bits, row-bit, row-reached, reached-row}
 
-module _ (g : CostGraph) {perm inverse : List ℕ} (few : g .n ≤ 4096) (p : Good (bipartite g) none (rowAt perm)) (a : Entered (g .n) perm (g .n) inverse) where
+module _ (g : Pattern) {perm inverse : List ℕ} (few : g .n ≤ 4096) (p : Good (bipartite g) none (rowAt perm)) (a : Entered (g .n) perm (g .n) inverse) where
   -- a row of a column is below n
   row-below : (j : ℕ) → j < g .n → rowAt perm j ≢ none → (w : Columns (g .n) (g .colPtr) (g .rowIdx)) → rowAt perm j < g .n
   row-below j h f w = let r = p .stand j h f in omega (arith, w .inside (r .0) (r .1), r .2)
@@ -116,7 +116,7 @@ module _ (g : CostGraph) {perm inverse : List ℕ} (few : g .n ≤ 4096) (p : Go
         free-row {j} (Reached.goes k c r h e) f b = absurd (f (rowOf g k) (w .inside k c) (column-of j (rowOf g k) h (w .inside k c) e))
 
 -- ---- what the functions hand over
-module _ {n : ℕ} {colPtr rowIdx perm inverse : List ℕ} (x : Pattern n colPtr rowIdx) (t : pairsFit (pattern n colPtr rowIdx) perm ≡ true)
+module _ {n : ℕ} {colPtr rowIdx perm inverse : List ℕ} (x : AcceptedPattern n colPtr rowIdx) (t : pairsFit (pattern n colPtr rowIdx) perm ≡ true)
     (a : Entered n perm n inverse) where
   good : Good (bipartite (pattern n colPtr rowIdx)) none (rowAt perm)
   good = fits-good (pattern n colPtr rowIdx) perm t (x .few) (x .columns)
@@ -130,7 +130,7 @@ module _ {n : ℕ} {colPtr rowIdx perm inverse : List ℕ} (x : Pattern n colPtr
   ends s = searched (pattern n colPtr rowIdx) (x .few) good a (x .columns) s
 
 -- a marked row has a column exactly where some column has the row
-pub held-is : {g : CostGraph} {perm inverse met : List ℕ} → Entered (g .n) perm (g .n) inverse → Searched g perm met
+pub held-is : {g : Pattern} {perm inverse met : List ℕ} → Entered (g .n) perm (g .n) inverse → Searched g perm met
     → everyOf (g .n) (λ i. not (eqb (getD met i 0) 1) || ltb (getD inverse i 0) (g .n)) 0 ≡ isLargest g perm
 unfolding isLargest
 held-is {g} {perm} {inverse} {met} a s = every-same (λ i. not (eqb (getD met i 0) 1) || ltb (getD inverse i 0) (g .n)) (isHeld g perm) (g .n) each
@@ -144,7 +144,7 @@ held-is {g} {perm} {inverse} {met} a s = every-same (λ i. not (eqb (getD met i 
     each i h = rw (s .same i h, column i h) refl
 
 -- ---- 30 and 33
-module _ (g : CostGraph) (perm : List ℕ) {fit : Bool} (p : fit ≡ pairsFit g perm) where
+module _ (g : Pattern) (perm : List ℕ) {fit : Bool} (p : fit ≡ pairsFit g perm) where
   pub by-pairs : {X : Type 0} → fit ≡ false → (incompleteMatching ≡ pairingFault g perm) × (incompleteMatching ≡ 0 → X)
   unfolding pairingFault
   by-pairs z = let q : pairsFit g perm ≡ false = sym p ∙ z in (rw q refl, λ e. let y : ⊥ = omega (arith, e) in absurd y)

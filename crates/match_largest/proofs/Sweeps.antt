@@ -17,13 +17,13 @@ use Rattle.slices.proofs.Bools.{both}
 use Rattle.sparse.specs.Columns.{Columns}
 use Rattle.matching.specs.Sum.{sumTo, orZero}
 use Rattle.matching.proofs.Sums.{sum-change}
-use Rattle.hungarian.specs.Graph.{CostGraph, rowOf, colOf, entries, start, end, InColumn}
-use Rattle.hungarian.proofs.Columns.{in-column, column-is, in-entries}
+use Rattle.sparse.specs.Pattern.{Pattern, rowOf, columnOf, entries, start, end, InColumn}
+use Rattle.sparse.proofs.Columns.{in-column, column-is, in-entries}
 use Rattle.match_largest.specs.inner.Sweeps.{Led, Waits, unmet, Sweeping, Swept}
 use Rattle.match_largest.proofs.Queueing.{bit-byte}
 
 -- the column j at `head` is being scanned, its entries before k are done
-pub record Scanning (g : CostGraph) (inverse met queue : List ℕ) (head j k last : ℕ) : Type 0 where
+pub record Scanning (g : Pattern) (inverse met queue : List ℕ) (head j k last : ℕ) : Type 0 where
   pub sweeping : Sweeping g inverse met queue head k last
   pub waits : head < last
   pub column : getD queue head 0 ≡ j
@@ -31,10 +31,10 @@ pub record Scanning (g : CostGraph) (inverse met queue : List ℕ) (head j k las
   pub below : k ≤ end g j
 
 -- the queue is never longer than n
-pub last-few : {g : CostGraph} {inverse met queue : List ℕ} {head k last : ℕ} → Sweeping g inverse met queue head k last → last ≤ g .n
+pub last-few : {g : Pattern} {inverse met queue : List ℕ} {head k last : ℕ} → Sweeping g inverse met queue head k last → last ≤ g .n
 last-few s = omega (arith, s .left)
 
-pub scan-begins : {g : CostGraph} {inverse met queue : List ℕ} {head last : ℕ} → Sweeping g inverse met queue head 0 last → head < last
+pub scan-begins : {g : Pattern} {inverse met queue : List ℕ} {head last : ℕ} → Sweeping g inverse met queue head 0 last → head < last
     → start g (getD queue head 0) ≤ end g (getD queue head 0) → Scanning g inverse met queue head (getD queue head 0) (start g (getD queue head 0)) last
 scan-begins {g} s h l = record {
   sweeping = record {
@@ -56,7 +56,7 @@ scan-begins {g} s h l = record {
   below = l;
 }
 
-pub scan-ends : {g : CostGraph} {inverse met queue : List ℕ} {head j k last : ℕ} → Scanning g inverse met queue head j k last → end g j ≤ k
+pub scan-ends : {g : Pattern} {inverse met queue : List ℕ} {head j k last : ℕ} → Scanning g inverse met queue head j k last → end g j ≤ k
     → Sweeping g inverse met queue (head + 1) 0 last
 scan-ends {g} {inverse} {met} {queue} {head} {j} {k} {last} s l =
     let w = s .sweeping in
@@ -81,7 +81,7 @@ scan-ends {g} {inverse} {met} {queue} {head} {j} {k} {last} s l =
     }
 
 -- ---- one entry more
-module _ {g : CostGraph} (few : g .n ≤ 4096) (cols : Columns (g .n) (g .colPtr) (g .rowIdx))
+module _ {g : Pattern} (few : g .n ≤ 4096) (cols : Columns (g .n) (g .colPtr) (g .rowIdx))
     {inverse met queue : List ℕ} {head j k last : ℕ} (s : Scanning g inverse met queue head j k last) (h : k < end g j) where
   abbrev old : Sweeping g inverse met queue head k last
   old = s .sweeping
@@ -110,7 +110,7 @@ module _ {g : CostGraph} (few : g .n ≤ 4096) (cols : Columns (g .n) (g .colPtr
   pub row-below : row < g .n
   row-below = cols .inside k entry-within
 
-  led : Led g inverse (colOf g k)
+  led : Led g inverse (columnOf g k)
   led = subst (Led g inverse) (s .column ∙ sym (column-is g cols j k entry-in)) (old .columns head (s .waits) .1)
 
   here : getD marked row 0 ≡ 1
@@ -229,7 +229,7 @@ module _ {g : CostGraph} (few : g .n ≤ 4096) (cols : Columns (g .n) (g .colPtr
   }
 
 -- ---- the end
-module _ {g : CostGraph} (cols : Columns (g .n) (g .colPtr) (g .rowIdx)) {inverse met queue : List ℕ} {head last : ℕ}
+module _ {g : Pattern} (cols : Columns (g .n) (g .colPtr) (g .rowIdx)) {inverse met queue : List ℕ} {head last : ℕ}
     (s : Sweeping g inverse met queue head 0 last) (l : last ≤ head) where
   done : {c : ℕ} → Waits queue last c → (m : ℕ) → InColumn g c m → getD met (rowOf g m) 0 ≡ 1
   done {c} w m i = s .swept (w .place) m (omega (arith, w .before)) (subst (λ (d : ℕ). InColumn g d m) (sym (w .column)) i)

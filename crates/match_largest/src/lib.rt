@@ -5,7 +5,6 @@ use match_check::has_row;
 ghost use mathlib.Core.Path.{_≡_};
 ghost use mathlib.Core.Bool.{true, not, cond, _||_};
 ghost use mathlib.Core.Logic.{_≢_};
-ghost use mathlib.Core.List.{[]};
 ghost use Prim.Native.Nat.{ℕ, _+_, _^_, _≤_, _<_};
 ghost use lib.Dec.{eqb, ltb};
 ghost use lib.ListN.{length, getD, replicate};
@@ -15,8 +14,9 @@ ghost use Rattle.slices.specs.Lists.{tabulate};
 ghost use Rattle.slices.specs.Outcome.{outcomeIs};
 ghost use Rattle.matching.specs.Pairing.{matchedCount};
 ghost use Rattle.match_check.specs.Check.{everyOf};
-ghost use Rattle.match_check.specs.inner.Steps.{Pattern};
-ghost use Rattle.match_largest.specs.Marks.{pattern, rowAt, pairFits, pairsFit, patternFault, pairingFault};
+ghost use Rattle.match_check.specs.inner.Steps.{AcceptedPattern};
+ghost use Rattle.sparse.specs.Pattern.{pattern};
+ghost use Rattle.match_largest.specs.Marks.{rowAt, pairFits, pairsFit, patternFault, pairingFault};
 ghost use Rattle.match_largest.specs.Call.{numberOf, slices, largestLengths, largestOutcome};
 ghost use Rattle.match_largest.specs.Call.{Exactly, Shows, OursAccepted};
 ghost use Rattle.match_largest.specs.inner.Sweeps.{Entered, Queued, Sweeping, Swept, Searched};
@@ -41,9 +41,8 @@ fn lengths_fit(
 ) -> bool
     requires { ⌜ n < 2 ^ 32 ⌝ }
     ensures { λ r.
-        let g = pattern n (now («col_ptr» .entry)) [] in
         let s = slices (now (columns .entry)) (now (rows .entry)) (now (matched .entry)) in
-        ⌜ r ≡ largestLengths g (now (perm .entry)) s ⌝ }
+        ⌜ r ≡ largestLengths n (now («col_ptr» .entry)) (now (perm .entry)) s ⌝ }
 {
     let lent = (columns.len() == n) & ((rows.len() == n) & (matched.len() == 1));
     (col_ptr.len() == n + 1) & ((perm.len() == n) & lent)
@@ -75,7 +74,7 @@ fn enter_pair(
     perm: &[u32],
     inverse: &mut [u16],
 ) -> bool
-    requires { ⌜ Pattern n (now «col_ptr») (now «row_idx») ⌝ ∗ ⌜ length (now perm) ≡ n ⌝ }
+    requires { ⌜ AcceptedPattern n (now «col_ptr») (now «row_idx») ⌝ ∗ ⌜ length (now perm) ≡ n ⌝ }
     requires { ⌜ j < n ⌝ ∗ ⌜ Entered n (now perm) j (now inverse) ⌝ }
     ensures { λ r.
         let g = pattern n (now («col_ptr» .entry)) (now («row_idx» .entry)) in
@@ -109,7 +108,7 @@ fn enter_pairs(
     perm: &[u32],
     inverse: &mut [u16],
 ) -> bool
-    requires { ⌜ Pattern n (now «col_ptr») (now «row_idx») ⌝ ∗ ⌜ length (now perm) ≡ n ⌝ }
+    requires { ⌜ AcceptedPattern n (now «col_ptr») (now «row_idx») ⌝ ∗ ⌜ length (now perm) ≡ n ⌝ }
     requires { ⌜ now inverse ≡ replicate maxColumns 4096 ⌝ }
     ensures { λ r.
         let g = pattern n (now («col_ptr» .entry)) (now («row_idx» .entry)) in
@@ -148,7 +147,8 @@ fn scan(
     met: &mut [u8],
     queue: &mut [u16],
 ) -> usize
-    requires { ⌜ Pattern n (now «col_ptr») (now «row_idx») ⌝ ∗ ⌜ (length (now inverse) ≡ maxColumns) × (head < end) ⌝ }
+    requires { ⌜ AcceptedPattern n (now «col_ptr») (now «row_idx») ⌝
+        ∗ ⌜ (length (now inverse) ≡ maxColumns) × (head < end) ⌝ }
     requires { let g = pattern n (now «col_ptr») (now «row_idx») in
         ⌜ Sweeping g (now inverse) (now met) (now queue) head 0 end ⌝ }
     ensures { λ r.
@@ -177,7 +177,7 @@ fn sweep(
     met: &mut [u8],
     queue: &mut [u16],
 )
-    requires { ⌜ Pattern n (now «col_ptr») (now «row_idx») ⌝ ∗ ⌜ length (now inverse) ≡ maxColumns ⌝ }
+    requires { ⌜ AcceptedPattern n (now «col_ptr») (now «row_idx») ⌝ ∗ ⌜ length (now inverse) ≡ maxColumns ⌝ }
     requires { let g = pattern n (now «col_ptr») (now «row_idx») in
         ⌜ Sweeping g (now inverse) (now met) (now queue) 0 0 free ⌝ }
     ensures { λ _.
@@ -194,7 +194,7 @@ fn sweep(
 
 // The search from the columns without a row: each row that an entry of a reached column is in gets its mark.
 fn search(n: usize, col_ptr: &[u32], row_idx: &[u32], perm: &[u32], inverse: &[u16], met: &mut [u8])
-    requires { ⌜ Pattern n (now «col_ptr») (now «row_idx») ⌝ ∗ ⌜ length (now perm) ≡ n ⌝ }
+    requires { ⌜ AcceptedPattern n (now «col_ptr») (now «row_idx») ⌝ ∗ ⌜ length (now perm) ≡ n ⌝ }
     requires { let g = pattern n (now «col_ptr») (now «row_idx») in
         ⌜ (pairsFit g (now perm) ≡ true) × Entered n (now perm) n (now inverse) ⌝ }
     requires { ⌜ now met ≡ replicate maxColumns 0 ⌝ }
@@ -222,7 +222,7 @@ fn all_held(n: usize, inverse: &[u16], met: &[u8]) -> bool
 
 // 30 or 33, or 0: what is wrong with a pairing on an accepted pattern. `met` gets the marks of the rows.
 fn pairing_fault(n: usize, col_ptr: &[u32], row_idx: &[u32], perm: &[u32], met: &mut [u8]) -> u32
-    requires { ⌜ Pattern n (now «col_ptr») (now «row_idx») ⌝ ∗ ⌜ length (now perm) ≡ n ⌝ }
+    requires { ⌜ AcceptedPattern n (now «col_ptr») (now «row_idx») ⌝ ∗ ⌜ length (now perm) ≡ n ⌝ }
     requires { ⌜ now met ≡ replicate maxColumns 0 ⌝ }
     ensures { λ r.
         let g = pattern n (now («col_ptr» .entry)) (now («row_idx» .entry)) in

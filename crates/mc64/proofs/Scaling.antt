@@ -34,19 +34,19 @@ module _ {g : CostGraph} {cmax : List Float} {s : Match.Slices} {f : Slices} (R 
   accepted : Accepted g
   accepted = R .solvable .accepted
 
-  few : g .n ≤ 4096
+  few : g .pattern .n ≤ 4096
   few = near-setting g accepted d .fewColumns
 
   -- the matched count is a u32
   pub count-small : m .matched ≤ 4096
   count-small = omega (arith, S .matched, few, match-largest g accepted d .count)
 
-  pub few-matched : m .matched ≤ g .n
+  pub few-matched : m .matched ≤ g .pattern .n
   few-matched = rw (S .matched) (match-largest g accepted d .count)
 
   -- what the factors ask for
-  pub factors-ready : length (after .perm) ≡ g .n → length (after .u) ≡ g .n → length (after .v) ≡ g .n
-      → Factors.Accepted (g .n) (matchOf (after .perm) (after .u) (after .v) cmax) f
+  pub factors-ready : length (after .perm) ≡ g .pattern .n → length (after .u) ≡ g .pattern .n → length (after .v) ≡ g .pattern .n
+      → Factors.Accepted (g .pattern .n) (matchOf (after .perm) (after .u) (after .v) cmax) f
   factors-ready p u v = record {
     small = few;
     perms = p;
@@ -55,13 +55,14 @@ module _ {g : CostGraph} {cmax : List Float} {s : Match.Slices} {f : Slices} (R 
     largest = R .largest;
     factors = R .factors;
     words = R .marks;
-    rows = λ k h. row-fine (g .n) (getD (after .perm) k 0) (rw (S .perm) (match-largest g accepted d .rows k h));
+    rows = λ k h. row-fine (g .pattern .n) (getD (after .perm) k 0) (rw (S .perm) (match-largest g accepted d .rows k h));
   }
 
-  pub complete : {r : Scaled} {factored : Slices} → r ≡ appliedOrPartial (g .n) (m .matched)
-      → factored ≡ slices (symmetricFactors (g .n) (matchOf (after .perm) (after .u) (after .v) cmax)) (replicate (g .n) 0) → Scales g cmax s after factored r
+  pub complete : {r : Scaled} {factored : Slices} → r ≡ appliedOrPartial (g .pattern .n) (m .matched)
+      → factored ≡ slices (symmetricFactors (g .pattern .n) (matchOf (after .perm) (after .u) (after .v) cmax)) (replicate (g .pattern .n) 0)
+      → Scales g cmax s after factored r
   complete a e = record {
-    answered = a ∙ ap (appliedOrPartial (g .n)) (S .matched);
+    answered = a ∙ ap (appliedOrPartial (g .pattern .n)) (S .matched);
     pairs = solved-slices S;
-    scaled = e ∙ (λ z. slices (symmetricFactors (g .n) (matchOf (S .perm z) (S .u z) (S .v z) cmax)) (replicate (g .n) 0));
+    scaled = e ∙ (λ z. slices (symmetricFactors (g .pattern .n) (matchOf (S .perm z) (S .u z) (S .v z) cmax)) (replicate (g .pattern .n) 0));
   }

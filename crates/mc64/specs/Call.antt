@@ -71,8 +71,9 @@ pairsLeft g s =
 abbrev pub factorsLeft : CostGraph → List Float → Factors.Slices
 factorsLeft g cmax =
     Factors.slices
-    (symmetricFactors (g .n) (matchOf (hungarianMatch g .perm) (hungarianMatch g .u) (hungarianMatch g .v) cmax))
-    (replicate (g .n) 0)
+    (symmetricFactors (g .pattern .n)
+    (matchOf (hungarianMatch g .perm) (hungarianMatch g .u) (hungarianMatch g .v) cmax))
+    (replicate (g .pattern .n) 0)
 
 -- what the three calls leave, one after the other
 abbrev pub slicesAfter : ℕ → Matrix → List Float → ScalingSlices → ScalingSlices

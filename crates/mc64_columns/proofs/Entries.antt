@@ -7,8 +7,9 @@ use native.Mathlib.Omega.{arith}
 use lib.Ieee.{Float, nan, binary64, sub}
 use lib.ListN.{length, getD, length-map}
 use Rattle.sparse.specs.Columns.{Columns}
-use Rattle.hungarian.specs.Graph.{CostGraph, rowOf, colOf, costOf, entries, start, InColumn, graphOf}
-use Rattle.hungarian.proofs.Columns.{in-column, in-entries, column-is}
+use Rattle.sparse.specs.Pattern.{rowOf, columnOf, entries, start, InColumn}
+use Rattle.hungarian.specs.Graph.{CostGraph, costOf, graphOf}
+use Rattle.sparse.proofs.Columns.{in-column, in-entries, column-is}
 use Rattle.mc64_columns.specs.Columns.{largest, normalised}
 use Rattle.mc64_columns.specs.Graphs.{GraphColumns, rowsOf, logsOf, keptBefore, graphPointers, graphRows, graphCosts}
 use Rattle.mc64_columns.proofs.Accepted.{cost-at}
@@ -29,16 +30,16 @@ module _ (n : ℕ) (g : GraphColumns) (logs : List Float) (w : Columns n (graphP
 
   -- entry e of column c is made of place p
   pub record MadeOf (e c p : ℕ) : Type 0 where
-    pub within : e < entries graph
+    pub within : e < entries (graph .pattern)
     pub inside : c < n
-    pub column : colOf graph e ≡ c
-    pub row : rowOf graph e ≡ g .row c p
+    pub column : columnOf (graph .pattern) e ≡ c
+    pub row : rowOf (graph .pattern) e ≡ g .row c p
     pub cost : costOf graph e ≡ sub binary64 (topOf g logs c) (getD logs p nan)
     pub number : ℕ
     pub stands : number < length (g .places c)
     pub place : getD (g .places c) number 0 ≡ p
 
-  start-is : (c : ℕ) → c ≤ n → start graph c ≡ keptBefore g c
+  start-is : (c : ℕ) → c ≤ n → start (graph .pattern) c ≡ keptBefore g c
   start-is c h = ones-at (keptBefore g) (suc n) c (omega arith)
 
   module _ (c i : ℕ) (h : c < n) (l : i < length (g .places c)) where
@@ -51,10 +52,10 @@ module _ (n : ℕ) (g : GraphColumns) (logs : List Float) (w : Columns n (graphP
     stretch : c + suc (n - suc c) ≡ n
     stretch = omega arith
 
-    in-stretch : InColumn graph c entry
+    in-stretch : InColumn (graph .pattern) c entry
     in-stretch = record { column = h; above = omega (arith, start-is c (omega arith)); below = omega (arith, start-is (suc c) h, kept-next g c) }
 
-    row-is : rowOf graph entry ≡ g .row c place-number
+    row-is : rowOf (graph .pattern) entry ≡ g .row c place-number
     row-is =
         subst (λ (x : ℕ). getD (graphRows g x) entry 0 ≡ getD (rowsOf g c) i 0) stretch (joined-at (rowsOf g) 0 c (n - suc c) i (rw length-map l))
         ∙ row-at g c i l
@@ -74,9 +75,9 @@ module _ (n : ℕ) (g : GraphColumns) (logs : List Float) (w : Columns n (graphP
     pub made-at : (p : ℕ) → getD (g .places c) i 0 ≡ p → MadeOf entry c p
     made-at p e =
         record {
-          within = in-entries graph w c entry in-stretch;
+          within = in-entries (graph .pattern) w c entry in-stretch;
           inside = h;
-          column = column-is graph w c entry in-stretch;
+          column = column-is (graph .pattern) w c entry in-stretch;
           row = row-is ∙ ap (g .row c) e;
           cost = cost-is ∙ ap (λ (k : ℕ). sub binary64 (topOf g logs c) (getD logs k nan)) e;
           number = i;
@@ -85,10 +86,10 @@ module _ (n : ℕ) (g : GraphColumns) (logs : List Float) (w : Columns n (graphP
         }
 
   -- every entry is made of a place
-  pub made : (e : ℕ) → e < entries graph → (p : ℕ) × MadeOf e (colOf graph e) p
+  pub made : (e : ℕ) → e < entries (graph .pattern) → (p : ℕ) × MadeOf e (columnOf (graph .pattern) e) p
   made e h =
-      let c = colOf graph e in
-      let s = in-column graph w e h in
+      let c = columnOf (graph .pattern) e in
+      let s = in-column (graph .pattern) w e h in
       let i = e - keptBefore g c in
       let lo : keptBefore g c ≤ e = omega (arith, s .above, start-is c (omega (arith, s .column))) in
       let l : i < length (g .places c) = omega (arith, s .below, start-is (suc c) (s .column), kept-next g c) in

@@ -2,6 +2,7 @@
 pub mod First
 pub mod Alike
 pub mod Entries
+pub mod Columns
 pub mod Accepted
 pub mod Listed
 pub mod Theorems

@@ -11,7 +11,8 @@ use Rattle.refusal.specs.Listed.{OneOf, checkNumbers}
 use Rattle.slices.specs.Outcome.{Outcome, refusing, asNumber}
 use Rattle.sparse.specs.Validate.{sizeFault}
 use Rattle.sparse.proofs.Accepted.{sizes-accepted}
-use Rattle.hungarian.specs.Graph.{CostGraph, entries}
+use Rattle.sparse.specs.Pattern.{entries}
+use Rattle.hungarian.specs.Graph.{CostGraph}
 use Rattle.hungarian_match.specs.Call.{matchOutcome, matchFault, finished}
 use Rattle.match_check.specs.declared.Verdict.{Verdict}
 use Rattle.match_check.specs.Check.{Claim}
@@ -34,8 +35,8 @@ left-natively g s o = go (eqb (length (o .counts)) 8) (o .number) (o .matched) (
     number-is zero = refl
     number-is (suc f) = refl
 
-    go : (b : Bool) → let t = by (cond b (matchFault g (o .before)) (sizeFault (g .n) maxGeneral (entries g) false)) in
-        t .answer ≡ accepted → getD (t .after .answer) 0 0 ≡ g .n → s ≡ claimLeft (t .after .slices) → native.Ours g s
+    go : (b : Bool) → let t = by (cond b (matchFault g (o .before)) (sizeFault (g .pattern .n) maxGeneral (entries (g .pattern)) false)) in
+        t .answer ≡ accepted → getD (t .after .answer) 0 0 ≡ g .pattern .n → s ≡ claimLeft (t .after .slices) → native.Ours g s
     go true z full left =
         let e : matchResultOf (matchOutcome g (o .before)) (o .counts) ≡ by (matchFault g (o .before)) = match-over g (o .before) (o .counts) in
         record {
@@ -47,7 +48,8 @@ left-natively g s o = go (eqb (length (o .counts)) 8) (o .number) (o .matched) (
           left = left ∙ sym (ap (λ (t : Outcome ℕ Lent). claimLeft (t .after .slices)) e);
         }
     go false z full left = absurd
-        (true≢false (sym (sizes-accepted (g .n) maxGeneral (entries g) false .0 (sym (number-is (sizeFault (g .n) maxGeneral (entries g) false)) ∙ z) .2)))
+        (true≢false (sym (sizes-accepted (g .pattern .n) maxGeneral (entries (g .pattern)) false .0
+        (sym (number-is (sizeFault (g .pattern .n) maxGeneral (entries (g .pattern)) false)) ∙ z) .2)))
 
 -- what is promised of the answer holds of its number
 pub check-number : (g : CostGraph) (s : Claim) {r : Verdict} {number : ℕ} → native.Promises g s r → numberOf r ≡ number → CheckPromises g s number

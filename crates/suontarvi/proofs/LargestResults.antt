@@ -12,7 +12,8 @@ use Rattle.refusal.specs.Listed.{OneOf, largestNumbers}
 use Rattle.slices.specs.Outcome.{Outcome, outcomeIs, refusing, asNumber}
 use Rattle.sparse.specs.Validate.{sizeFault}
 use Rattle.sparse.proofs.Accepted.{sizes-accepted}
-use Rattle.hungarian.specs.Graph.{CostGraph, entries, graphOf}
+use Rattle.sparse.specs.Pattern.{Pattern, entries}
+use Rattle.hungarian.specs.Graph.{CostGraph, withCosts}
 use Rattle.hungarian_match.specs.Call.{matchOutcome, matchFault, finished}
 use Rattle.match_largest.specs.declared.Verdict.{Verdict}
 use Rattle.match_largest.specs.Call.{numberOf, Slices, largestOutcome, Exactly, Shows}
@@ -22,12 +23,12 @@ use Rattle.suontarvi.specs.Largest.{Ours, OursAccepted}
 use Rattle.suontarvi.proofs.MatchResults.{match-over}
 
 -- a result that answers 0 is the native call's
-left-natively : (g : CostGraph) (perm : List ℕ) → Ours g perm → native.Ours g perm
+left-natively : (g : Pattern) (perm : List ℕ) → Ours g perm → native.Ours g perm
 unfolding matchResult resultFault finished
 left-natively g perm o = go (eqb (length (o .counts)) 8) (o .number) (o .left)
   where
     c : CostGraph
-    c = graphOf (g .n) (g .colPtr) (g .rowIdx) (o .cost)
+    c = withCosts g (o .cost)
 
     by : ℕ → Outcome ℕ Lent
     by f = refusing asNumber f (matchResultOf (finished c (o .before)) (o .counts)) (lent (o .before) (o .counts))
@@ -53,13 +54,13 @@ left-natively g perm o = go (eqb (length (o .counts)) 8) (o .number) (o .left)
         absurd (true≢false (sym (sizes-accepted (g .n) maxGeneral (entries g) false .0 (sym (number-is f) ∙ z) .2)))
 
 -- what is promised of a number beside the answer, natively and over C
-abbrev Native : CostGraph → List ℕ → Slices → Slices → ℕ → Type 0
+abbrev Native : Pattern → List ℕ → Slices → Slices → ℕ → Type 0
 Native g perm s after number = OneOf largestNumbers number × (Exactly g perm s number × (Shows g perm number after × native.OursAccepted g perm s number))
 
-abbrev Follows : CostGraph → List ℕ → Slices → Slices → ℕ → Type 0
+abbrev Follows : Pattern → List ℕ → Slices → Slices → ℕ → Type 0
 Follows g perm s after number = OneOf largestNumbers number × (Exactly g perm s number × (Shows g perm number after × OursAccepted g perm s number))
 
-pub largest-number : (g : CostGraph) (perm : List ℕ) (s : Slices) {r : Verdict} {after : Slices} {number : ℕ}
+pub largest-number : (g : Pattern) (perm : List ℕ) (s : Slices) {r : Verdict} {after : Slices} {number : ℕ}
     → (outcomeIs r after ≡ largestOutcome g perm s) × Native g perm s after (numberOf r) → numberOf r ≡ number
     → (number ≡ numberOf (largestOutcome g perm s .answer)) × ((after ≡ largestOutcome g perm s .after) × Follows g perm s after number)
 largest-number g perm s {after = after} {number = number} p e =

@@ -15,7 +15,8 @@ use Rattle.sparse.specs.Validate.{sizeFault}
 use Rattle.sparse.proofs.Accepted.{sizes-accepted}
 use Rattle.sparse.proofs.Listed.{within, part}
 use Rattle.sparse.proofs.Theorems.{sizeNumbers, sizes-listed}
-use Rattle.hungarian.specs.Graph.{CostGraph, entries}
+use Rattle.sparse.specs.Pattern.{entries}
+use Rattle.hungarian.specs.Graph.{CostGraph}
 use Rattle.hungarian.specs.Test.{graphFault}
 use Rattle.hungarian.specs.declared.Counts.{Counts}
 use Rattle.hungarian_match.specs.declared.Answer.{Answer}
@@ -48,13 +49,14 @@ module _ (g : CostGraph) (s : Slices) (old : List ℕ) where
       record { outcome = e; number = p; matching = λ z. absurd (n z); optimal = λ z. absurd (n z); counts = λ z. absurd (n z) }
 
   -- the answer has not eight places
-  module _ (h : length old ≢ 8) {number : ℕ} (e : number ≡ sizeFault (g .n) maxGeneral (entries g) false) where
+  module _ (h : length old ≢ 8) {number : ℕ} (e : number ≡ sizeFault (g .pattern .n) maxGeneral (entries (g .pattern)) false) where
     some-fault : number ≢ 0
-    some-fault z = true≢false (sym (sizes-accepted (g .n) maxGeneral (entries g) false .0 (sym e ∙ z) .2))
+    some-fault z = true≢false (sym (sizes-accepted (g .pattern .n) maxGeneral (entries (g .pattern)) false .0 (sym e ∙ z) .2))
 
     size-number : OneOf graphNumbers number
     unfolding listed within
-    size-number = subst (OneOf graphNumbers) (sym e) (part {l = graphNumbers} sizeNumbers (sizes-listed (g .n) maxGeneral (entries g) false) refl .is)
+    size-number = subst (OneOf graphNumbers) (sym e) (part {l = graphNumbers} sizeNumbers
+        (sizes-listed (g .pattern .n) maxGeneral (entries (g .pattern)) false) refl .is)
 
     pub unfit : MatchPromises g s old (outcomeIs number (lent s old))
     unfolding matchResult resultFault

@@ -19,7 +19,7 @@ pub record Ours (g : CostGraph) (s : Claim) : Type 0 where
   pub before : Slices
   pub counts : List ℕ
   pub number : matchResult g before counts .answer ≡ accepted
-  pub matched : getD (matchResult g before counts .after .answer) 0 0 ≡ g .n
+  pub matched : getD (matchResult g before counts .after .answer) 0 0 ≡ g .pattern .n
   pub left : s ≡ claimLeft (matchResult g before counts .after .slices)
 
 abbrev pub OursAccepted : CostGraph → Claim → ℕ → Type 0

@@ -1,10 +1,12 @@
--- SPECIFICATION 5.18: suontarvi_check_largest: what a host may rely on of its own matches, by what suontarvi_match left.
+-- SPECIFICATION 5.18: suontarvi_check_largest: what a host may rely on of its own matches, by what suontarvi_match
+-- left.
 use mathlib.Core.Path.{_≡_}
 use mathlib.Core.List.{List}
 use Prim.Native.Nat.{ℕ}
 use lib.Ieee.{Float}
 use Rattle.refusal.specs.Refusal.{accepted}
-use Rattle.hungarian.specs.Graph.{CostGraph, graphOf}
+use Rattle.sparse.specs.Pattern.{Pattern}
+use Rattle.hungarian.specs.Graph.{withCosts}
 use Rattle.hungarian.specs.Accepted.{Doubles}
 use Rattle.hungarian_match.specs.Call.{Slices as MatchSlices}
 use Rattle.match_largest.specs.Call.{Slices, Room}
@@ -12,13 +14,13 @@ use Rattle.suontarvi.specs.Match.{matchResult}
 
 -- perm is what a call of `suontarvi_match` left on this pattern with some costs, doubles as whatever a machine holds
 -- is: whatever the slices held before, the call answered 0 and left this perm
-pub record Ours (g : CostGraph) (perm : List ℕ) : Type 0 where
+pub record Ours (g : Pattern) (perm : List ℕ) : Type 0 where
   pub cost : List Float
-  pub doubles : Doubles (graphOf (g .n) (g .colPtr) (g .rowIdx) cost)
+  pub doubles : Doubles (withCosts g cost)
   pub before : MatchSlices
   pub counts : List ℕ
-  pub number : matchResult (graphOf (g .n) (g .colPtr) (g .rowIdx) cost) before counts .answer ≡ accepted
-  pub left : perm ≡ matchResult (graphOf (g .n) (g .colPtr) (g .rowIdx) cost) before counts .after .slices .perm
+  pub number : matchResult (withCosts g cost) before counts .answer ≡ accepted
+  pub left : perm ≡ matchResult (withCosts g cost) before counts .after .slices .perm
 
-abbrev pub OursAccepted : CostGraph → List ℕ → Slices → ℕ → Type 0
+abbrev pub OursAccepted : Pattern → List ℕ → Slices → ℕ → Type 0
 OursAccepted g perm s number = Ours g perm → Room g s → number ≡ accepted

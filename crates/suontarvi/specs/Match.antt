@@ -11,7 +11,8 @@ use Rattle.refusal.specs.Refusal.{accepted}
 use Rattle.refusal.specs.Listed.{OneOf, graphNumbers}
 use Rattle.slices.specs.Outcome.{Outcome, outcomeIs, refusing, asNumber}
 use Rattle.sparse.specs.Validate.{sizeFault}
-use Rattle.hungarian.specs.Graph.{CostGraph, entries}
+use Rattle.sparse.specs.Pattern.{entries}
+use Rattle.hungarian.specs.Graph.{CostGraph}
 use Rattle.hungarian.specs.Counts.{counts}
 use Rattle.hungarian.specs.Match.{Matching}
 use Rattle.hungarian.specs.Optimal.{LargestMatch, Optimal, WholeCosts}
@@ -36,7 +37,8 @@ matchResultOf o old = outcomeIs (numberOf (o .answer)) (lent (o .after) (countsL
 -- the first thing wrong, or 0. A wrong length of the answer is a wrong length: 1 and 2 come before it
 unfoldable pub resultFault : CostGraph → Slices → List ℕ → ℕ
 resultFault g s old =
-    cond (eqb (length old) answerLength) (matchFault g s) (sizeFault (g .n) maxGeneral (entries g) false)
+    cond (eqb (length old) answerLength) (matchFault g s)
+    (sizeFault (g .pattern .n) maxGeneral (entries (g .pattern)) false)
 
 -- what `suontarvi_match` does
 unfoldable pub matchResult : CostGraph → Slices → List ℕ → Outcome ℕ Lent
@@ -58,7 +60,8 @@ matchOfResult s answer =
 
 -- any accepted costs: perm's pairs are entries, and a largest matching, complete where there is a complete one
 abbrev pub ResultMatches : CostGraph → Outcome ℕ Lent → Type 0
-ResultMatches g t = t .answer ≡ accepted → LargestMatch g (matchOfResult (t .after .slices) (t .after .answer))
+ResultMatches g t =
+    t .answer ≡ accepted → LargestMatch (g .pattern) (matchOfResult (t .after .slices) (t .after .answer))
 
 -- demand 3, of what the call leaves: with whole costs also of least total, with duals that show it
 abbrev pub ResultPromised : CostGraph → Outcome ℕ Lent → Type 0

@@ -2,7 +2,8 @@
 // bits of doubles.
 ghost use Rattle.exponents_powers.specs.Power.{exponents};
 ghost use Rattle.exponents.specs.Call.{duals, Promises as ExponentPromises};
-ghost use Rattle.exponents_apply.specs.Apply.{pattern, Promises as ApplyPromises};
+ghost use Rattle.sparse.specs.Pattern.{pattern};
+ghost use Rattle.exponents_apply.specs.Apply.{Promises as ApplyPromises};
 
 // The exponents of rows and columns from a match of whole numbers. Answers 0 or the refusal.
 #[no_mangle]

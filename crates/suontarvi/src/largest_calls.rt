@@ -2,7 +2,7 @@
 use match_largest::Verdict;
 ghost use mathlib.Core.Path.{_≡_};
 ghost use Rattle.refusal.specs.Listed.{OneOf, largestNumbers};
-ghost use Rattle.match_largest.specs.Marks.{pattern};
+ghost use Rattle.sparse.specs.Pattern.{pattern};
 ghost use Rattle.match_largest.specs.Call.{numberOf, slices, largestOutcome, Exactly, Shows};
 ghost use Rattle.suontarvi.specs.Largest.{OursAccepted};
 

@@ -45,7 +45,7 @@ once-read {kind} {n} {entries} (file other m more) e = go (repeated more) refl e
     go false h x = let q : more ≡ entries = cc in (x, subst (λ (es : List Entry). repeated es ≡ false) q h)
 
 -- the text of pairs, by the match
-pairs-text : (g : CostGraph) → graphText Pairs g ≡ pairsText (g .n) (hungarianMatch g .matched) (hungarianMatch g .perm)
+pairs-text : (g : CostGraph) → graphText Pairs g ≡ pairsText (g .pattern .n) (hungarianMatch g .matched) (hungarianMatch g .perm)
 unfolding graphText formText
 pairs-text g = refl
 
@@ -62,29 +62,29 @@ module _ (input : List ℕ) {kind : Kind} {n : ℕ} {entries : List Entry} (e : 
       let o = once-read (readingOf input) e in
       has-text kind (entries-sound input (o .0) (length-replicate {A = ℕ} outputLength 0)) (o .1)
 
-  ranged : LargestMatch g m
+  ranged : LargestMatch (g .pattern) m
   ranged = match-optimal g (reportable .accepted) (reportable .wholeCosts) .ranged
 
-  text-is : answerText Pairs input ≡ pairsText (g .n) (m .matched) (m .perm)
+  text-is : answerText Pairs input ≡ pairsText (g .pattern .n) (m .matched) (m .perm)
   unfolding answerText textOf
   text-is = ap (textOf Pairs) e ∙ pairs-text g
 
-  read : fileOf (answerText Pairs input) ≡ file Pattern (g .n) (pairEntries (g .n) (m .perm))
+  read : fileOf (answerText Pairs input) ≡ file Pattern (g .pattern .n) (pairEntries (g .pattern .n) (m .perm))
   read =
-      ap fileOf (text-is ∙ ap (λ (k : ℕ). pairsText (g .n) k (m .perm)) (sym (ranged-counted (reportable .few) ranged)))
-      ∙ read-again (g .n) (m .perm) (ranged-rows ranged (reportable .few))
+      ap fileOf (text-is ∙ ap (λ (k : ℕ). pairsText (g .pattern .n) k (m .perm)) (sym (ranged-counted (reportable .few) ranged)))
+      ∙ read-again (g .pattern .n) (m .perm) (ranged-rows ranged (reportable .few))
 
   same-text : answerText Pairs (answerText Pairs input) ≡ answerText Pairs input
   unfolding answerText textOf
   same-text =
       ap (textOf Pairs) read
-      ∙ pairs-text (pairGraph (g .n) (m .perm))
-      ∙ ap₂ (λ (k : ℕ) (perm : List ℕ). pairsText (g .n) k perm) (count-again (reportable .few) ranged) (match-again (reportable .few) ranged)
+      ∙ pairs-text (pairGraph (g .pattern .n) (m .perm))
+      ∙ ap₂ (λ (k : ℕ) (perm : List ℕ). pairsText (g .pattern .n) k perm) (count-again (reportable .few) ranged) (match-again (reportable .few) ranged)
       ∙ sym text-is
 
   pub pairs-again : ReadAgain kind n entries (answerText Pairs input)
   pairs-again =
-      let order : g .n ≡ n = order-is kind n (map entryRow entries) (map entryColumn entries) (map entryWeight entries) in
+      let order : g .pattern .n ≡ n = order-is kind n (map entryRow entries) (map entryColumn entries) (map entryWeight entries) in
       record {
         pairs = subst (λ (k : ℕ). fileOf (answerText Pairs input) ≡ file Pattern k (pairEntries k (m .perm))) order read;
         rows = subst (λ (k : ℕ). fileRows Pattern k (pairEntries k (m .perm)) ≡ m .perm) order (match-again (reportable .few) ranged);

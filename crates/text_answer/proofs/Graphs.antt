@@ -61,7 +61,7 @@ module _ {n : ℕ} {rows cols weights output : List ℕ} where
   has-text Pattern f e = costs-text (as-general f) e
 
 -- it has n columns
-pub order-is : (kind : Kind) (n : ℕ) (rows cols weights : List ℕ) → kindGraph kind n rows cols weights .n ≡ n
+pub order-is : (kind : Kind) (n : ℕ) (rows cols weights : List ℕ) → kindGraph kind n rows cols weights .pattern .n ≡ n
 order-is General n rows cols weights = refl
 order-is Symmetric n rows cols weights = refl
 order-is Pattern n rows cols weights = refl

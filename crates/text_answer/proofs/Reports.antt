@@ -21,13 +21,13 @@ use Rattle.text_answer.specs.inner.Steps.{Reportable}
 
 module _ {g : CostGraph} {before after : Slices} {m : Counts} {old : List ℕ} (R : Reportable g old) (S : Solved g before after m) where
   -- u, v and perm as they are lent on are what is left
-  pub rows-printable : {u : List Float} → u ≡ after .u → AllPrintable (g .n) u
+  pub rows-printable : {u : List Float} → u ≡ after .u → AllPrintable (g .pattern .n) u
   rows-printable e k h = rw (e, S .u) (record {
     isWhole = match-optimal g (R .accepted) (R .wholeCosts) .rowsWhole k h;
     small = le-trans (match-small g (R .accepted) (R .wholeCosts) .rows k h) (omega arith);
   })
 
-  pub columns-printable : {v : List Float} → v ≡ after .v → AllPrintable (g .n) v
+  pub columns-printable : {v : List Float} → v ≡ after .v → AllPrintable (g .pattern .n) v
   columns-printable e k h = rw (e, S .v) (record {
     isWhole = match-optimal g (R .accepted) (R .wholeCosts) .columnsWhole k h;
     small = le-trans (match-small g (R .accepted) (R .wholeCosts) .columns k h) (omega arith);
@@ -35,7 +35,7 @@ module _ {g : CostGraph} {before after : Slices} {m : Counts} {old : List ℕ} (
 
   -- the text of what is left
   pub text-is : (form : Form) {perm counts : List ℕ} {u v : List Float} → perm ≡ after .perm → u ≡ after .u → v ≡ after .v → counts ≡ countsOf m
-      → formText form (g .n) perm u v counts ≡ graphText form g
+      → formText form (g .pattern .n) perm u v counts ≡ graphText form g
   unfolding graphText
   text-is form p a b c = rw (p, a, b, c, solved-found S, S .perm, S .u, S .v) refl
 

@@ -25,7 +25,7 @@ use Rattle.text_pairs_read.specs.Pairs.{pairEntries}
 -- the text of a graph's match
 unfoldable pub graphText : Form → CostGraph → List ℕ
 graphText form g =
-    let m = hungarianMatch g in formText form (g .n) (m .perm) (m .u) (m .v) (countsOf (matchCounts m))
+    let m = hungarianMatch g in formText form (g .pattern .n) (m .perm) (m .u) (m .v) (countsOf (matchCounts m))
 
 -- the graph of a file's entries, by its kind: a symmetric file has values, the others costs
 abbrev pub kindGraph : Kind → ℕ → (rows cols weights : List ℕ) → CostGraph

@@ -28,11 +28,11 @@ one-repeat : repeats (0 ∷ 1 ∷ 2 ∷ 1 ∷ []) (2 ∷ 2 ∷ 1 ∷ 2 ∷ []) �
 unfolding repeats
 one-repeat = refl
 
-pointers : sampleGraph .colPtr ≡ 0 ∷ 2 ∷ 5 ∷ 8 ∷ []
+pointers : sampleGraph .pattern .colPtr ≡ 0 ∷ 2 ∷ 5 ∷ 8 ∷ []
 unfolding filled columnRows rowsBefore tabulate
 pointers = refl
 
-rows : sampleGraph .rowIdx ≡ fileRows
+rows : sampleGraph .pattern .rowIdx ≡ fileRows
 unfolding filled columnRows rowsBefore
 rows = refl
 

@@ -15,7 +15,8 @@ use Rattle.sparse.proofs.First.{or-none, all-zero}
 use Rattle.sparse.proofs.Accepted.{sizes-accepted, pointers-accepted, general-columns}
 use Rattle.slices.proofs.Lists.{length-table}
 use Rattle.cost_limit.specs.Range.{inRange}
-use Rattle.hungarian.specs.Graph.{CostGraph, entries}
+use Rattle.sparse.specs.Pattern.{entries}
+use Rattle.hungarian.specs.Graph.{CostGraph}
 use Rattle.hungarian.specs.Test.{graphFault, graphLengths, costFault}
 use Rattle.hungarian.specs.Accepted.{Accepted}
 use Rattle.text_matrix_market.specs.File.{repeats}
@@ -25,16 +26,16 @@ use Rattle.text_graph.proofs.GraphColumns.{graph-columns}
 use Rattle.text_graph.proofs.GraphCosts.{values-length, graph-range}
 
 module _ (n : ℕ) (rows cols costs : List ℕ) where
-  cost-count : length (fileGraph n rows cols costs .cost) ≡ entries (fileGraph n rows cols costs)
+  cost-count : length (fileGraph n rows cols costs .cost) ≡ entries (fileGraph n rows cols costs .pattern)
   cost-count = values-length (fileTriplets rows cols costs) n n
 
   lengths-fit : graphLengths (fileGraph n rows cols costs) ≡ true
   lengths-fit =
-      let p : length (fileGraph n rows cols costs .colPtr) ≡ n + 1 = omega (arith, length-table (suc n) (λ j. length (rowsBefore rows cols n j))) in
+      let p : length (fileGraph n rows cols costs .pattern .colPtr) ≡ n + 1 = omega (arith, length-table (suc n) (λ j. length (rowsBefore rows cols n j))) in
       rw (
-        eq-eqb (length (fileGraph n rows cols costs .colPtr)) (n + 1) p,
+        eq-eqb (length (fileGraph n rows cols costs .pattern .colPtr)) (n + 1) p,
         eq-eqb (length (fileGraph n rows cols costs .cost))
-            (entries (fileGraph n rows cols costs)) cost-count,
+            (entries (fileGraph n rows cols costs .pattern)) cost-count,
       )
 
   pub graph-accepted : n ≤ 64 → length rows ≤ 512 → Inside n rows cols → CostsFit n rows costs → repeats rows cols ≡ false
@@ -43,9 +44,9 @@ module _ (n : ℕ) (rows cols costs : List ℕ) where
   graph-accepted few short inside costsFit once =
       let g : CostGraph = fileGraph n rows cols costs in
       let c = graph-columns n rows cols costs in
-      or-none (sizes-accepted n maxGeneral (entries g) (graphLengths g) .1
+      or-none (sizes-accepted n maxGeneral (entries (g .pattern)) (graphLengths g) .1
       (omega arith, omega (arith, kept-few n (fileTriplets rows cols costs) inside), lengths-fit))
-      ∙ or-none (pointers-accepted n (g .colPtr) (entries g) .1 (c .pointers))
+      ∙ or-none (pointers-accepted n (g .pattern .colPtr) (entries (g .pattern)) .1 (c .pointers))
       ∙ or-none (general-columns (c .pointers) .1 c)
       ∙ all-zero (λ k. unless (inRange n (getD (g .cost) k nan)) costRange) (length (g .cost)) .1
       (λ k h. rw (graph-range n rows cols costs inside costsFit once k (omega (arith, cost-count))))

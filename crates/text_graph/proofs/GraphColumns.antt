@@ -137,10 +137,10 @@ module _ (n : ℕ) (rows cols : List ℕ) where
       let b : suc p < length (columnRows rows cols j n) = omega (arith, pointer-at j (omega arith), pointer-at (suc j) h, next-before j) in
       rw (row-at j p k h (omega arith) e, row-at j (suc p) (suc k) h b (omega arith)) (column-rises rows cols j n p b)
 
-  graph-rises : (costs : List ℕ) (j k : ℕ) → j < n → getD (fileGraph n rows cols costs .colPtr) j 0 ≤ k
-      → suc k < getD (fileGraph n rows cols costs .colPtr) (suc j) 0
-      → getD (fileGraph n rows cols costs .rowIdx) k 0 < getD (fileGraph n rows cols costs .rowIdx) (suc k) 0
+  graph-rises : (costs : List ℕ) (j k : ℕ) → j < n → getD (fileGraph n rows cols costs .pattern .colPtr) j 0 ≤ k
+      → suc k < getD (fileGraph n rows cols costs .pattern .colPtr) (suc j) 0
+      → getD (fileGraph n rows cols costs .pattern .rowIdx) k 0 < getD (fileGraph n rows cols costs .pattern .rowIdx) (suc k) 0
   graph-rises costs = rows-rise
 
-  pub graph-columns : (costs : List ℕ) → Columns n (fileGraph n rows cols costs .colPtr) (fileGraph n rows cols costs .rowIdx)
+  pub graph-columns : (costs : List ℕ) → Columns n (fileGraph n rows cols costs .pattern .colPtr) (fileGraph n rows cols costs .pattern .rowIdx)
   graph-columns costs = record { pointers = graph-pointers; inside = λ k h. row-below k (entry-at k h); rising = graph-rises costs }

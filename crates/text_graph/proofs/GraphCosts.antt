@@ -21,7 +21,8 @@ use Rattle.triplets.proofs.Positions.{none-yet}
 use Rattle.cost_limit.specs.Range.{inRange}
 use Rattle.cost_limit.proofs.Range.{natural-whole, whole-fits}
 use Rattle.triplets.specs.Order.{Below}
-use Rattle.hungarian.specs.Graph.{costOf, entries}
+use Rattle.sparse.specs.Pattern.{entries}
+use Rattle.hungarian.specs.Graph.{costOf}
 use Rattle.hungarian.specs.Optimal.{WholeCosts}
 use Rattle.text_matrix_market.specs.File.{repeats, pairAmong}
 use Rattle.text_graph.specs.Graph.{Inside, CostsFit, costValues, fileGraph}
@@ -153,7 +154,7 @@ module _ (n : ℕ) (rows cols costs : List ℕ) (inside : Inside n rows cols) (c
       rw (map-at (λ c. ofInt binary64 (pos c)) costs k (omega (arith, costsFit .sameLength)))
       (zero-plus n (getD costs k 0) (omega (arith, inside .rowsIn k h)) (costsFit .costsIn k (omega (arith, costsFit .sameLength))))
 
-  graph-costs : (k : ℕ) → k < entries (fileGraph n rows cols costs) → IsCost n (costOf (fileGraph n rows cols costs) k)
+  graph-costs : (k : ℕ) → k < entries (fileGraph n rows cols costs .pattern) → IsCost n (costOf (fileGraph n rows cols costs) k)
   graph-costs k h =
       values-hold (λ x y. IsCost n x) rows cols (costValues costs) (costValues costs) (inside .pairs) once
       (record { amount = 0; low = omega arith; whole = zero-whole }) own-cost n k h
@@ -161,5 +162,5 @@ module _ (n : ℕ) (rows cols costs : List ℕ) (inside : Inside n rows cols) (c
   pub graph-whole : WholeCosts (fileGraph n rows cols costs)
   graph-whole k h = let c = graph-costs k h in (pos (c .amount), c .whole)
 
-  pub graph-range : (k : ℕ) → k < entries (fileGraph n rows cols costs) → inRange n (costOf (fileGraph n rows cols costs) k) ≡ true
+  pub graph-range : (k : ℕ) → k < entries (fileGraph n rows cols costs .pattern) → inRange n (costOf (fileGraph n rows cols costs) k) ≡ true
   graph-range k h = let c = graph-costs k h in whole-fits n (c .amount) (costOf (fileGraph n rows cols costs) k) (c .whole) (c .low)

@@ -14,14 +14,14 @@ use Rattle.matching.specs.Sum.{sumTo, orZero}
 use Rattle.matching.specs.Matching.{size}
 use Rattle.matching.specs.Pairing.{pairedEntries}
 use Rattle.matching.proofs.Sums.{sum-const, sum-parts, sum-under}
-use Rattle.hungarian.specs.Graph.{CostGraph, bipartite, rowOf, colOf, entries}
+use Rattle.sparse.specs.Pattern.{Pattern, bipartite, rowOf, columnOf, entries}
 use Rattle.hungarian.specs.Match.{Matching}
 use Rattle.hungarian.specs.Optimal.{rowFor, matchedEntries, IsEntry, LargestMatch}
 use Rattle.text_pairs_read.specs.Pairs.{Rows}
 use Rattle.text_pairs_match.specs.PairGraph.{RowsOnce, AllMatching}
 
 -- ---- any match
-module _ {g : CostGraph} {m : Matching} (R : LargestMatch g m) where
+module _ {g : Pattern} {m : Matching} (R : LargestMatch g m) where
   -- the entry of a matched column is one of ours
   entry-matched : (j : ℕ) (e : IsEntry g (rowFor m j) j) → T (matchedEntries g m (e .entry))
   unfolding matchedEntries pairedEntries
@@ -33,7 +33,7 @@ module _ {g : CostGraph} {m : Matching} (R : LargestMatch g m) where
       let b : IsEntry g (rowFor m j) j = R .pairs j l (λ z. f (e ∙ z)) in
       let s : a .entry ≡ b .entry = R .matching .rows (a .entry) (b .entry) (a .within) (b .within) (entry-matched i a) (entry-matched j b)
       (a .row ∙ e ∙ sym (b .row)) in
-      sym (a .column) ∙ ap (colOf g) s ∙ b .column
+      sym (a .column) ∙ ap (columnOf g) s ∙ b .column
 
   pub ranged-rows : g .n ≤ 64 → Rows (g .n) (m .perm)
   ranged-rows few = record { few = few; places = R .places; rows = R .rows }
@@ -47,7 +47,7 @@ all-of n S h k l = go (S k) (omega (arith, sum-parts n S (λ i. 1), sum-const n 
     go false z = let y : ⊥ = omega arith in absurd y
 
 -- ---- a graph whose entries are a matching
-module _ {g : CostGraph} {m : Matching} (R : LargestMatch g m) (all : AllMatching g) where
+module _ {g : Pattern} {m : Matching} (R : LargestMatch g m) (all : AllMatching g) where
   all-size : size (bipartite g) (λ k. true) ≡ entries g
   unfolding size
   all-size = sum-const (entries g) 1 ∙ mul-one (entries g)
@@ -65,12 +65,12 @@ module _ {g : CostGraph} {m : Matching} (R : LargestMatch g m) (all : AllMatchin
         mul-one (entries g),
       )
 
-  pub each-matched : (k : ℕ) → k < entries g → rowFor m (colOf g k) ≡ rowOf g k
+  pub each-matched : (k : ℕ) → k < entries g → rowFor m (columnOf g k) ≡ rowOf g k
   unfolding size matchedEntries pairedEntries
-  each-matched k h = eqb→eq (rowFor m (colOf g k)) (rowOf g k) (all-of (entries g) (matchedEntries g m) (omega (arith, all-counted, R .pairCount)) k h)
+  each-matched k h = eqb→eq (rowFor m (columnOf g k)) (rowOf g k) (all-of (entries g) (matchedEntries g m) (omega (arith, all-counted, R .pairCount)) k h)
 
   -- a column without an entry has none
-  pub empty-free : (j : ℕ) → j < g .n → ((k : ℕ) → k < entries g → colOf g k ≢ j) → rowFor m j ≡ none
+  pub empty-free : (j : ℕ) → j < g .n → ((k : ℕ) → k < entries g → columnOf g k ≢ j) → rowFor m j ≡ none
   empty-free j h empty = go (ℕ-discrete (rowFor m j) none)
     where
       go : Dec (rowFor m j ≡ none) → rowFor m j ≡ none

@@ -16,10 +16,10 @@ use Rattle.triplets.specs.Built.{rowsBefore}
 use Rattle.sparse.specs.Columns.{Columns}
 use Rattle.matching.specs.Sum.{orZero}
 use Rattle.matching.proofs.Pairings.{count-most}
-use Rattle.hungarian.specs.Graph.{rowOf, colOf, start, end, entries, InColumn}
+use Rattle.sparse.specs.Pattern.{rowOf, columnOf, start, end, entries, InColumn}
 use Rattle.hungarian.specs.Accepted.{Accepted}
 use Rattle.hungarian.specs.Optimal.{WholeCosts}
-use Rattle.hungarian.proofs.Columns.{in-column}
+use Rattle.sparse.proofs.Columns.{in-column}
 use Rattle.text_matrix_market.specs.File.{entryRow, entryColumn, entryWeight, repeats}
 use Rattle.text_graph.specs.Graph.{Inside, CostsFit, fileTriplets}
 use Rattle.text_graph.proofs.KeptCount.{kept-count}
@@ -64,7 +64,7 @@ module _ (n : ℕ) (perm : List ℕ) (R : Rows n perm) where
       ∙ eq-eqb (length (rowsBefore (rowsTo perm n) (colsTo perm n) n n)) (length (rowsTo perm n)) (ap length (rows-before n perm R n (le-refl n))))
 
   -- column j begins behind the pairs of the columns before it
-  start-at : (j : ℕ) → j ≤ n → start (pairGraph n perm) j ≡ length (pairEntries j perm)
+  start-at : (j : ℕ) → j ≤ n → start (pairGraph n perm .pattern) j ≡ length (pairEntries j perm)
   start-at j h =
       table-at (suc n) (λ c. length (rowsBefore (rowsTo perm n) (colsTo perm n) n c)) j (omega arith)
       ∙ ap length (rows-before n perm R j h) ∙ length-map (pairEntries j perm) entryRow
@@ -78,53 +78,60 @@ module _ (n : ℕ) (perm : List ℕ) (R : Rows n perm) where
   pairs-whole = graph-whole n (rowsTo perm n) (colsTo perm n) weights inside costs-fit once
 
   -- ---- its entries
-  pub entry-count : entries (pairGraph n perm) ≡ length (pairEntries n perm)
+  pub entry-count : entries (pairGraph n perm .pattern) ≡ length (pairEntries n perm)
   entry-count = ap length (rows-before n perm R n (le-refl n)) ∙ length-map (pairEntries n perm) entryRow
 
-  pub columns : Columns n (pairGraph n perm .colPtr) (pairGraph n perm .rowIdx)
+  pub columns : Columns n (pairGraph n perm .pattern .colPtr) (pairGraph n perm .pattern .rowIdx)
   columns = graph-columns n (rowsTo perm n) (colsTo perm n) weights
 
   -- column j's stretch has one place or none
-  stretch : (j : ℕ) → j < n → end (pairGraph n perm) j ≡ start (pairGraph n perm) j + orZero (taken perm j) 1
+  stretch : (j : ℕ) → j < n → end (pairGraph n perm .pattern) j ≡ start (pairGraph n perm .pattern) j + orZero (taken perm j) 1
   stretch j h = start-at (suc j) h ∙ count-more perm j ∙ ap (λ (x : ℕ). x + orZero (taken perm j) 1) (sym (start-at j (omega arith)))
 
   -- an entry of column j is its only one, and the column has a row
-  pub only : (j k : ℕ) → InColumn (pairGraph n perm) j k → (k ≡ start (pairGraph n perm) j) × (taken perm j ≡ true)
+  pub only : (j k : ℕ) → InColumn (pairGraph n perm .pattern) j k → (k ≡ start (pairGraph n perm .pattern) j) × (taken perm j ≡ true)
   only j k c = go (taken perm j) (stretch j (c .column))
     where
-      go : (b : Bool) → end (pairGraph n perm) j ≡ start (pairGraph n perm) j + orZero b 1 → (k ≡ start (pairGraph n perm) j) × (b ≡ true)
+      go : (b : Bool) → end (pairGraph n perm .pattern) j ≡ start (pairGraph n perm .pattern) j + orZero b 1
+          → (k ≡ start (pairGraph n perm .pattern) j) × (b ≡ true)
       go true e = (omega (arith, c .above, c .below), refl)
       go false e = let z : ⊥ = omega (arith, c .above, c .below) in absurd z
 
   -- a column with a row has an entry
-  pub entry-of : (j : ℕ) → j < n → taken perm j ≡ true → InColumn (pairGraph n perm) j (start (pairGraph n perm) j)
-  entry-of j h t = record { column = h; above = le-refl (start (pairGraph n perm) j); below = omega (arith, stretch j h, ap (λ (b : Bool). orZero b 1) t) }
+  pub entry-of : (j : ℕ) → j < n → taken perm j ≡ true → InColumn (pairGraph n perm .pattern) j (start (pairGraph n perm .pattern) j)
+  entry-of j h t = record {
+    column = h;
+    above = le-refl (start (pairGraph n perm .pattern) j);
+    below = omega (arith, stretch j h, ap (λ (b : Bool). orZero b 1) t);
+  }
 
-  first-row : (j : ℕ) → j < n → taken perm j ≡ true → rowOf (pairGraph n perm) (start (pairGraph n perm) j) ≡ getD perm j 0
+  first-row : (j : ℕ) → j < n → taken perm j ≡ true → rowOf (pairGraph n perm .pattern) (start (pairGraph n perm .pattern) j) ≡ getD perm j 0
   first-row j h t =
-      let k : start (pairGraph n perm) j ≡ length (rowsTo perm j) + 0 = omega (arith, start-at j (omega arith), length-map (pairEntries j perm) entryRow) in
+      let k : start (pairGraph n perm .pattern) j ≡ length (rowsTo perm j) + 0 = omega
+      (arith, start-at j (omega arith), length-map (pairEntries j perm) entryRow) in
       let one : 0 < length (keep (taken perm j) (getD perm j 0)) = rw t (omega arith) in
       rw (k, rows-before n perm R n (le-refl n))
       (part-at 0 (λ c. keep (taken perm c) (getD perm c 0)) (rowsTo perm) (fields-more entryRow perm) j 0 n h one ∙ rw t refl)
 
-  pub row-is : (j k : ℕ) → InColumn (pairGraph n perm) j k → rowOf (pairGraph n perm) k ≡ getD perm j 0
+  pub row-is : (j k : ℕ) → InColumn (pairGraph n perm .pattern) j k → rowOf (pairGraph n perm .pattern) k ≡ getD perm j 0
   row-is j k c = let o = only j k c in rw (o .0) (first-row j (c .column) (o .1))
 
   -- ---- a matching
-  pub pairs-matching : RowsOnce n perm → AllMatching (pairGraph n perm)
+  pub pairs-matching : RowsOnce n perm → AllMatching (pairGraph n perm .pattern)
   pairs-matching apart = record {
     rows = λ k l h i s t e.
-        let a = in-column (pairGraph n perm) columns k h in
-        let b = in-column (pairGraph n perm) columns l i in
-        let same = apart (colOf (pairGraph n perm) k) (colOf (pairGraph n perm) l) (a .column) (b .column)
-        (taken-row perm (colOf (pairGraph n perm) k) (only (colOf (pairGraph n perm) k) k a .1))
-        (sym (row-is (colOf (pairGraph n perm) k) k a) ∙ e ∙ row-is (colOf (pairGraph n perm) l) l b) in
+        let a = in-column (pairGraph n perm .pattern) columns k h in
+        let b = in-column (pairGraph n perm .pattern) columns l i in
+        let same = apart (columnOf (pairGraph n perm .pattern) k) (columnOf (pairGraph n perm .pattern) l) (a .column) (b .column)
+        (taken-row perm (columnOf (pairGraph n perm .pattern) k) (only (columnOf (pairGraph n perm .pattern) k) k a .1))
+        (sym (row-is (columnOf (pairGraph n perm .pattern) k) k a) ∙ e ∙ row-is (columnOf (pairGraph n perm .pattern) l) l b) in
         one-column k l h i same;
     cols = λ k l h i s t e. one-column k l h i e;
   }
     where
-      one-column : (k l : ℕ) → k < entries (pairGraph n perm) → l < entries (pairGraph n perm) → colOf (pairGraph n perm) k ≡ colOf (pairGraph n perm) l → k ≡ l
+      one-column : (k l : ℕ) → k < entries (pairGraph n perm .pattern) → l < entries (pairGraph n perm .pattern)
+          → columnOf (pairGraph n perm .pattern) k ≡ columnOf (pairGraph n perm .pattern) l → k ≡ l
       one-column k l h i e =
-          only (colOf (pairGraph n perm) k) k (in-column (pairGraph n perm) columns k h) .0
-          ∙ ap (start (pairGraph n perm)) e
-          ∙ sym (only (colOf (pairGraph n perm) l) l (in-column (pairGraph n perm) columns l i) .0)
+          only (columnOf (pairGraph n perm .pattern) k) k (in-column (pairGraph n perm .pattern) columns k h) .0
+          ∙ ap (start (pairGraph n perm .pattern)) e
+          ∙ sym (only (columnOf (pairGraph n perm .pattern) l) l (in-column (pairGraph n perm .pattern) columns l i) .0)

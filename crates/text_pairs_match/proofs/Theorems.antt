@@ -9,10 +9,10 @@ use lib.Dec.{eqb}
 use lib.ListN.{length, getD}
 use lib.Seq.{ext-getD}
 use Rattle.limits.specs.Limits.{none}
-use Rattle.hungarian.specs.Graph.{CostGraph, start, InColumn}
+use Rattle.sparse.specs.Pattern.{Pattern, start, InColumn}
 use Rattle.hungarian.specs.Match.{Matching, hungarianMatch}
 use Rattle.hungarian.specs.Optimal.{rowFor, LargestMatch}
-use Rattle.hungarian.proofs.Columns.{in-column, in-entries, column-is}
+use Rattle.sparse.proofs.Columns.{in-column, in-entries, column-is}
 use Rattle.hungarian.proofs.Theorems.{match-optimal}
 use Rattle.text_pairs_read.specs.Pairs.{pairEntries, Rows}
 use Rattle.text_pairs_match.specs.PairGraph.{pairGraph, RowsOnce}
@@ -21,7 +21,7 @@ use Rattle.text_pairs_match.proofs.PairLists.{taken, pairs-counted}
 use Rattle.text_pairs_match.proofs.PairEntries.{pairs-accepted, pairs-whole, entry-count, columns, only, entry-of, row-is, pairs-matching}
 
 module _ (n : ℕ) (perm : List ℕ) (R : Rows n perm) (once : RowsOnce n perm) where
-  pub pairs-ranged : LargestMatch (pairGraph n perm) (hungarianMatch (pairGraph n perm))
+  pub pairs-ranged : LargestMatch (pairGraph n perm .pattern) (hungarianMatch (pairGraph n perm))
   pairs-ranged = match-optimal (pairGraph n perm) (pairs-accepted n perm R) (pairs-whole n perm R) .ranged
 
   -- the match has each pair
@@ -33,15 +33,16 @@ module _ (n : ℕ) (perm : List ℕ) (R : Rows n perm) (once : RowsOnce n perm) 
     where
       go : (b : Bool) → taken perm j ≡ b → rowFor (hungarianMatch (pairGraph n perm)) j ≡ getD perm j 0
       go true t =
-          let k : ℕ = start (pairGraph n perm) j in
-          let c : InColumn (pairGraph n perm) j k = entry-of n perm R j h t in
-          ap (rowFor (hungarianMatch (pairGraph n perm))) (sym (column-is (pairGraph n perm) (columns n perm R) j k c))
-          ∙ each-matched pairs-ranged (pairs-matching n perm R once) k (in-entries (pairGraph n perm) (columns n perm R) j k c)
+          let k : ℕ = start (pairGraph n perm .pattern) j in
+          let c : InColumn (pairGraph n perm .pattern) j k = entry-of n perm R j h t in
+          ap (rowFor (hungarianMatch (pairGraph n perm))) (sym (column-is (pairGraph n perm .pattern) (columns n perm R) j k c))
+          ∙ each-matched pairs-ranged (pairs-matching n perm R once) k (in-entries (pairGraph n perm .pattern) (columns n perm R) j k c)
           ∙ row-is n perm R j k c
       go false t =
           empty-free pairs-ranged (pairs-matching n perm R once) j h
           (λ k l e. true≢false (sym
-          (only n perm R j k (subst (λ (i : ℕ). InColumn (pairGraph n perm) i k) e (in-column (pairGraph n perm) (columns n perm R) k l)) .1) ∙ t))
+          (only n perm R j k (subst (λ (i : ℕ). InColumn (pairGraph n perm .pattern) i k) e (in-column (pairGraph n perm .pattern) (columns n perm R) k l)) .1)
+          ∙ t))
           ∙ sym (eqb-true (getD perm j 0) none (not-false (eqb (getD perm j 0) none) t))
 
   -- and no other
@@ -50,7 +51,7 @@ module _ (n : ℕ) (perm : List ℕ) (R : Rows n perm) (once : RowsOnce n perm) 
       (λ j h. same-row j (omega (arith, pairs-ranged .places)))
 
 -- ---- of any match of a graph that a file may have
-module _ {g : CostGraph} {m : Matching} (few : g .n ≤ 64) (R : LargestMatch g m) where
+module _ {g : Pattern} {m : Matching} (few : g .n ≤ 64) (R : LargestMatch g m) where
   -- it has as many pairs as it counts
   pub ranged-counted : length (pairEntries (g .n) (m .perm)) ≡ m .matched
   ranged-counted = pairs-counted (g .n) (m .perm) ∙ sym (R .counted)

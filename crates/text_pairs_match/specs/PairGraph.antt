@@ -7,7 +7,8 @@ use Prim.Native.Nat.{ℕ, _<_}
 use lib.ListN.{getD}
 use Rattle.limits.specs.Limits.{none}
 use Rattle.matching.specs.Matching.{IsMatching}
-use Rattle.hungarian.specs.Graph.{CostGraph, bipartite}
+use Rattle.sparse.specs.Pattern.{Pattern, bipartite}
+use Rattle.hungarian.specs.Graph.{CostGraph}
 use Rattle.text_matrix_market.specs.File.{entryRow, entryColumn, entryWeight}
 use Rattle.text_graph.specs.Graph.{fileGraph}
 use Rattle.text_pairs_read.specs.Pairs.{pairEntries}
@@ -23,5 +24,5 @@ RowsOnce n perm =
     (i j : ℕ) → i < n → j < n → getD perm i 0 ≢ none → getD perm i 0 ≡ getD perm j 0 → i ≡ j
 
 -- all entries of a graph together are a matching
-abbrev pub AllMatching : CostGraph → Type 0
+abbrev pub AllMatching : Pattern → Type 0
 AllMatching g = IsMatching (bipartite g) (λ k. true)

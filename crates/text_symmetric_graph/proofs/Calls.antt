@@ -106,4 +106,4 @@ module _ {n : ℕ} {rows cols : List ℕ} {values : List Float} (S : SymmetricVa
             laid : Matrix → ℕ → GraphSlices
             laid m k =
                 let g = mirroredGraph n m in
-                graphSlices (g .colPtr) (g .rowIdx ++ drop k (s .graphIdx)) (g .cost ++ drop k (s .cost))
+                graphSlices (g .pattern .colPtr) (g .pattern .rowIdx ++ drop k (s .graphIdx)) (g .cost ++ drop k (s .cost))

@@ -16,11 +16,11 @@ use Rattle.text_symmetric_graph.specs.Graph.{symmetricGraph}
 abbrev sample : CostGraph
 sample = symmetricGraph 3 (1 ∷ 2 ∷ 2 ∷ []) (0 ∷ 1 ∷ 0 ∷ []) (8 ∷ 1024 ∷ 3 ∷ [])
 
-pointers : sample .colPtr ≡ 0 ∷ 2 ∷ 4 ∷ 6 ∷ []
+pointers : sample .pattern .colPtr ≡ 0 ∷ 2 ∷ 4 ∷ 6 ∷ []
 unfolding filled sumAt columnRows rowsBefore valuesBefore tabulate joined placesTo atMost ofBits ofInt add sum round units odd climb size span eq
 pointers = refl
 
-rows : sample .rowIdx ≡ 1 ∷ 2 ∷ 0 ∷ 2 ∷ 0 ∷ 1 ∷ []
+rows : sample .pattern .rowIdx ≡ 1 ∷ 2 ∷ 0 ∷ 2 ∷ 0 ∷ 1 ∷ []
 unfolding filled sumAt columnRows rowsBefore valuesBefore tabulate joined placesTo atMost ofBits ofInt add sum round units odd climb size span eq
 rows = refl
 
@@ -30,6 +30,6 @@ unfolding filled sumAt columnRows rowsBefore valuesBefore tabulate joined places
 costs = refl
 
 -- a zero is dropped on both sides of the diagonal
-dropped : symmetricGraph 2 (1 ∷ 1 ∷ []) (0 ∷ 1 ∷ []) (0 ∷ 5 ∷ []) .rowIdx ≡ 1 ∷ []
+dropped : symmetricGraph 2 (1 ∷ 1 ∷ []) (0 ∷ 1 ∷ []) (0 ∷ 5 ∷ []) .pattern .rowIdx ≡ 1 ∷ []
 unfolding filled sumAt columnRows rowsBefore valuesBefore tabulate joined placesTo atMost ofBits ofInt add sum round units odd climb size span eq
 dropped = refl

@@ -50,15 +50,15 @@ pub record Roomy (n : ℕ) (s : MatchBytes) : Type 0 where
 -- slices for the match of a graph and the work, each of its length
 pub record Fitting (g : CostGraph) (s : Slices) : Type 0 where
   pub graph : graphLengths g ≡ true
-  pub perm : length (s .perm) ≡ g .n
-  pub u : length (s .u) ≡ g .n
-  pub v : length (s .v) ≡ g .n
-  pub work : length (s .work) ≡ 12 * g .n + 1
-  pub fwork : length (s .fwork) ≡ 2 * g .n
+  pub perm : length (s .perm) ≡ g .pattern .n
+  pub u : length (s .u) ≡ g .pattern .n
+  pub v : length (s .v) ≡ g .pattern .n
+  pub work : length (s .work) ≡ 12 * g .pattern .n + 1
+  pub fwork : length (s .fwork) ≡ 2 * g .pattern .n
 
 -- a graph within the limits
 pub record Small (g : CostGraph) : Type 0 where
-  pub columns : g .n ≤ byteColumns
+  pub columns : g .pattern .n ≤ byteColumns
   pub lengths : graphLengths g ≡ true
 
 -- bytes of a graph within the limits

@@ -8,8 +8,9 @@ use borrow.Author.Needs.{needs}
 use borrow.Author.Tests.{eqb-true}
 use Rattle.slices.proofs.Bools.{both}
 use Rattle.sparse.proofs.First.{or-none, answer-first, answer-second}
+use Rattle.sparse.specs.Pattern.{Pattern, pattern}
 use Rattle.exponents_powers.specs.Power.{Exponents, exponents}
-use Rattle.exponents_apply.specs.Apply.{Pattern, pattern, lengthsFit, matrixFault, limitFault, valuesFault, applyFault}
+use Rattle.exponents_apply.specs.Apply.{lengthsFit, matrixFault, limitFault, valuesFault, applyFault}
 use Rattle.exponents_apply.specs.inner.Steps.{Tested}
 use Rattle.exponents_apply.proofs.Calling.{tested, refuses, accepts}
 use Rattle.exponents_apply.proofs.apply_exponents.Statement.{statement}

@@ -8,9 +8,10 @@ use lib.ListN.{length, getD}
 use mir.Syntax.{w32}
 use mir.Val.{toZ, ofZ}
 use Rattle.sparse.proofs.Accepted.{pointer-below}
+use Rattle.sparse.specs.Pattern.{pattern}
 use Rattle.exponents_powers.specs.Power.{withinLimit, scaledBits, exponents}
 use Rattle.exponents_powers.proofs.Fields.{read-is}
-use Rattle.exponents_apply.specs.Apply.{exponentAt, columnFault, pattern}
+use Rattle.exponents_apply.specs.Apply.{exponentAt, columnFault}
 use Rattle.exponents_apply.specs.inner.Steps.{Places, Written}
 use Rattle.exponents_apply.proofs.Writing.{scaledAt, none-written, stretch-more, own-place, column-clean}
 use Rattle.exponents_apply.proofs.scale_values.Statement.{statement}

@@ -9,9 +9,10 @@ use mir.Syntax.{w32}
 use mir.Val.{toZ, ofZ}
 use Rattle.sparse.proofs.First.{Passed, from-zero, pass, found, done}
 use Rattle.sparse.proofs.Accepted.{pointer-below}
+use Rattle.sparse.specs.Pattern.{pattern}
 use Rattle.exponents_powers.specs.Power.{withinLimit, exponents}
 use Rattle.exponents_powers.proofs.Fields.{read-is}
-use Rattle.exponents_apply.specs.Apply.{exponentAt, columnFault, valuesFault, pattern}
+use Rattle.exponents_apply.specs.Apply.{exponentAt, columnFault, valuesFault}
 use Rattle.exponents_apply.proofs.values_fault.Statement.{statement}
 use Rattle.exponents_apply.proofs.values_fault.Tie as tie
 

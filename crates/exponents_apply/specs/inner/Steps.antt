@@ -6,8 +6,9 @@ use Prim.Native.Nat.{ℕ, _+_, _≤_, _<_}
 use lib.IntN.{ℤ}
 use lib.ListN.{length, getD}
 use Rattle.sparse.specs.Columns.{Columns}
+use Rattle.sparse.specs.Pattern.{Pattern}
 use Rattle.exponents_powers.specs.Power.{withinLimit, Exponents}
-use Rattle.exponents_apply.specs.Apply.{Pattern, exponentAt}
+use Rattle.exponents_apply.specs.Apply.{exponentAt}
 
 abbrev pub Within : List ℤ → Type 0
 Within l = (i : ℕ) → i < length l → withinLimit (exponentAt l i) ≡ true
@@ -21,8 +22,8 @@ pub record Places (rows : List ℕ) (r : List ℤ) (values : List ℕ) : Type 0 
 -- the matrix and the exponents have passed their tests
 pub record Tested (m : Pattern) (e : Exponents) (values : List ℕ) : Type 0 where
   pub colptrs : length (m .colPtr) ≡ m .n + 1
-  pub columns : Columns (m .n) (m .colPtr) (m .rows)
-  pub places : Places (m .rows) (e .rows) values
+  pub columns : Columns (m .n) (m .colPtr) (m .rowIdx)
+  pub places : Places (m .rowIdx) (e .rows) values
   pub exponents : length (e .columns) ≡ m .n
   pub within : Within (e .columns)
 

@@ -10,7 +10,8 @@ use Rattle.limits.specs.Limits.{none}
 use Rattle.float64.specs.Number.{unitsPerOne, origin}
 use Rattle.float64.specs.inner.Keys.{position}
 use Rattle.matching.specs.Pairing.{Paired, matchedCount}
-use Rattle.hungarian.specs.Graph.{CostGraph, bipartite, rowOf, costOf, entries, InColumn}
+use Rattle.sparse.specs.Pattern.{bipartite, rowOf, entries, InColumn}
+use Rattle.hungarian.specs.Graph.{CostGraph, costOf}
 use Rattle.hungarian.specs.Init.{Pairs}
 use Rattle.hungarian.specs.inner.Bounds.{Small, Cost, dualBound}
 
@@ -23,24 +24,25 @@ dual u i = getD u i nan
 
 -- M: the pairs are a matching, and num counts them
 pub record Matched (g : CostGraph) (s : Pairs) : Type 0 where
-  pub rowCount : length (s .iperm) ≡ g .n
-  pub columnCount : length (s .jperm) ≡ g .n
-  pub paired : Paired (bipartite g) none (at (s .iperm)) (at (s .jperm))
-  pub counted : s .num ≡ matchedCount none (g .n) (at (s .jperm))
+  pub rowCount : length (s .iperm) ≡ g .pattern .n
+  pub columnCount : length (s .jperm) ≡ g .pattern .n
+  pub paired : Paired (bipartite (g .pattern)) none (at (s .iperm)) (at (s .jperm))
+  pub counted : s .num ≡ matchedCount none (g .pattern .n) (at (s .jperm))
 
 -- F and B: duals are bounded, a free row's is still between 0 and the cost limit
 pub record Bounded (Good : Float → Type 0) (C : ℕ) (g : CostGraph) (s : Pairs) (u : List Float) : Type 0 where
-  pub dualCount : length u ≡ g .n
-  pub small : (i : ℕ) → i < g .n → Small Good (dualBound (g .n) C) (dual u i)
-  pub free : (i : ℕ) → i < g .n → at (s .iperm) i ≡ none → Cost Good C (dual u i)
+  pub dualCount : length u ≡ g .pattern .n
+  pub small : (i : ℕ) → i < g .pattern .n → Small Good (dualBound (g .pattern .n) C) (dual u i)
+  pub free : (i : ℕ) → i < g .pattern .n → at (s .iperm) i ≡ none → Cost Good C (dual u i)
 
 -- D: no dual is above a cost in its row, and a matched column's entry is the least of its column by cost minus u
 pub record Tight (g : CostGraph) (s : Pairs) (u : List Float) : Type 0 where
-  pub below : (k : ℕ) → k < entries g → position (dual u (rowOf g k)) ≤ position (costOf g k)
-  pub least : (j k : ℕ) → InColumn g j k → at (s .jperm) j ≢ none
-      → position (costOf g (at (s .jperm) j)) + position (dual u (rowOf g k))
-      ≤ position (costOf g k) + position (dual u (rowOf g (at (s .jperm) j)))
+  pub below : (k : ℕ) → k < entries (g .pattern) → position (dual u (rowOf (g .pattern) k)) ≤ position (costOf g k)
+  pub least : (j k : ℕ) → InColumn (g .pattern) j k → at (s .jperm) j ≢ none
+      → position (costOf g (at (s .jperm) j)) + position (dual u (rowOf (g .pattern) k))
+      ≤ position (costOf g k) + position (dual u (rowOf (g .pattern) (at (s .jperm) j)))
 
 -- where sums are exact: no dual is below minus 2 n - 1 times the cost limit
 pub record Floored (C : ℕ) (g : CostGraph) (u : List Float) : Type 0 where
-  pub low : (i : ℕ) → i < g .n → origin + C * unitsPerOne ≤ position (dual u i) + 2 * (g .n * (C * unitsPerOne))
+  pub low : (i : ℕ) → i < g .pattern .n → origin + C * unitsPerOne
+      ≤ position (dual u i) + 2 * (g .pattern .n * (C * unitsPerOne))

@@ -13,7 +13,8 @@ use Rattle.float64.specs.Number.{origin}
 use Rattle.float64.specs.inner.Keys.{position}
 use Rattle.float64.specs.Constants.{rinf}
 use Rattle.index_heap.specs.inner.Invariant.{Inverse, Within, HeapOrder}
-use Rattle.hungarian.specs.Graph.{CostGraph, rowOf, costOf, InColumn}
+use Rattle.sparse.specs.Pattern.{rowOf, InColumn}
+use Rattle.hungarian.specs.Graph.{CostGraph, costOf}
 use Rattle.hungarian.specs.Init.{Pairs}
 use Rattle.hungarian.specs.Search.{Tree, among}
 use Rattle.hungarian.specs.inner.Bounds.{level, Small, Distance}
@@ -42,28 +43,28 @@ pub record GoodDistance (Good : Float → Type 0) (err b : ℕ) (u : List Float)
 -- how the matched row i was reached: by the entry `out` of the scanned column `pr` of its own column
 pub record Reached (Good : Float → Type 0) (err C : ℕ) (g : CostGraph) (s : Pairs) (u : List Float) (r : ℕ)
     (popped pr out : List ℕ) (d : List Float) (i : ℕ) : Type 0 where
-  pub row : i < g .n
+  pub row : i < g .pattern .n
   pub matched : at (s .iperm) i ≢ none
   pub from : Scanned s r popped (at pr (at (s .iperm) i))
-  pub entry : InColumn g (at pr (at (s .iperm) i)) (at out (at (s .iperm) i))
-  pub to : rowOf g (at out (at (s .iperm) i)) ≡ i
+  pub entry : InColumn (g .pattern) (at pr (at (s .iperm) i)) (at out (at (s .iperm) i))
+  pub to : rowOf (g .pattern) (at out (at (s .iperm) i)) ≡ i
   pub distance : GoodDistance Good err (level C (suc (length popped))) u i (dual d i)
 
 -- the best path so far: the entry isp of the scanned column jsp leads to a free row
 pub record PathEnd (Good : Float → Type 0) (err C : ℕ) (g : CostGraph) (s : Pairs) (u : List Float) (r : ℕ)
     (popped : List ℕ) (csp : Float) (isp jsp : ℕ) : Type 0 where
   pub from : Scanned s r popped jsp
-  pub entry : InColumn g jsp isp
-  pub ends : at (s .iperm) (rowOf g isp) ≡ none
-  pub distance : GoodDistance Good err (level C (suc (length popped))) u (rowOf g isp) csp
+  pub entry : InColumn (g .pattern) jsp isp
+  pub ends : at (s .iperm) (rowOf (g .pattern) isp) ≡ none
+  pub distance : GoodDistance Good err (level C (suc (length popped))) u (rowOf (g .pattern) isp) csp
 
 -- The tree from root r. rank orders the scanned columns: each but the root was reached from one of a lower rank.
 pub record Grown (Good : Float → Type 0) (err C : ℕ) (g : CostGraph) (s : Pairs) (u : List Float) (r : ℕ)
     (rank : ℕ → ℕ) (t : Tree) : Type 0 where
-  pub dCount : length (t .d) ≡ g .n
-  pub prCount : length (t .pr) ≡ g .n
-  pub outCount : length (t .out) ≡ g .n
-  pub heap : Inverse (g .n) (t .heap)
+  pub dCount : length (t .d) ≡ g .pattern .n
+  pub prCount : length (t .pr) ≡ g .pattern .n
+  pub outCount : length (t .out) ≡ g .pattern .n
+  pub heap : Inverse (g .pattern .n) (t .heap)
   pub reached : (i : ℕ) → Among i (t .touched) → Reached Good err C g s u r (t .popped) (t .pr) (t .out) (t .d) i
   pub touchedOnce : Distinct (t .touched)
   pub poppedOnce : Distinct (t .popped)
@@ -71,8 +72,8 @@ pub record Grown (Good : Float → Type 0) (err C : ℕ) (g : CostGraph) (s : Pa
   pub heapTouched : (i : ℕ) → Within (t .heap) i → Among i (t .touched)
   pub heapOpen : (i : ℕ) → Within (t .heap) i → Among i (t .popped) → ⊥
   pub touchedIn : (i : ℕ) → Among i (t .touched) → Among i (t .popped) ⊎ Within (t .heap) i
-  pub far : (i : ℕ) → i < g .n → (Among i (t .touched) → ⊥) → dual (t .d) i ≡ rinf
-  pub peakMost : t .peak ≤ g .n
+  pub far : (i : ℕ) → i < g .pattern .n → (Among i (t .touched) → ⊥) → dual (t .d) i ≡ rinf
+  pub peakMost : t .peak ≤ g .pattern .n
   pub rootAlone : at (t .pr) r ≡ none
   pub rankRoot : rank r ≡ 0
   pub rankLower : (q : ℕ) → Among q (t .popped) → rank (at (t .pr) (at (s .iperm) q)) < rank (at (s .iperm) q)
@@ -81,7 +82,7 @@ pub record Grown (Good : Float → Type 0) (err C : ℕ) (g : CostGraph) (s : Pa
 
 -- a path was found, or the row of entry k was touched
 abbrev pub Covered : CostGraph → Tree → ℕ → Type 0
-Covered g t k = (lt (t .csp) rinf ≡ true) ⊎ Among (rowOf g k) (t .touched)
+Covered g t k = (lt (t .csp) rinf ≡ true) ⊎ Among (rowOf (g .pattern) k) (t .touched)
 
 -- ---- where sums are exact
 -- the position of row i's distance and dual, and of entry k's cost
@@ -96,10 +97,11 @@ cost-of g k = position (costOf g k)
 
 -- no way through entry k of a column at the offset v is shorter than what is known
 pub record Near (g : CostGraph) (s : Pairs) (u : List Float) (t : Tree) (v k : ℕ) : Type 0 where
-  pub free : at (s .iperm) (rowOf g k) ≡ none → position (t .csp) + dual-of u (rowOf g k) ≤ v + cost-of g k
-  pub matched : at (s .iperm) (rowOf g k) ≢ none
-      → (far-of t (rowOf g k) + dual-of u (rowOf g k) ≤ v + cost-of g k)
-      ⊎ (position (t .csp) + dual-of u (rowOf g k) ≤ v + cost-of g k)
+  pub free : at (s .iperm) (rowOf (g .pattern) k) ≡ none → position (t .csp) + dual-of u (rowOf (g .pattern) k) ≤ v
+      + cost-of g k
+  pub matched : at (s .iperm) (rowOf (g .pattern) k) ≢ none
+      → (far-of t (rowOf (g .pattern) k) + dual-of u (rowOf (g .pattern) k) ≤ v + cost-of g k)
+      ⊎ (position (t .csp) + dual-of u (rowOf (g .pattern) k) ≤ v + cost-of g k)
 
 -- offsets v of the scanned columns; all popped distances are at most `top`, all others and the best path's cost at
 -- least
@@ -112,7 +114,8 @@ pub record Order (g : CostGraph) (s : Pairs) (u : List Float) (r : ℕ) (t : Tre
   pub poppedNear : (q : ℕ) → Among q (t .popped) → far-of t q ≤ top
   pub heapFar : (i : ℕ) → Within (t .heap) i → top ≤ far-of t i
   pub pathFar : top ≤ position (t .csp)
-  pub pathExact : (t .csp ≡ rinf) ⊎ (position (t .csp) + dual-of u (rowOf g (t .isp)) ≡ v (t .jsp) + cost-of g (t .isp))
+  pub pathExact : (t .csp ≡ rinf) ⊎ (position (t .csp) + dual-of u (rowOf (g .pattern) (t .isp)) ≡ v (t .jsp)
+      + cost-of g (t .isp))
   pub heapOrder : HeapOrder (t .d) (t .heap)
 
 -- sums are exact, and the duals tight: what the order of a search needs
@@ -122,7 +125,7 @@ Exact err g s u = (err ≡ 0) × Tight g s u
 -- ---- while a column is scanned
 -- entry k of a scanned column was examined: all of them, but of column `now` only those before `upto`
 abbrev pub Examined : CostGraph → Pairs → ℕ → Tree → ℕ → ℕ → ℕ → ℕ → Type 0
-Examined g s r t now upto j k = Scanned s r (t .popped) j × InColumn g j k × (j ≡ now → k < upto)
+Examined g s r t now upto j k = Scanned s r (t .popped) j × InColumn (g .pattern) j k × (j ≡ now → k < upto)
 
 -- The tree while column `now` is scanned, up to the entry `upto`. The offsets v and `top` are of use where sums are
 -- exact.

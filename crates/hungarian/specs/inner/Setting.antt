@@ -10,18 +10,19 @@ use Rattle.float64.specs.inner.Keys.{position}
 use Rattle.float64.specs.inner.Arithmetic.{Arithmetic, wholeLimit}
 use Rattle.float64.specs.Constants.{zero as fzero}
 use Rattle.sparse.specs.Columns.{Columns}
-use Rattle.hungarian.specs.Graph.{CostGraph, costOf, entries}
+use Rattle.sparse.specs.Pattern.{entries}
+use Rattle.hungarian.specs.Graph.{CostGraph, costOf}
 
 pub record Setting (Good : Float → Type 0) (err C : ℕ) (g : CostGraph) : Type 0 where
   pub laws : Arithmetic Good (wholeLimit * unitsPerOne) err
   pub fine : err ≤ unitsPerOne
   pub zeroGood : Good fzero
-  pub columns : Columns (g .n) (g .colPtr) (g .rowIdx)
-  pub pointerCount : length (g .colPtr) ≡ suc (g .n)
-  pub costCount : length (g .cost) ≡ entries g
-  pub fewColumns : g .n ≤ maxColumns
-  pub fewEntries : entries g ≤ maxGeneral
-  pub product : g .n * C ≤ 2 ^ 48 + g .n
-  pub good : (k : ℕ) → k < entries g → Good (costOf g k)
-  pub low : (k : ℕ) → k < entries g → origin ≤ position (costOf g k)
-  pub high : (k : ℕ) → k < entries g → position (costOf g k) < origin + C * unitsPerOne
+  pub columns : Columns (g .pattern .n) (g .pattern .colPtr) (g .pattern .rowIdx)
+  pub pointerCount : length (g .pattern .colPtr) ≡ suc (g .pattern .n)
+  pub costCount : length (g .cost) ≡ entries (g .pattern)
+  pub fewColumns : g .pattern .n ≤ maxColumns
+  pub fewEntries : entries (g .pattern) ≤ maxGeneral
+  pub product : g .pattern .n * C ≤ 2 ^ 48 + g .pattern .n
+  pub good : (k : ℕ) → k < entries (g .pattern) → Good (costOf g k)
+  pub low : (k : ℕ) → k < entries (g .pattern) → origin ≤ position (costOf g k)
+  pub high : (k : ℕ) → k < entries (g .pattern) → position (costOf g k) < origin + C * unitsPerOne

@@ -4,7 +4,8 @@ use mathlib.Core.List.{List}
 use Prim.Native.Nat.{ℕ, _+_, _≤_, _<_}
 use lib.ListN.{set}
 use lib.Ieee.{Float}
-use Rattle.hungarian.specs.Graph.{CostGraph, start, end}
+use Rattle.sparse.specs.Pattern.{start, end}
+use Rattle.hungarian.specs.Graph.{CostGraph}
 use Rattle.hungarian.specs.Init as definition
 use Rattle.hungarian.specs.inner.Layout.{region, ipermAt, jpermAt, fromAt}
 use Rattle.hungarian_best.specs.declared.Best.{Best}
@@ -15,9 +16,9 @@ bestView b = record { value = b .value; row = b .row; place = b .place }
 
 pub record BestEntry (g : CostGraph) (u : List Float) (iperm : List ℕ) (j : ℕ) (b : Best) : Type 0 where
   pub tie : bestView b ≡ definition.bestOf g u iperm j
-  pub above : start g j ≤ b .place
-  pub below : b .place < end g j
-  pub row : b .row < g .n
+  pub above : start (g .pattern) j ≤ b .place
+  pub below : b .place < end (g .pattern) j
+  pub row : b .row < g .pattern .n
 
 -- row i and column j are paired by entry k, and j is searched from the next place on
 pub record Linked (n : ℕ) (w : List ℕ) (i j k : ℕ) (w' : List ℕ) : Type 0 where

@@ -7,7 +7,8 @@ use lib.ListN.{length, getD}
 use lib.Ieee.{Float}
 use Rattle.limits.specs.Limits.{none, maxColumns, maxGeneral}
 use Rattle.sparse.specs.Columns.{Columns}
-use Rattle.hungarian.specs.Graph.{CostGraph, entries}
+use Rattle.sparse.specs.Pattern.{entries}
+use Rattle.hungarian.specs.Graph.{CostGraph}
 use Rattle.hungarian.specs.Init.{RowMinima, Pairs}
 use Rattle.hungarian.specs.inner.Layout.{region, ipermAt, jpermAt, leastAt}
 
@@ -19,17 +20,17 @@ pairsCounted n w num = record { iperm = region ipermAt n w; jperm = region jperm
 
 -- what the graph test shows, as far as indices go
 pub record Sound (g : CostGraph) : Type 0 where
-  pub columns : Columns (g .n) (g .colPtr) (g .rowIdx)
-  pub pointerCount : length (g .colPtr) ≡ suc (g .n)
-  pub costCount : length (g .cost) ≡ entries g
-  pub fewColumns : g .n ≤ maxColumns
-  pub fewEntries : entries g ≤ maxGeneral
+  pub columns : Columns (g .pattern .n) (g .pattern .colPtr) (g .pattern .rowIdx)
+  pub pointerCount : length (g .pattern .colPtr) ≡ suc (g .pattern .n)
+  pub costCount : length (g .cost) ≡ entries (g .pattern)
+  pub fewColumns : g .pattern .n ≤ maxColumns
+  pub fewEntries : entries (g .pattern) ≤ maxGeneral
 
 -- a graph, its duals and the work slice
 pub record Ready (g : CostGraph) (u : List Float) (w : List ℕ) : Type 0 where
   pub sound : Sound g
-  pub duals : length u ≡ g .n
-  pub words : length w ≡ 12 * g .n + 1
+  pub duals : length u ≡ g .pattern .n
+  pub words : length w ≡ 12 * g .pattern .n + 1
 
 -- each row has a column or none
 abbrev pub Columned : ℕ → List ℕ → Type 0

@@ -7,7 +7,8 @@ use lib.Ieee.{Float}
 use Rattle.limits.specs.Limits.{none}
 use Rattle.float64.specs.Constants.{rinf}
 use Rattle.hungarian.specs.Loop.{each}
-use Rattle.hungarian.specs.Graph.{CostGraph, start, end, graphOf}
+use Rattle.sparse.specs.Pattern.{start, end}
+use Rattle.hungarian.specs.Graph.{CostGraph, graphOf}
 use Rattle.hungarian.specs.Init.{lower, claim, phase1}
 use Rattle.hungarian.specs.Init as definition
 use Rattle.hungarian.specs.inner.Layout.{Workspace, region, ipermAt, jpermAt, leastAt}
@@ -20,12 +21,13 @@ pub record Cleared (n : ℕ) (u : List Float) (w : List ℕ) : Type 0 where
 
 -- column j has been looked at
 pub record Lowered (g : CostGraph) (j : ℕ) (u : List Float) (w : List ℕ) (u' : List Float) (w' : List ℕ) : Type 0 where
-  pub minima : minimaOf (g .n) u' w' ≡ each (start g j) (end g j) (lower g j) (minimaOf (g .n) u w)
-  pub entries : region jpermAt (g .n) w' ≡ region jpermAt (g .n) w
+  pub minima : minimaOf (g .pattern .n) u' w' ≡ each (start (g .pattern) j) (end (g .pattern) j) (lower g j)
+      (minimaOf (g .pattern .n) u w)
+  pub entries : region jpermAt (g .pattern .n) w' ≡ region jpermAt (g .pattern .n) w
 
 pub record Minimal (g : CostGraph) (u : List Float) (w : List ℕ) : Type 0 where
-  pub minima : minimaOf (g .n) u w ≡ phase1 g
-  pub entries : region jpermAt (g .n) w ≡ replicate (g .n) none
+  pub minima : minimaOf (g .pattern .n) u w ≡ phase1 g
+  pub entries : region jpermAt (g .pattern .n) w ≡ replicate (g .pattern .n) none
 
 -- what a claim asks: pointers that rise, and columns in range
 pub record Claimable (n : ℕ) (colPtr w : List ℕ) : Type 0 where

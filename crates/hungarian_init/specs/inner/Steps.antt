@@ -35,8 +35,8 @@ pub record Prepared (n : ℕ) (colPtr w w' : List ℕ) (fw' : List Float) : Type
 abbrev pub claims : CostGraph → Improving
 claims g = record {
   pairs = phase2 g (phase1 g);
-  least = replicate (g .n) fzero;
-  from = take (g .n) (g .colPtr);
+  least = replicate (g .pattern .n) fzero;
+  from = take (g .pattern .n) (g .pattern .colPtr);
   stats = noCounts;
 }
 
@@ -46,13 +46,13 @@ improved g = phase3 g (phase1 g .u) (phase2 g (phase1 g)) noCounts
 pub record Improvable (g : CostGraph) (u : List Float) (w : List ℕ) (fw : List Float) (num : ℕ)
     (stats : HungarianStats) : Type 0 where
   pub sound : Sound g
-  pub words : length w ≡ 12 * g .n + 1
-  pub values : length fw ≡ 2 * g .n
-  pub dualCount : length u ≡ g .n
+  pub words : length w ≡ 12 * g .pattern .n + 1
+  pub values : length fw ≡ 2 * g .pattern .n
+  pub dualCount : length u ≡ g .pattern .n
   pub duals : u ≡ phase1 g .u
-  pub columned : Columned (g .n) (region ipermAt (g .n) w)
-  pub few : num ≤ g .n
-  pub state : improvingOf (g .n) w fw num stats ≡ claims g
+  pub columned : Columned (g .pattern .n) (region ipermAt (g .pattern .n) w)
+  pub few : num ≤ g .pattern .n
+  pub state : improvingOf (g .pattern .n) w fw num stats ≡ claims g
 
 -- ---- the whole start
 pub record Startable (n : ℕ) (colPtr rows : List ℕ) (cost u : List Float) (w : List ℕ) (fw : List Float) : Type 0 where
@@ -62,8 +62,8 @@ pub record Startable (n : ℕ) (colPtr rows : List ℕ) (cost u : List Float) (w
   pub values : length fw ≡ 2 * n
 
 pub record Begun (g : CostGraph) (u : List Float) (w : List ℕ) (r : Counts) : Type 0 where
-  pub iperm : region ipermAt (g .n) w ≡ initial g .pairs .iperm
-  pub jperm : region jpermAt (g .n) w ≡ initial g .pairs .jperm
+  pub iperm : region ipermAt (g .pattern .n) w ≡ initial g .pairs .iperm
+  pub jperm : region jpermAt (g .pattern .n) w ≡ initial g .pairs .jperm
   pub duals : u ≡ emptyRowsZeroed (phase1 g .u)
   pub num : r .matched ≡ initial g .pairs .num
   pub stats : r .stats ≡ initial g .stats

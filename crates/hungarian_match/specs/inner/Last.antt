@@ -11,15 +11,15 @@ use Rattle.hungarian.specs.Match.{emptyRowsZeroed, initial, searched}
 
 unfoldable pub lastPairs : CostGraph → Pairs
 lastPairs g =
-    cond (eqb (initial g .pairs .num) (g .n)) (initial g .pairs)
+    cond (eqb (initial g .pairs .num) (g .pattern .n)) (initial g .pairs)
     (searched g (emptyRowsZeroed (phase1 g .u)) (initial g) .pairs)
 
 unfoldable pub lastDuals : CostGraph → List Float
 lastDuals g =
-    cond (eqb (initial g .pairs .num) (g .n)) (emptyRowsZeroed (phase1 g .u))
+    cond (eqb (initial g .pairs .num) (g .pattern .n)) (emptyRowsZeroed (phase1 g .u))
     (searched g (emptyRowsZeroed (phase1 g .u)) (initial g) .u)
 
 unfoldable pub lastCounts : CostGraph → HungarianStats
 lastCounts g =
-    cond (eqb (initial g .pairs .num) (g .n)) (initial g .stats)
+    cond (eqb (initial g .pairs .num) (g .pattern .n)) (initial g .stats)
     (searched g (emptyRowsZeroed (phase1 g .u)) (initial g) .stats)

@@ -15,8 +15,8 @@ use Rattle.hungarian_match.specs.Call.{Slices}
 
 -- the pairs, the row duals and the counts are the last ones
 pub record PairedUp (g : CostGraph) (u : List Float) (w : List ℕ) (m : Counts) : Type 0 where
-  pub iperm : region ipermAt (g .n) w ≡ lastPairs g .iperm
-  pub jperm : region jpermAt (g .n) w ≡ lastPairs g .jperm
+  pub iperm : region ipermAt (g .pattern .n) w ≡ lastPairs g .iperm
+  pub jperm : region jpermAt (g .pattern .n) w ≡ lastPairs g .jperm
   pub duals : u ≡ lastDuals g
   pub matched : m .matched ≡ lastPairs g .num
   pub stats : m .stats ≡ lastCounts g
@@ -24,11 +24,11 @@ pub record PairedUp (g : CostGraph) (u : List Float) (w : List ℕ) (m : Counts)
 -- an accepted graph, and slices of their lengths
 pub record Solvable (g : CostGraph) (s : Slices) : Type 0 where
   pub accepted : Accepted g
-  pub perms : length (s .perm) ≡ g .n
-  pub rowDuals : length (s .u) ≡ g .n
-  pub columnDuals : length (s .v) ≡ g .n
-  pub words : length (s .work) ≡ 12 * g .n + 1
-  pub values : length (s .fwork) ≡ 2 * g .n
+  pub perms : length (s .perm) ≡ g .pattern .n
+  pub rowDuals : length (s .u) ≡ g .pattern .n
+  pub columnDuals : length (s .v) ≡ g .pattern .n
+  pub words : length (s .work) ≡ 12 * g .pattern .n + 1
+  pub values : length (s .fwork) ≡ 2 * g .pattern .n
 
 -- the match of the graph is left, and its counts are answered; the work is zero
 pub record Solved (g : CostGraph) (before after : Slices) (m : Counts) : Type 0 where

@@ -14,7 +14,8 @@ use Rattle.index_heap.specs.inner.Invariant.{Inverse}
 use Rattle.index_heap.specs.inner.Slices.{Keyed}
 use Rattle.hungarian.specs.declared.HungarianStats.{HungarianStats}
 use Rattle.hungarian.specs.Counts.{larger}
-use Rattle.hungarian.specs.Graph.{CostGraph, rowOf}
+use Rattle.sparse.specs.Pattern.{rowOf}
+use Rattle.hungarian.specs.Graph.{CostGraph}
 use Rattle.hungarian.specs.inner.Layout.{Workspace, region, ipermAt, touchedAt, poppedAt, heapAt}
 use Rattle.hungarian.specs.Search.{among, relax, edge}
 use Rattle.hungarian_path.specs.declared.Frontier.{Frontier}
@@ -67,7 +68,7 @@ pub record RelaxReady (n : ℕ) (w pos : List ℕ) (keys d : List Float) (fronti
 
 pub record Relaxes (n : ℕ) (w w' pos pos' : List ℕ) (keys' d d' : List Float) (frontier r : Frontier) (i : ℕ)
     (x : Float) (j k : ℕ) : Type 0 where
-  pub tree : (g : CostGraph) (stats : HungarianStats) → rowOf g k ≡ i → treeOf n w' pos' d' r stats
+  pub tree : (g : CostGraph) (stats : HungarianStats) → rowOf (g .pattern) k ≡ i → treeOf n w' pos' d' r stats
       ≡ relax g (region ipermAt n w) x j k (treeOf n w pos d frontier stats)
   pub same : Same n w w' pos pos'
   pub counts : Kept n frontier r
@@ -97,7 +98,7 @@ pub record EdgeReady (n : ℕ) (w pos : List ℕ) (keys d : List Float) (frontie
 
 pub record Passes (n : ℕ) (w w' pos pos' : List ℕ) (keys' d d' : List Float) (frontier r : Frontier) (i : ℕ) (x : Float)
     (j k : ℕ) : Type 0 where
-  pub tree : (g : CostGraph) (stats : HungarianStats) → rowOf g k ≡ i → treeOf n w' pos' d' r stats
+  pub tree : (g : CostGraph) (stats : HungarianStats) → rowOf (g .pattern) k ≡ i → treeOf n w' pos' d' r stats
       ≡ edge g (region ipermAt n w) x j k (treeOf n w pos d frontier stats)
   pub same : Same n w w' pos pos'
   pub counts : Kept n frontier r

@@ -28,11 +28,12 @@ pub record WalkReady (n : ℕ) (rows w : List ℕ) (j : ℕ) : Type 0 where
       ⊎ (Scanned s r popped (getD w (prAt * n + c) 0) × (getD w (outAt * n + c) 0 < length rows))
 
 pub record Walks (n : ℕ) (rows w w' : List ℕ) (j most : ℕ) : Type 0 where
-  pub pairs : (g : CostGraph) (t : Tree) (num : ℕ) → g .rowIdx ≡ rows → t .pr ≡ region prAt n w → t .out
+  pub pairs : (g : CostGraph) (t : Tree) (num : ℕ) → g .pattern .rowIdx ≡ rows → t .pr ≡ region prAt n w → t .out
       ≡ region outAt n w → pairsAt n w' num ≡ walk g t most j (pairsAt n w num)
   pub rest : drop (2 * n) w' ≡ drop (2 * n) w
 
 pub record Flips (n : ℕ) (rows w w' : List ℕ) (k j num : ℕ) : Type 0 where
-  pub pairs : (g : CostGraph) (t : Tree) → g .rowIdx ≡ rows → t .pr ≡ region prAt n w → t .out ≡ region outAt n w
+  pub pairs : (g : CostGraph) (t : Tree) → g .pattern .rowIdx ≡ rows → t .pr ≡ region prAt n w
+      → t .out ≡ region outAt n w
       → pairsAt n w' (num + 1) ≡ flip g t k j (pairsAt n w num)
   pub rest : drop (2 * n) w' ≡ drop (2 * n) w

@@ -13,7 +13,8 @@ use Rattle.index_heap.specs.IndexHeap.{rowAt, pop}
 use Rattle.index_heap.specs.inner.Invariant.{Inverse}
 use Rattle.index_heap.specs.inner.Slices.{Keyed}
 use Rattle.hungarian.specs.declared.HungarianStats.{HungarianStats}
-use Rattle.hungarian.specs.Graph.{CostGraph, rowOf, end, InColumn}
+use Rattle.sparse.specs.Pattern.{rowOf, end, InColumn}
+use Rattle.hungarian.specs.Graph.{CostGraph}
 use Rattle.hungarian.specs.inner.Layout.{Workspace, region, ipermAt, jpermAt, heapAt}
 use Rattle.hungarian.specs.Search.{Tree, extend, grow}
 use Rattle.cost_limit.specs.Range.{costLimit}
@@ -38,33 +39,33 @@ pub record Sized (n : ℕ) (w pos : List ℕ) (keys : List Float) (frontier : Fr
 -- theory's root and order of the scanned columns
 pub record ScanReady (g : CostGraph) (u : List Float) (w pos : List ℕ) (keys d : List Float) (frontier : Frontier)
     (root : Bool) (v : Float) (j : ℕ) : Type 0 where
-  pub setting : Setting Number unitsPerOne (costLimit (g .n)) g
-  pub duals : length u ≡ g .n
-  pub sized : Sized (g .n) w pos keys frontier
-  pub keyed : Keyed d (frontier .len) 0 (drop (heapAt * g .n) w) keys
+  pub setting : Setting Number unitsPerOne (costLimit (g .pattern .n)) g
+  pub duals : length u ≡ g .pattern .n
+  pub sized : Sized (g .pattern .n) w pos keys frontier
+  pub keyed : Keyed d (frontier .len) 0 (drop (heapAt * g .pattern .n) w) keys
   pub stats : HungarianStats
-  pub flagged : Flagged (g .n) pos (treeOf (g .n) w pos d frontier stats .popped)
-  pub matched : Matched g (pairsOf (g .n) w)
+  pub flagged : Flagged (g .pattern .n) pos (treeOf (g .pattern .n) w pos d frontier stats .popped)
+  pub matched : Matched g (pairsOf (g .pattern .n) w)
   pub r : ℕ
-  pub free : at (region jpermAt (g .n) w) r ≡ none
+  pub free : at (region jpermAt (g .pattern .n) w) r ≡ none
   pub rank : ℕ → ℕ
-  pub grown : Grown Number unitsPerOne (costLimit (g .n)) g (pairsOf (g .n) w) u r rank
-      (treeOf (g .n) w pos d frontier stats)
-  pub column : j < g .n
-  pub scanned : Scanned (pairsOf (g .n) w) r (treeOf (g .n) w pos d frontier stats .popped) j
-  pub distance : (k : ℕ) → InColumn g j k
-      → GoodDistance Number unitsPerOne (level (costLimit (g .n)) (suc
-      (length (treeOf (g .n) w pos d frontier stats .popped)))) u
-      (rowOf g k)
+  pub grown : Grown Number unitsPerOne (costLimit (g .pattern .n)) g (pairsOf (g .pattern .n) w) u r rank
+      (treeOf (g .pattern .n) w pos d frontier stats)
+  pub column : j < g .pattern .n
+  pub scanned : Scanned (pairsOf (g .pattern .n) w) r (treeOf (g .pattern .n) w pos d frontier stats .popped) j
+  pub distance : (k : ℕ) → InColumn (g .pattern) j k
+      → GoodDistance Number unitsPerOne (level (costLimit (g .pattern .n)) (suc
+      (length (treeOf (g .pattern .n) w pos d frontier stats .popped)))) u
+      (rowOf (g .pattern) k)
       (distanceBy root v g u k)
 
 pub record Scans (g : CostGraph) (u : List Float) (w w' pos pos' : List ℕ) (keys' d d' : List Float)
     (frontier r : Frontier) (root : Bool) (v : Float) (j : ℕ) : Type 0 where
-  pub tree : (stats : HungarianStats) → treeOf (g .n) w' pos' d' r stats
-      ≡ scanBy root v g (region ipermAt (g .n) w) u j (treeOf (g .n) w pos d frontier stats)
-  pub same : Same (g .n) w w' pos pos'
-  pub counts : Kept (g .n) frontier r
-  pub keyed : Keyed d' (r .len) 0 (drop (heapAt * g .n) w') keys'
+  pub tree : (stats : HungarianStats) → treeOf (g .pattern .n) w' pos' d' r stats
+      ≡ scanBy root v g (region ipermAt (g .pattern .n) w) u j (treeOf (g .pattern .n) w pos d frontier stats)
+  pub same : Same (g .pattern .n) w w' pos pos'
+  pub counts : Kept (g .pattern .n) frontier r
+  pub keyed : Keyed d' (r .len) 0 (drop (heapAt * g .pattern .n) w') keys'
 
 -- ---- the nearest row is popped
 -- the tree once its nearest row has left the heap
@@ -114,23 +115,24 @@ hasNearerRow len csp top = not (eqb len 0 || le csp top)
 -- all columns that were reached are scanned. r, rank, offset, top and now are the theory's
 pub record Growing (g : CostGraph) (u : List Float) (w pos : List ℕ) (keys d : List Float) (frontier : Frontier)
     (stats : HungarianStats) : Type 0 where
-  pub setting : Setting Number unitsPerOne (costLimit (g .n)) g
-  pub sized : Sized (g .n) w pos keys frontier
-  pub keyed : Keyed d (frontier .len) 0 (drop (heapAt * g .n) w) keys
-  pub flagged : Flagged (g .n) pos (treeOf (g .n) w pos d frontier stats .popped)
-  pub matched : Matched g (pairsOf (g .n) w)
-  pub bounded : Bounded Number (costLimit (g .n)) g (pairsOf (g .n) w) u
+  pub setting : Setting Number unitsPerOne (costLimit (g .pattern .n)) g
+  pub sized : Sized (g .pattern .n) w pos keys frontier
+  pub keyed : Keyed d (frontier .len) 0 (drop (heapAt * g .pattern .n) w) keys
+  pub flagged : Flagged (g .pattern .n) pos (treeOf (g .pattern .n) w pos d frontier stats .popped)
+  pub matched : Matched g (pairsOf (g .pattern .n) w)
+  pub bounded : Bounded Number (costLimit (g .pattern .n)) g (pairsOf (g .pattern .n) w) u
   pub r : ℕ
-  pub free : at (region jpermAt (g .n) w) r ≡ none
+  pub free : at (region jpermAt (g .pattern .n) w) r ≡ none
   pub rank : ℕ → ℕ
   pub offset : ℕ → ℕ
   pub top : ℕ
   pub last : ℕ
-  pub scanning : Scanning Number unitsPerOne (costLimit (g .n)) g (pairsOf (g .n) w) u r rank offset top last
-      (end g last)
-      (treeOf (g .n) w pos d frontier stats)
+  pub scanning : Scanning Number unitsPerOne (costLimit (g .pattern .n)) g
+      (pairsOf (g .pattern .n) w) u r rank offset top last
+      (end (g .pattern) last)
+      (treeOf (g .pattern .n) w pos d frontier stats)
   -- enough counting room for the columns that are left
-  pub counts : stats .«main_loop_edge_scans» + maxGeneral * (g .n - frontier .popped) < 2 ^ 62
+  pub counts : stats .«main_loop_edge_scans» + maxGeneral * (g .pattern .n - frontier .popped) < 2 ^ 62
 
 -- and the search goes on
 pub record Extensible (g : CostGraph) (u : List Float) (w pos : List ℕ) (keys d : List Float) (frontier : Frontier)
@@ -142,21 +144,23 @@ pub record Extensible (g : CostGraph) (u : List Float) (w pos : List ℕ) (keys 
 pub record Extends (g : CostGraph) (u : List Float) (w w' pos pos' : List ℕ) (keys' d d' : List Float)
     (frontier r : Frontier)
     (stats s : HungarianStats) : Type 0 where
-  pub tree : treeOf (g .n) w' pos' d' r s ≡ extend g (pairsOf (g .n) w) u (treeOf (g .n) w pos d frontier stats)
-  pub iperm : region ipermAt (g .n) w' ≡ region ipermAt (g .n) w
-  pub jperm : region jpermAt (g .n) w' ≡ region jpermAt (g .n) w
-  pub flagged : Flagged (g .n) pos' (treeOf (g .n) w' pos' d' r s .popped)
+  pub tree : treeOf (g .pattern .n) w' pos' d' r s ≡ extend g (pairsOf (g .pattern .n) w) u
+      (treeOf (g .pattern .n) w pos d frontier stats)
+  pub iperm : region ipermAt (g .pattern .n) w' ≡ region ipermAt (g .pattern .n) w
+  pub jperm : region jpermAt (g .pattern .n) w' ≡ region jpermAt (g .pattern .n) w
+  pub flagged : Flagged (g .pattern .n) pos' (treeOf (g .pattern .n) w' pos' d' r s .popped)
   pub popped : r .popped ≡ frontier .popped + 1
-  pub touched : r .touched ≤ g .n
+  pub touched : r .touched ≤ g .pattern .n
   pub counts : s .«main_loop_edge_scans» ≤ stats .«main_loop_edge_scans» + maxGeneral
-  pub keyed : Keyed d' (r .len) 0 (drop (heapAt * g .n) w') keys'
+  pub keyed : Keyed d' (r .len) 0 (drop (heapAt * g .pattern .n) w') keys'
 
 pub record Grows (g : CostGraph) (u : List Float) (w w' pos pos' : List ℕ) (d d' : List Float) (frontier r : Frontier)
     (stats s : HungarianStats) : Type 0 where
-  pub tree : treeOf (g .n) w' pos' d' r s ≡ grow g (pairsOf (g .n) w) u (g .n) (treeOf (g .n) w pos d frontier stats)
-  pub iperm : region ipermAt (g .n) w' ≡ region ipermAt (g .n) w
-  pub jperm : region jpermAt (g .n) w' ≡ region jpermAt (g .n) w
-  pub flagged : Flagged (g .n) pos' (treeOf (g .n) w' pos' d' r s .popped)
-  pub size : length w' ≡ 12 * g .n + 1
-  pub touched : r .touched ≤ g .n
-  pub popped : r .popped ≤ g .n
+  pub tree : treeOf (g .pattern .n) w' pos' d' r s ≡ grow g (pairsOf (g .pattern .n) w) u (g .pattern .n)
+      (treeOf (g .pattern .n) w pos d frontier stats)
+  pub iperm : region ipermAt (g .pattern .n) w' ≡ region ipermAt (g .pattern .n) w
+  pub jperm : region jpermAt (g .pattern .n) w' ≡ region jpermAt (g .pattern .n) w
+  pub flagged : Flagged (g .pattern .n) pos' (treeOf (g .pattern .n) w' pos' d' r s .popped)
+  pub size : length w' ≡ 12 * g .pattern .n + 1
+  pub touched : r .touched ≤ g .pattern .n
+  pub popped : r .popped ≤ g .pattern .n

@@ -35,15 +35,15 @@ runningOf n u w pos d stats = record {
 -- column j's turn, and it is free
 pub record SearchReady (g : CostGraph) (u : List Float) (w pos : List ℕ) (keys d : List Float)
     (stats : HungarianStats) (j : ℕ) : Type 0 where
-  pub setting : Setting Number unitsPerOne (costLimit (g .n)) g
-  pub size : length w ≡ 12 * g .n + 1
-  pub places : length pos ≡ g .n
-  pub keyCount : length keys ≡ g .n
-  pub flagged : Flagged (g .n) pos []
+  pub setting : Setting Number unitsPerOne (costLimit (g .pattern .n)) g
+  pub size : length w ≡ 12 * g .pattern .n + 1
+  pub places : length pos ≡ g .pattern .n
+  pub keyCount : length keys ≡ g .pattern .n
+  pub flagged : Flagged (g .pattern .n) pos []
   pub inner : ℕ
-  pub runs : Runs Number unitsPerOne (costLimit (g .n)) g inner j (runningOf (g .n) u w pos d stats)
-  pub below : j < g .n
-  pub free : at (region jpermAt (g .n) w) j ≡ none
+  pub runs : Runs Number unitsPerOne (costLimit (g .pattern .n)) g inner j (runningOf (g .pattern .n) u w pos d stats)
+  pub below : j < g .pattern .n
+  pub free : at (region jpermAt (g .pattern .n) w) j ≡ none
 
 -- ---- the search's answer
 -- what each case of the code's answer stands for
@@ -68,12 +68,12 @@ leftOf n w pos d r t =
 
 pub record Finds (g : CostGraph) (u : List Float) (w w' pos pos' : List ℕ) (d d' : List Float) (j : ℕ)
     (stats : HungarianStats) (r : Ending) : Type 0 where
-  pub answer : foundOf (r .end) ≡ found (treeFrom g j (runningOf (g .n) u w pos d stats))
-  pub tree : leftOf (g .n) w' pos' d' r (treeFrom g j (runningOf (g .n) u w pos d stats))
-      ≡ treeFrom g j (runningOf (g .n) u w pos d stats)
-  pub iperm : region ipermAt (g .n) w' ≡ region ipermAt (g .n) w
-  pub jperm : region jpermAt (g .n) w' ≡ region jpermAt (g .n) w
-  pub flagged : Flagged (g .n) pos' (treeFrom g j (runningOf (g .n) u w pos d stats) .popped)
-  pub size : length w' ≡ 12 * g .n + 1
-  pub touched : r .touched ≤ g .n
-  pub popped : r .popped ≤ g .n
+  pub answer : foundOf (r .end) ≡ found (treeFrom g j (runningOf (g .pattern .n) u w pos d stats))
+  pub tree : leftOf (g .pattern .n) w' pos' d' r (treeFrom g j (runningOf (g .pattern .n) u w pos d stats))
+      ≡ treeFrom g j (runningOf (g .pattern .n) u w pos d stats)
+  pub iperm : region ipermAt (g .pattern .n) w' ≡ region ipermAt (g .pattern .n) w
+  pub jperm : region jpermAt (g .pattern .n) w' ≡ region jpermAt (g .pattern .n) w
+  pub flagged : Flagged (g .pattern .n) pos' (treeFrom g j (runningOf (g .pattern .n) u w pos d stats) .popped)
+  pub size : length w' ≡ 12 * g .pattern .n + 1
+  pub touched : r .touched ≤ g .pattern .n
+  pub popped : r .popped ≤ g .pattern .n

@@ -14,7 +14,8 @@ use Rattle.index_heap.specs.inner.Slices.{heapOf}
 use Rattle.hungarian.specs.declared.HungarianStats.{HungarianStats}
 use Rattle.hungarian.specs.inner.Layout.{region, ipermAt, jpermAt, prAt, outAt, touchedAt, poppedAt, heapAt}
 use Rattle.hungarian.specs.Loop.{each}
-use Rattle.hungarian.specs.Graph.{CostGraph, rowOf, costOf, start, end}
+use Rattle.sparse.specs.Pattern.{rowOf, start, end}
+use Rattle.hungarian.specs.Graph.{CostGraph, costOf}
 use Rattle.hungarian.specs.Init.{Pairs}
 use Rattle.hungarian.specs.Search.{Tree, among, edge}
 use Rattle.hungarian_path.specs.declared.Frontier.{Frontier}
@@ -71,8 +72,9 @@ unfoldable pub entryDistance : Bool → Float → Float → Float → Float
 entryDistance root v c u = cond root (sub binary64 c u) (sub binary64 (add binary64 v c) u)
 
 abbrev pub distanceBy : Bool → Float → CostGraph → List Float → ℕ → Float
-distanceBy root v g u k = entryDistance root v (costOf g k) (getD u (rowOf g k) nan)
+distanceBy root v g u k = entryDistance root v (costOf g k) (getD u (rowOf (g .pattern) k) nan)
 
 -- the entries of column j are examined
 abbrev pub scanBy : Bool → Float → CostGraph → List ℕ → List Float → ℕ → Tree → Tree
-scanBy root v g iperm u j t = each (start g j) (end g j) (λ k. edge g iperm (distanceBy root v g u k) j k) t
+scanBy root v g iperm u j t = each (start (g .pattern) j) (end (g .pattern) j)
+    (λ k. edge g iperm (distanceBy root v g u k) j k) t

@@ -32,7 +32,8 @@ pub record ApplyReady (n : ℕ) (rows : List ℕ) (u : List Float) (w : List ℕ
 
 pub record Applies (n : ℕ) (rows : List ℕ) (u u' : List Float) (w w' : List ℕ) (d : List Float) (end : Found)
     (popped num r : ℕ) : Type 0 where
-  pub pairs : (g : CostGraph) (t : Tree) → g .rowIdx ≡ rows → t .pr ≡ region prAt n w → t .out ≡ region outAt n w
+  pub pairs : (g : CostGraph) (t : Tree) → g .pattern .rowIdx ≡ rows → t .pr ≡ region prAt n w
+      → t .out ≡ region outAt n w
       → pairsAt n w' r ≡ pairsAfter g t end (pairsAt n w num)
   pub duals : (t : Tree) → t .d ≡ d → t .popped ≡ take popped (region poppedAt n w) → u' ≡ dualsAfter t end u
   pub rest : drop (2 * n) w' ≡ drop (2 * n) w
@@ -40,36 +41,36 @@ pub record Applies (n : ℕ) (rows : List ℕ) (u u' : List Float) (w w' : List 
 -- ---- a column's turn
 pub record Augments (g : CostGraph) (u u' : List Float) (w w' pos pos' : List ℕ) (d d' : List Float) (j : ℕ)
     (stats : HungarianStats) (r : Counts) : Type 0 where
-  pub state : runningOf (g .n) u' w' pos' d' (r .stats)
-      ≡ settle g (treeFrom g j (runningOf (g .n) u w pos d stats)) (runningOf (g .n) u w pos d stats)
-  pub number : r .matched ≡ pairsOf (g .n) w' .num
-  pub flagged : Flagged (g .n) pos' []
+  pub state : runningOf (g .pattern .n) u' w' pos' d' (r .stats)
+      ≡ settle g (treeFrom g j (runningOf (g .pattern .n) u w pos d stats)) (runningOf (g .pattern .n) u w pos d stats)
+  pub number : r .matched ≡ pairsOf (g .pattern .n) w' .num
+  pub flagged : Flagged (g .pattern .n) pos' []
 
 -- the state in which column j has its turn is in memory
 pub record Standing (g : CostGraph) (u : List Float) (w pos : List ℕ) (keys d : List Float) (r : Counts)
     (j : ℕ) : Type 0 where
-  pub setting : Setting Number unitsPerOne (costLimit (g .n)) g
-  pub size : length w ≡ 12 * g .n + 1
-  pub places : length pos ≡ g .n
-  pub keyCount : length keys ≡ g .n
-  pub state : runningOf (g .n) u w pos d (r .stats) ≡ stateAt g j
-  pub number : r .matched ≡ pairsOf (g .n) w .num
-  pub flagged : Flagged (g .n) pos []
+  pub setting : Setting Number unitsPerOne (costLimit (g .pattern .n)) g
+  pub size : length w ≡ 12 * g .pattern .n + 1
+  pub places : length pos ≡ g .pattern .n
+  pub keyCount : length keys ≡ g .pattern .n
+  pub state : runningOf (g .pattern .n) u w pos d (r .stats) ≡ stateAt g j
+  pub number : r .matched ≡ pairsOf (g .pattern .n) w .num
+  pub flagged : Flagged (g .pattern .n) pos []
 
 -- ---- all searches
 -- phases 1 to 3 are in memory
 pub record Started (g : CostGraph) (u : List Float) (w : List ℕ) (num : ℕ) (stats : HungarianStats) : Type 0 where
   pub accepted : Accepted g
-  pub size : length w ≡ 12 * g .n + 1
-  pub iperm : region ipermAt (g .n) w ≡ initial g .pairs .iperm
-  pub jperm : region jpermAt (g .n) w ≡ initial g .pairs .jperm
+  pub size : length w ≡ 12 * g .pattern .n + 1
+  pub iperm : region ipermAt (g .pattern .n) w ≡ initial g .pairs .iperm
+  pub jperm : region jpermAt (g .pattern .n) w ≡ initial g .pairs .jperm
   pub duals : u ≡ emptyRowsZeroed (phase1 g .u)
   pub number : num ≡ initial g .pairs .num
   pub counts : stats ≡ initial g .stats
 
 pub record Searched (g : CostGraph) (u : List Float) (w : List ℕ) (r : Counts) : Type 0 where
-  pub iperm : region ipermAt (g .n) w ≡ searched g (emptyRowsZeroed (phase1 g .u)) (initial g) .pairs .iperm
-  pub jperm : region jpermAt (g .n) w ≡ searched g (emptyRowsZeroed (phase1 g .u)) (initial g) .pairs .jperm
+  pub iperm : region ipermAt (g .pattern .n) w ≡ searched g (emptyRowsZeroed (phase1 g .u)) (initial g) .pairs .iperm
+  pub jperm : region jpermAt (g .pattern .n) w ≡ searched g (emptyRowsZeroed (phase1 g .u)) (initial g) .pairs .jperm
   pub duals : u ≡ searched g (emptyRowsZeroed (phase1 g .u)) (initial g) .u
   pub number : r .matched ≡ searched g (emptyRowsZeroed (phase1 g .u)) (initial g) .pairs .num
   pub counts : r .stats ≡ searched g (emptyRowsZeroed (phase1 g .u)) (initial g) .stats

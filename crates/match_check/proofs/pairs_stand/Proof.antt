@@ -1,12 +1,11 @@
 -- `pairs_stand` meets its contract. The loop's invariant: what the test is worth after the columns before j.
 use mathlib.Core.Path.{subst}
 use mathlib.Core.Bool.{Bool, _&&_}
-use mathlib.Core.List.{[]}
 use Prim.Native.Nat.{_+_, _-_, _≤_}
 use native.Mathlib.Omega.{arith}
 use lib.Dec.{eqb}
 use lib.ListN.{getD}
-use Rattle.hungarian.specs.Graph.{graphOf}
+use Rattle.sparse.specs.Pattern.{pattern}
 use Rattle.match_check.specs.Check.{pairStands, pairsStand}
 use Rattle.match_check.proofs.Every.{Every, every-begins, every-goes-on, every-all}
 use Rattle.match_check.proofs.Columns.{rises, within, some-column}
@@ -14,7 +13,7 @@ use Rattle.match_check.proofs.pairs_stand.Statement.{statement}
 use Rattle.match_check.proofs.pairs_stand.Tie as tie
 
 abbrev Inv-loop : tie.InvT-loop
-Inv-loop n col-ptr row-idx perm fine₀ j₀ fine j = (j ≤ n) × Every (pairStands (graphOf n col-ptr row-idx []) perm) 0 n fine j
+Inv-loop n col-ptr row-idx perm fine₀ j₀ fine j = (j ≤ n) × Every (pairStands (pattern n col-ptr row-idx) perm) 0 n fine j
 
 abbrev μ-loop : tie.MeasureT-loop
 μ-loop n col-ptr row-idx perm fine₀ j₀ fine j = n - j
@@ -34,7 +33,7 @@ loop-of-shared-slice-known6 c = c .before .before .before .before
 
 loop-holds : tie.Need-loop-holds Inv-loop μ-loop
 loop-holds c = let a = entry-of-shared-slice-known3 c .args in
-    (omega arith, every-begins (pairStands (graphOf (a .n) (a .col-ptr .now) (a .row-idx .now) []) (a .perm .now)) 0 (a .n))
+    (omega arith, every-begins (pairStands (pattern (a .n) (a .col-ptr .now) (a .row-idx .now)) (a .perm .now)) 0 (a .n))
 
 mul-has-row : tie.Need-mul-has-row Inv-loop μ-loop
 mul-has-row c =
@@ -90,7 +89,7 @@ loop-again : tie.Need-loop-again Inv-loop μ-loop
 loop-again c =
     let a = entry-of-shared-slice-known5 (c .before .before) .args in
     let l = loop-of-shared-slice-known6 (c .before) .loop in
-    let test = pairStands (graphOf (a .n) (a .col-ptr .now) (a .row-idx .now) []) (a .perm .now) in
+    let test = pairStands (pattern (a .n) (a .col-ptr .now) (a .row-idx .now)) (a .perm .now) in
     let column = some-column (a .col-ptr .now) (λ k. eqb (getD (a .row-idx .now) k 0) (getD (a .perm .now) (l .j) 0)) (l .j) (c .has-row .ensures) in (
       omega arith,
       subst (λ (t : Bool). Every test 0 (a .n) (l .fine && t) (l .j + 1)) column
@@ -100,7 +99,7 @@ loop-again c =
 returns : tie.Need-returns Inv-loop μ-loop
 unfolding pairsStand
 returns c = let a = entry-of-shared-slice-known3 (c .before .before) .args in let l = c .before .loop in
-    every-all (pairStands (graphOf (a .n) (a .col-ptr .now) (a .row-idx .now) []) (a .perm .now)) (a .n) (l .fine) (l .j) (omega arith) (l .inv .1)
+    every-all (pairStands (pattern (a .n) (a .col-ptr .now) (a .row-idx .now)) (a .perm .now)) (a .n) (l .fine) (l .j) (omega arith) (l .inv .1)
 
 pub pairs-stand-spec : {M : Type 1} → statement M
 pairs-stand-spec =

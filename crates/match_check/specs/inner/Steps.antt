@@ -9,7 +9,7 @@ use Rattle.sparse.specs.Columns.{Columns}
 use Rattle.match_check.specs.Check.{Claim}
 
 -- the pattern of an accepted graph
-pub record Pattern (n : ℕ) (colPtr rowIdx : List ℕ) : Type 0 where
+pub record AcceptedPattern (n : ℕ) (colPtr rowIdx : List ℕ) : Type 0 where
   pub few : n ≤ maxColumns
   pub entries : length rowIdx ≤ maxGeneral
   pub pointers : length colPtr ≡ n + 1
@@ -24,7 +24,7 @@ pub record Stretch (from to : ℕ) (rowIdx : List ℕ) (cost u : List Float) : T
 
 -- an accepted graph and a claim's lists, each of its length
 pub record Checkable (n : ℕ) (colPtr rowIdx : List ℕ) (cost : List Float) (s : Claim) : Type 0 where
-  pub pattern : Pattern n colPtr rowIdx
+  pub pattern : AcceptedPattern n colPtr rowIdx
   pub costs : length cost ≡ length rowIdx
   pub rows : length (s .perm) ≡ n
   pub rowDuals : length (s .u) ≡ n

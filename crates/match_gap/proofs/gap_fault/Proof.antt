@@ -3,7 +3,7 @@ use mathlib.Core.Path.{_∙_}
 use borrow.Author.Needs.{needs}
 use borrow.Author.Tests.{not-true, not-false}
 use Rattle.match_check.proofs.Calling.{ready}
-use Rattle.match_gap.proofs.Faults.{lengths-are, pointers-fit, by-digits, by-graph, graph-passed, by-costs, by-pairs, costs-aside}
+use Rattle.match_gap.proofs.Faults.{lengths-are, pointers-fit, by-digits, by-graph, graph-passed, by-costs, by-pairs}
 use Rattle.match_gap.proofs.gap_fault.Statement.{statement}
 use Rattle.match_gap.proofs.gap_fault.Tie as tie
 
@@ -53,7 +53,7 @@ returns-4 : tie.Need-returns-4
 returns-4 c = let a = c .before .before in let k = graph-fault-of-all-in-steps a in
     by-pairs _ _ _ _ (k .before .before .if1 .left) (lengths-are _ _ _ (k .before .lengths-fit .ensures)) (k .graph-fault .ensures)
     (a .before .before .if2 .left) (a .all-in-steps .ensures) (not-false _ (c .before .if3 .left))
-    (c .pairs-fault .ensures ∙ costs-aside _ _ _ _ (entry-of-graph-fault k .args .cost .now) _)
+    (c .pairs-fault .ensures)
 
 pub gap-fault-spec : {M : Type 1} → statement M
 gap-fault-spec =

@@ -6,7 +6,8 @@ use native.Mathlib.Omega.{arith}
 use lib.ListN.{length}
 use lib.ListN.{length-replicate}
 use Rattle.match_check.proofs.Every.{Every, every-begins, every-goes-on, every-all}
-use Rattle.match_largest.specs.Marks.{pattern, pairFits, pairsFit}
+use Rattle.sparse.specs.Pattern.{pattern}
+use Rattle.match_largest.specs.Marks.{pairFits, pairsFit}
 use Rattle.match_largest.specs.inner.Sweeps.{Entered}
 use Rattle.match_largest.proofs.Entering.{enter-begins}
 use Rattle.match_largest.proofs.enter_pairs.Statement.{statement}

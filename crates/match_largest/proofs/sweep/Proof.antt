@@ -2,7 +2,7 @@
 use mathlib.Core.Path.{sym, _∙_}
 use Prim.Native.Nat.{_-_}
 use native.Mathlib.Omega.{arith}
-use Rattle.match_largest.specs.Marks.{pattern}
+use Rattle.sparse.specs.Pattern.{pattern}
 use Rattle.match_largest.specs.inner.Sweeps.{Sweeping}
 use Rattle.match_largest.proofs.Sweeps.{last-few, sweep-ends}
 use Rattle.match_largest.proofs.sweep.Statement.{statement}

@@ -9,7 +9,7 @@ use lib.Dec.{eqb, ltb}
 use lib.ListN.{length, getD}
 use Rattle.limits.specs.Limits.{none, maxColumns}
 use Rattle.matching.specs.Sum.{sumTo, orZero}
-use Rattle.hungarian.specs.Graph.{CostGraph, rowOf, colOf, entries, InColumn}
+use Rattle.sparse.specs.Pattern.{Pattern, rowOf, columnOf, entries, InColumn}
 use Rattle.match_largest.specs.Marks.{rowAt, isFree, markedRows}
 
 -- of the columns before j, each that has a row of the pattern stands in `inverse`, or one before it that has the row
@@ -26,17 +26,17 @@ pub record Queued (perm : List ℕ) (j : ℕ) (queue : List ℕ) (free : ℕ) : 
   pub place : (c : ℕ) → c < j → rowAt perm c ≡ none → (p : ℕ) × (p < free) × (getD queue p 0 ≡ c)
 
 -- an alternating path leads to column j from a column that no row has
-pub data Led (g : CostGraph) (inverse : List ℕ) : ℕ → Type 0 where
+pub data Led (g : Pattern) (inverse : List ℕ) : ℕ → Type 0 where
   begins : {j : ℕ} → j < g .n → ((i : ℕ) → i < g .n → getD inverse i 0 ≢ j) → Led g inverse j
-  goes : {j : ℕ} (k : ℕ) → k < entries g → Led g inverse (colOf g k) → j < g .n → getD inverse (rowOf g k) 0 ≡ j
+  goes : {j : ℕ} (k : ℕ) → k < entries g → Led g inverse (columnOf g k) → j < g .n → getD inverse (rowOf g k) 0 ≡ j
       → Led g inverse j
 
 -- an entry of such a column is in row i
-pub record LedRow (g : CostGraph) (inverse : List ℕ) (i : ℕ) : Type 0 where
+pub record LedRow (g : Pattern) (inverse : List ℕ) (i : ℕ) : Type 0 where
   pub entry : ℕ
   pub within : entry < entries g
   pub row : rowOf g entry ≡ i
-  pub column : Led g inverse (colOf g entry)
+  pub column : Led g inverse (columnOf g entry)
 
 -- column j stands in the queue
 pub record Waits (queue : List ℕ) (last j : ℕ) : Type 0 where
@@ -49,7 +49,7 @@ abbrev pub unmet : ℕ → List ℕ → List ℕ → ℕ → Bool
 unmet n inverse met i = eqb (getD met i 0) 0 && ltb (getD inverse i 0) n
 
 -- the columns before `head` are searched, and the entries before k of the column at `head`
-pub record Sweeping (g : CostGraph) (inverse met queue : List ℕ) (head k last : ℕ) : Type 0 where
+pub record Sweeping (g : Pattern) (inverse met queue : List ℕ) (head k last : ℕ) : Type 0 where
   pub marks : length met ≡ maxColumns
   pub places : length queue ≡ 4097
   pub before : head ≤ last
@@ -66,12 +66,12 @@ pub record Sweeping (g : CostGraph) (inverse met queue : List ℕ) (head k last 
   pub sound : (i : ℕ) → i < g .n → getD met i 0 ≡ 1 → LedRow g inverse i
 
 -- at the end: a row is marked exactly if a path leads to a column with an entry in it
-pub record Swept (g : CostGraph) (inverse met : List ℕ) : Type 0 where
+pub record Swept (g : Pattern) (inverse met : List ℕ) : Type 0 where
   pub marks : length met ≡ maxColumns
   pub bits : (i : ℕ) → getD met i 0 ≤ 1
   pub exactly : (i : ℕ) → i < g .n → (getD met i 0 ≡ 1) ↔ LedRow g inverse i
 
 -- the marks of rows are those of the definition
-pub record Searched (g : CostGraph) (perm met : List ℕ) : Type 0 where
+pub record Searched (g : Pattern) (perm met : List ℕ) : Type 0 where
   pub marks : length met ≡ maxColumns
   pub same : (i : ℕ) → i < g .n → getD met i 0 ≡ getD (markedRows g perm) i 0

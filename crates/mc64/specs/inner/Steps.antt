@@ -14,12 +14,12 @@ use Rattle.mc64.specs.Call.{pairsLeft, factorsLeft}
 -- an accepted graph, the largest log of each column, and slices of their lengths
 pub record Ready (g : CostGraph) (cmax : List Float) (pairs : Match.Slices) (scaled : Factors.Slices) : Type 0 where
   pub solvable : Solvable g pairs
-  pub largest : length cmax ≡ g .n
-  pub factors : length (scaled .factors) ≡ g .n
-  pub marks : length (scaled .work) ≡ g .n
+  pub largest : length cmax ≡ g .pattern .n
+  pub factors : length (scaled .factors) ≡ g .pattern .n
+  pub marks : length (scaled .work) ≡ g .pattern .n
 
 pub record Scales (g : CostGraph) (cmax : List Float) (before after : Match.Slices) (factored : Factors.Slices)
     (answer : Scaled) : Type 0 where
-  pub answered : answer ≡ Factors.appliedOrPartial (g .n) (hungarianMatch g .matched)
+  pub answered : answer ≡ Factors.appliedOrPartial (g .pattern .n) (hungarianMatch g .matched)
   pub pairs : after ≡ pairsLeft g before
   pub scaled : factored ≡ factorsLeft g cmax

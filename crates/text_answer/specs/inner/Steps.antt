@@ -46,7 +46,7 @@ EntriesReported form kind n rows cols values old reported =
 
 -- a graph that has a text, and room for it
 pub record Reportable (g : CostGraph) (output : List ℕ) : Type 0 where
-  pub few : g .n ≤ 64
+  pub few : g .pattern .n ≤ 64
   pub accepted : Accepted g
   pub wholeCosts : WholeCosts g
   pub room : length output ≡ outputLength

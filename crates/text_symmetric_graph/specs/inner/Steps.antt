@@ -42,5 +42,6 @@ graphSlices pointers rows costs = record { pointers = pointers; rows = rows; cos
 abbrev pub graphLeft : ℕ → Triplets → GraphSlices → Mirrored → GraphSlices
 graphLeft n t before (Graph kept) =
     let g = tripletGraph n t in
-    graphSlices (g .colPtr) (g .rowIdx ++ drop kept (before .rows)) (g .cost ++ drop kept (before .costs))
+    graphSlices (g .pattern .colPtr) (g .pattern .rowIdx ++ drop kept (before .rows))
+    (g .cost ++ drop kept (before .costs))
 graphLeft n t before Repeated = before
