@@ -119,7 +119,7 @@ graphLent n room stored =
 
 -- the matrix of one entry with this value
 abbrev pub one : ℕ → Matrix
-one value = matrix (0 ∷ 1 ∷ []) (0 ∷ []) (ofBits binary64 value ∷ [])
+one value = matrix 1 (0 ∷ 1 ∷ []) (0 ∷ []) (ofBits binary64 value ∷ [])
 
 -- the symmetric matrix of one entry with this value and log and its graph are accepted, and have this largest log,
 -- factor before it is held, and from the call of the log factors this factor, zero work and the answer for so many
@@ -127,7 +127,7 @@ one value = matrix (0 ∷ 1 ∷ []) (0 ∷ []) (ofBits binary64 value ∷ [])
 unfoldable pub symmetricIs : (value log cmax unheld factor unmatched : ℕ) → Bool
 unfolding same
 symmetricIs value log cmax unheld factor unmatched =
-    let built = costGraph 1 (one value) (ofBits binary64 log ∷ []) (graphLent 1 2 1) in
+    let built = costGraph (one value) (ofBits binary64 log ∷ []) (graphLent 1 2 1) in
     let g = graphLeft 1 (built .after) in
     let found = matchOf g in
     let largest = built .after .cmax in
@@ -145,7 +145,7 @@ symmetricIs value log cmax unheld factor unmatched =
 unfoldable pub generalIs : (value log cmax unmatched : ℕ) → Bool
 unfolding same
 generalIs value log cmax unmatched =
-    let built = generalGraph 1 (one value) (ofBits binary64 log ∷ []) (graphLent 1 1 1) in
+    let built = generalGraph (one value) (ofBits binary64 log ∷ []) (graphLent 1 1 1) in
     let g = graphLeft 1 (built .after) in
     eqb (Graphs.numberOf (built .answer)) accepted
     && eqb (matchNumber g) accepted
@@ -154,14 +154,14 @@ generalIs value log cmax unmatched =
 
 -- the symmetric matrix of n columns is accepted by both inf-norm calls, which leave these factors; the iterated one
 -- leaves zero work
-unfoldable pub infnormIs : ℕ → Matrix → (iterated onepass : List ℕ) → Bool
+unfoldable pub infnormIs : Matrix → (iterated onepass : List ℕ) → Bool
 unfolding same
-infnormIs n m iterated onepass =
-    let first = computeInfnorm n m (replicate n nan) (replicate n nan) in
-    let second = computeOnepass n m (replicate n nan) in
+infnormIs m iterated onepass =
+    let first = computeInfnorm m (replicate (m .pattern .n) nan) (replicate (m .pattern .n) nan) in
+    let second = computeOnepass m (replicate (m .pattern .n) nan) in
     eqb (first .answer) accepted
     && same (bits (first .after .factors)) iterated
-    && same (bits (first .after .work)) (replicate n 0)
+    && same (bits (first .after .work)) (replicate (m .pattern .n) 0)
     && eqb (second .answer) accepted
     && same (bits (second .after)) onepass
 
@@ -232,7 +232,7 @@ full costs = graph 2 (0 ∷ 2 ∷ 4 ∷ []) (0 ∷ 1 ∷ 0 ∷ 1 ∷ []) costs
 -- a symmetric matrix whose factors by rounds are not those of one pass
 abbrev apart : Matrix
 apart =
-    matrix (0 ∷ 2 ∷ 3 ∷ []) (0 ∷ 1 ∷ 1 ∷ [])
+    matrix 2 (0 ∷ 2 ∷ 3 ∷ []) (0 ∷ 1 ∷ 1 ∷ [])
     (map (ofBits binary64) (0x4030_0000_0000_0000 ∷ f1 ∷ 0x3FD0_0000_0000_0000 ∷ []))
 
 abbrev reel : List String
@@ -287,7 +287,7 @@ rows =
     (rootIs (ofBits binary64 f2) 0x3FF6_A09E_667F_3BCD && rootIs (ofBits binary64 1) 0x1E60_0000_0000_0000)
     -- value 4 gives 0.5
     ∷ sample 11
-    (infnormIs 1 (one 0x4010_0000_0000_0000) (0x3FE0_0000_0000_0000 ∷ []) (0x3FE0_0000_0000_0000 ∷ []))
+    (infnormIs (one 0x4010_0000_0000_0000) (0x3FE0_0000_0000_0000 ∷ []) (0x3FE0_0000_0000_0000 ∷ []))
     -- p of 1, 2, 0.5, 3, -10, 2^-1074 and the largest double; negsuc n is -(n + 1)
     ∷ sample 13
     (logIs f1 (pos 0)
@@ -305,7 +305,7 @@ rows =
     && printed Pairs mirroredPairs mirroredPairs)
     -- values 16 and 1 in column 0, 0.25 in column 1: 0.25 and 2 by rounds, 0.25 and 1 in one pass
     ∷ sample 15
-    (infnormIs 2 apart (0x3FD0_0000_0000_0000 ∷ f2 ∷ []) (0x3FD0_0000_0000_0000 ∷ f1 ∷ []))
+    (infnormIs apart (0x3FD0_0000_0000_0000 ∷ f2 ∷ []) (0x3FD0_0000_0000_0000 ∷ f1 ∷ []))
     ∷ []
 
 unfoldable pub table : List Sample

@@ -49,7 +49,7 @@ use Rattle.exponents.specs.Exponent.{floorOf, exponentOf, factorFits}
 use Rattle.exponents.specs.Call.{Duals, duals, differences, lengthsFit, factorsFault, exponentsFault, makeExponents, setOf}
 use Rattle.exponents.proofs.Calling.{differences-length, difference-at}
 use Rattle.exponents_apply.specs.Apply.{exponentAt}
-use Rattle.exponents_bounds.specs.Bounds.{patternOf, KeptEntry, entryMagnitude, BelowTwo, AboveQuarter, Scaled}
+use Rattle.exponents_bounds.specs.Bounds.{KeptEntry, entryMagnitude, BelowTwo, AboveQuarter, Scaled}
 use Rattle.exponents_bounds.proofs.Numbers.{Logged, ValueLog, largest-logged, parts-within, size-apart, difference-whole, small-fits, exponent-is}
 use Rattle.exponents_bounds.proofs.Numbers.{LogAtMost, LogTight, log-at-most, log-tight, scaled-below, scaled-above}
 
@@ -63,28 +63,28 @@ pub record LoggedColumns (n : ℕ) (g : GraphColumns) (values logs : List Float)
 
 -- ---- what a kind gives for the product
 -- stored entry k is at row i and column j
-abbrev pub EntryAt : ℕ → Matrix → ℕ → ℕ → ℕ → Type 0
-EntryAt n m k i j = (getD (m .rows) k 0 ≡ i) × (columnOf (patternOf n m) k ≡ j)
+abbrev pub EntryAt : Matrix → ℕ → ℕ → ℕ → Type 0
+EntryAt m k i j = (getD (m .pattern .rowIdx) k 0 ≡ i) × (columnOf (m .pattern) k ≡ j)
 
 -- it, or its mirror, is
-abbrev pub EitherAt : ℕ → Matrix → ℕ → ℕ → ℕ → Type 0
-EitherAt n m k i j = EntryAt n m k i j ⊎ EntryAt n m k j i
+abbrev pub EitherAt : Matrix → ℕ → ℕ → ℕ → Type 0
+EitherAt m k i j = EntryAt m k i j ⊎ EntryAt m k j i
 
 -- no two entries are in one place
 abbrev pub Alone : Matrix → (ℕ → ℕ → ℕ → Type 0) → Type 0
-Alone m At = (i j k l : ℕ) → k < length (m .rows) → l < length (m .rows) → At k i j → At l i j → k ≡ l
+Alone m At = (i j k l : ℕ) → k < length (m .pattern .rowIdx) → l < length (m .pattern .rowIdx) → At k i j → At l i j → k ≡ l
 
 -- no row is taken twice; no two entries are in one place; and potentials of rows and columns make at most 0 with the logarithm of every kept entry, and 0 with
 -- that of each column's pair
-pub record LogPotentials (n : ℕ) (m : Matrix) (At : ℕ → ℕ → ℕ → Type 0) (perm : List ℕ) : Type 0 where
+pub record LogPotentials (m : Matrix) (At : ℕ → ℕ → ℕ → Type 0) (perm : List ℕ) : Type 0 where
   pub row : ℕ → ℤ
   pub column : ℕ → ℤ
-  pub inside : (j : ℕ) → j < n → getD perm j 0 < n
-  pub once : (i j : ℕ) → i < n → j < n → getD perm i 0 ≡ getD perm j 0 → i ≡ j
+  pub inside : (j : ℕ) → j < m .pattern .n → getD perm j 0 < m .pattern .n
+  pub once : (i j : ℕ) → i < m .pattern .n → j < m .pattern .n → getD perm i 0 ≡ getD perm j 0 → i ≡ j
   pub alone : Alone m At
-  pub some : (k : ℕ) → k < length (m .rows) → 0 < entryMagnitude m k → KeptEntry m k
+  pub some : (k : ℕ) → k < length (m .pattern .rowIdx) → 0 < entryMagnitude m k → KeptEntry m k
   pub below : (i j k : ℕ) → KeptEntry m k → At k i j → LogAtMost (getD (m .values) k nan) (row i) (column j)
-  pub pair : (j : ℕ) → j < n → (k : ℕ) × KeptEntry m k × At k (getD perm j 0) j
+  pub pair : (j : ℕ) → j < m .pattern .n → (k : ℕ) × KeptEntry m k × At k (getD perm j 0) j
   pub tight : (j k : ℕ) → KeptEntry m k → At k (getD perm j 0) j → LogTight (getD (m .values) k nan) (row (getD perm j 0)) (column j)
 
 -- the exponents of row i and column j, added

@@ -35,7 +35,7 @@ use Rattle.exponents_powers.specs.Power.{withinLimit, scalable, scaledBits, Exp
 use Rattle.exponents.specs.Exponent.{floorOf, isWhole, exponentOf, factorFits}
 use Rattle.exponents.specs.Call.{duals, differences, lengthsFit, factorsFault, exponentsFault, makeExponents}
 use Rattle.exponents_apply.specs.Apply.{applyFault, matrixFault, limitFault, valuesFault, columnFault, scaledValues, applyExponents}
-use Rattle.exponents_bounds.specs.Bounds.{patternOf, swapped}
+use Rattle.exponents_bounds.specs.Bounds.{swapped}
 
 -- ---- the matrix of the one entry 1
 -- its graph: one entry of cost 0
@@ -59,7 +59,7 @@ abbrev bits : List ℕ
 bits = 0x3FF8_0000_0000_0000 ∷ 0x3FF0_0000_0000_0000 ∷ 0x3FF8_0000_0000_0000 ∷ 0x3FF0_0000_0000_0000 ∷ 0x3FF0_0000_0000_0000 ∷ []
 
 abbrev small : Matrix
-small = matrix (0 ∷ 2 ∷ 4 ∷ 5 ∷ []) (0 ∷ 1 ∷ 0 ∷ 1 ∷ 2 ∷ []) (map (ofBits binary64) bits)
+small = matrix 3 (0 ∷ 2 ∷ 4 ∷ 5 ∷ []) (0 ∷ 1 ∷ 0 ∷ 1 ∷ 2 ∷ []) (map (ofBits binary64) bits)
 
 abbrev zeros : ℕ → List ℕ
 zeros n = replicate n 0
@@ -68,7 +68,7 @@ abbrev blanks : ℕ → List Float
 blanks n = replicate n nan
 
 abbrev builds : Outcome Built Graphs.Slices
-builds = wholeGeneralGraph 3 small (Graphs.slices (zeros 4) (zeros 5) (blanks 5) (blanks 3) (zeros 13))
+builds = wholeGeneralGraph small (Graphs.slices (zeros 4) (zeros 5) (blanks 5) (blanks 3) (zeros 13))
 
 abbrev matches : Outcome Answer Match.Slices
 matches = Match.matchOutcome (graphLeft 3 (builds .after)) (Match.slices (zeros 3) (blanks 3) (blanks 3) (zeros 37) (blanks 6))
@@ -84,7 +84,7 @@ set = exponents (pos 0 ∷ pos 0 ∷ pos 0 ∷ []) (negsuc 0 ∷ negsuc 0 ∷ po
 pub small-scaled : (Graphs.numberOf (builds .answer) ≡ accepted) × (Match.numberOf (matches .answer) ≡ accepted)
     × (getD (Match.countsLeft (matches .answer) []) 0 0 ≡ 3)
     × (makes ≡ outcomeIs accepted set)
-    × (applyExponents (patternOf 3 small) set bits ≡ outcomeIs accepted
+    × (applyExponents (small .pattern) set bits ≡ outcomeIs accepted
     (0x3FE8_0000_0000_0000 ∷ 0x3FE0_0000_0000_0000 ∷ 0x3FE8_0000_0000_0000 ∷ 0x3FE0_0000_0000_0000 ∷ 0x3FF0_0000_0000_0000 ∷ []))
 unfolding wholeGeneralGraph generalInputFault finiteFault frameFault generalFault Graphs.slicesFit Graphs.built Graphs.joined keptPlaces isKept
     largestLog largest largestFrom normalised wholeLog Match.matchOutcome Match.finished Match.matchLengths hungarianMatch graphFault costFault inRange
@@ -98,10 +98,10 @@ abbrev triangle-bits : List ℕ
 triangle-bits = 0x4008_0000_0000_0000 ∷ 0x3FF0_0000_0000_0000 ∷ []
 
 abbrev triangle : Matrix
-triangle = matrix (0 ∷ 2 ∷ 2 ∷ []) (0 ∷ 1 ∷ []) (map (ofBits binary64) triangle-bits)
+triangle = matrix 2 (0 ∷ 2 ∷ 2 ∷ []) (0 ∷ 1 ∷ []) (map (ofBits binary64) triangle-bits)
 
 abbrev triangle-builds : Outcome Built Graphs.Slices
-triangle-builds = wholeSymmetricGraph 2 triangle (Graphs.slices (zeros 3) (zeros 4) (blanks 4) (blanks 2) (zeros 8))
+triangle-builds = wholeSymmetricGraph triangle (Graphs.slices (zeros 3) (zeros 4) (blanks 4) (blanks 2) (zeros 8))
 
 abbrev triangle-matches : Outcome Answer Match.Slices
 triangle-matches = Match.matchOutcome (graphLeft 2 (triangle-builds .after)) (Match.slices (zeros 2) (blanks 2) (blanks 2) (zeros 25) (blanks 4))
@@ -118,8 +118,8 @@ triangle-set = exponents (pos 0 ∷ pos 1 ∷ []) (negsuc 1 ∷ pos 0 ∷ [])
 pub triangle-scaled : (Graphs.numberOf (triangle-builds .answer) ≡ accepted) × (Match.numberOf (triangle-matches .answer) ≡ accepted)
     × (getD (Match.countsLeft (triangle-matches .answer) []) 0 0 ≡ 2)
     × (triangle-makes ≡ outcomeIs accepted triangle-set)
-    × (applyExponents (patternOf 2 triangle) triangle-set triangle-bits ≡ outcomeIs accepted (0x3FE8_0000_0000_0000 ∷ 0x3FE0_0000_0000_0000 ∷ []))
-    × (applyExponents (patternOf 2 triangle) (swapped triangle-set) triangle-bits ≡ outcomeIs accepted (0x3FE8_0000_0000_0000 ∷ 0x3FF0_0000_0000_0000 ∷ []))
+    × (applyExponents (triangle .pattern) triangle-set triangle-bits ≡ outcomeIs accepted (0x3FE8_0000_0000_0000 ∷ 0x3FE0_0000_0000_0000 ∷ []))
+    × (applyExponents (triangle .pattern) (swapped triangle-set) triangle-bits ≡ outcomeIs accepted (0x3FE8_0000_0000_0000 ∷ 0x3FF0_0000_0000_0000 ∷ []))
 unfolding wholeSymmetricGraph symmetricInputFault finiteFault frameFault symmetricFault symmetricColumns lowerColumn risingColumn Graphs.slicesFit
     Graphs.built Graphs.joined placesTo atMost largest largestFrom normalised wholeLog Match.matchOutcome Match.finished Match.matchLengths
     hungarianMatch graphFault costFault inRange sizeFault pointerFault firstOf generalColumns generalColumn magnitude unitsPerOne ofInt ofBits lt

@@ -30,7 +30,7 @@ use Rattle.whole_graphs.proofs.Theorems.{Doubles, all-finite, tests, general-re
 use Rattle.exponents_powers.specs.Power.{Exponents}
 use Rattle.exponents.specs.Call.{duals, setOf}
 use Rattle.exponents_apply.specs.Apply.{shiftAt}
-use Rattle.exponents_bounds.specs.Bounds.{patternOf, KeptEntry, IsMatched, Within, Bounded}
+use Rattle.exponents_bounds.specs.Bounds.{KeptEntry, IsMatched, Within, Bounded}
 use Rattle.exponents_bounds.proofs.Numbers.{ValueLog, LogAtMost, LogTight, kept-log, below-if-kept, some-kept, largest-of-some}
 use Rattle.exponents_bounds.proofs.AnyColumns.{LoggedColumns, EntryAt, Alone, LogPotentials, rowPotential, columnPotential}
 use Rattle.exponents_bounds.proofs.AnyColumns.{pair-made, pair-inside, pair-once, made-below, made-above, made-at-most, made-tight}
@@ -56,83 +56,83 @@ module _ (values : List Float) (from k : ℕ) (K : isKept (getD values k nan) �
           let (i, b, q) = f (omega arith) in
           (i, omega (arith, length-append l r), List·getD-append l r 0 i b ∙ q)
 
-module _ (n : ℕ) (m : Matrix) (s : Slices) (fine : wholeGeneralFault n m s ≡ 0) (doubles : Doubles (m .values)) where
+module _ (m : Matrix) (s : Slices) (fine : wholeGeneralFault m s ≡ 0) (doubles : Doubles (m .values)) where
   abbrev logs : List Float
   logs = valueLogs (m .values)
 
-  stored-values : length (m .values) ≡ length (m .rows)
-  stored-values = general-ready n m s fine doubles .0 .sizes .stored
+  stored-values : length (m .values) ≡ length (m .pattern .rowIdx)
+  stored-values = general-ready m s fine doubles .0 .sizes .stored
 
-  columns : Columns n (m .colPtr) (m .rows)
-  columns = general-accepted n (m .colPtr) (m .rows) (m .values) .0 (tests n m s fine doubles .1 .0) .1
+  columns : Columns (m .pattern .n) (m .pattern .colPtr) (m .pattern .rowIdx)
+  columns = general-accepted m .0 (tests m s fine doubles .1 .0) .1
 
-  value-double : (k : ℕ) → k < length (m .rows) → T (fits binary64 (getD (m .values) k nan))
+  value-double : (k : ℕ) → k < length (m .pattern .rowIdx) → T (fits binary64 (getD (m .values) k nan))
   value-double k h = doubles k (omega (arith, stored-values))
 
-  value-finite : (k : ℕ) → k < length (m .rows) → finite (getD (m .values) k nan) ≡ true
-  value-finite k h = all-finite (m .values) (tests n m s fine doubles .1 .1) k (omega (arith, stored-values))
+  value-finite : (k : ℕ) → k < length (m .pattern .rowIdx) → finite (getD (m .values) k nan) ≡ true
+  value-finite k h = all-finite (m .values) (tests m s fine doubles .1 .1) k (omega (arith, stored-values))
 
-  rising : Columns n (graphPointers (keptColumns m) n) (graphRows (keptColumns m) n)
-  rising = graph-rises n m columns
+  rising : Columns (m .pattern .n) (graphPointers (keptColumns m) (m .pattern .n)) (graphRows (keptColumns m) (m .pattern .n))
+  rising = graph-rises m columns
 
   -- the places of a column are kept
-  place-kept : (c i : ℕ) → c < n → i < length (placesOf m c) → KeptEntry m (getD (placesOf m c) i 0)
-  place-kept c i h l = let p = place-in n m columns c i h l in record { stored = p .2; nonzero = p .3 }
+  place-kept : (c i : ℕ) → c < m .pattern .n → i < length (placesOf m c) → KeptEntry m (getD (placesOf m c) i 0)
+  place-kept c i h l = let p = place-in m columns c i h l in record { stored = p .2; nonzero = p .3 }
 
   entry-log : (k : ℕ) → KeptEntry m k → ValueLog (getD (m .values) k nan) (getD logs k nan)
   entry-log k K = subst (λ (y : Float). ValueLog (getD (m .values) k nan) y) (sym (value-log-at (m .values) k))
       (kept-log (getD (m .values) k nan) (value-double k (K .stored)) (K .nonzero))
 
-  pub general-columns : LoggedColumns n (keptColumns m) (m .values) logs
+  pub general-columns : LoggedColumns (m .pattern .n) (keptColumns m) (m .values) logs
   general-columns = record {
-    few = general-ready n m s fine doubles .0 .sizes .columns;
+    few = general-ready m s fine doubles .0 .sizes .columns;
     rising = rising;
     logged = λ c i h l. entry-log (getD (placesOf m c) i 0) (place-kept c i h l);
     tops = λ c h some. largest-of-some (logsOf (keptColumns m) logs c) (rw length-map some);
   }
 
   abbrev Made-of : ℕ → ℕ → ℕ → Type 0
-  Made-of e c p = MadeOf n (keptColumns m) logs (general-columns .rising) e c p
+  Made-of e c p = MadeOf (m .pattern .n) (keptColumns m) logs (general-columns .rising) e c p
 
   -- each kept place has its entry in the graph
-  placed : (k : ℕ) → KeptEntry m k → (e : ℕ) × Made-of e (columnOf (patternOf n m) k) k
+  placed : (k : ℕ) → KeptEntry m k → (e : ℕ) × Made-of e (columnOf (m .pattern) k) k
   placed k K =
-      let c = columnOf (patternOf n m) k in
-      let w : InColumn (patternOf n m) c k = in-column (patternOf n m) columns k (K .stored) in
-      let from = getD (m .colPtr) c 0 in
-      let (i, l, q) = number-of (m .values) from k (K .nonzero) (w .above) (getD (m .colPtr) (suc c) 0 - from) (omega (arith, w .above, w .below)) in
-      (keptBefore (keptColumns m) c + i, made-at n (keptColumns m) logs (general-columns .rising) c i (w .column) l k q)
+      let c = columnOf (m .pattern) k in
+      let w : InColumn (m .pattern) c k = in-column (m .pattern) columns k (K .stored) in
+      let from = getD (m .pattern .colPtr) c 0 in
+      let (i, l, q) = number-of (m .values) from k (K .nonzero) (w .above) (getD (m .pattern .colPtr) (suc c) 0 - from) (omega (arith, w .above, w .below)) in
+      (keptBefore (keptColumns m) c + i, made-at (m .pattern .n) (keptColumns m) logs (general-columns .rising) c i (w .column) l k q)
 
-  pub general-alone : Alone m (EntryAt n m)
-  general-alone i j k l h g a b = simple (patternOf n m) columns k l h g (a .0 ∙ sym (b .0)) (a .1 ∙ sym (b .1))
+  pub general-alone : Alone m (EntryAt m)
+  general-alone i j k l h g a b = simple (m .pattern) columns k l h g (a .0 ∙ sym (b .0)) (a .1 ∙ sym (b .1))
 
-  module _ (c : Claim) (C : Certified (graphBy n (keptColumns m) logs) c) where
+  module _ (c : Claim) (C : Certified (graphBy (m .pattern .n) (keptColumns m) logs) c) where
     abbrev set : Exponents
-    set = setOf (duals (c .u) (c .v) (graphLargest (keptColumns m) logs n))
+    set = setOf (duals (c .u) (c .v) (graphLargest (keptColumns m) logs (m .pattern .n)))
 
-    entries : Within n m (IsMatched n m (c .perm)) set
+    entries : Within m (IsMatched m (c .perm)) set
     entries = record {
-      below = λ k h. below-if-kept (getD (m .values) k nan) (shiftAt (patternOf n m) set k) (value-double k h) (value-finite k h)
-          (λ e. made-below n (keptColumns m) (m .values) logs general-columns c C (placed k (record { stored = h; nonzero = e }) .1));
-      above = λ k K q. made-above n (keptColumns m) (m .values) logs general-columns c C (placed k K .1) q;
+      below = λ k h. below-if-kept (getD (m .values) k nan) (shiftAt (m .pattern) set k) (value-double k h) (value-finite k h)
+          (λ e. made-below (m .pattern .n) (keptColumns m) (m .values) logs general-columns c C (placed k (record { stored = h; nonzero = e }) .1));
+      above = λ k K q. made-above (m .pattern .n) (keptColumns m) (m .values) logs general-columns c C (placed k K .1) q;
     }
 
     -- the pair of a column is an entry
-    pair-entry : (j : ℕ) → j < n → (k : ℕ) × KeptEntry m k × (columnOf (patternOf n m) k ≡ j) × IsMatched n m (c .perm) k
+    pair-entry : (j : ℕ) → j < m .pattern .n → (k : ℕ) × KeptEntry m k × (columnOf (m .pattern) k ≡ j) × IsMatched m (c .perm) k
     pair-entry j h =
-        let (e, k, E, q) = pair-made n (keptColumns m) (m .values) logs general-columns c C j h in
-        let p = place-in n m columns j (E .number) h (E .stands) in
-        let w : InColumn (patternOf n m) j k =
+        let (e, k, E, q) = pair-made (m .pattern .n) (keptColumns m) (m .values) logs general-columns c C j h in
+        let p = place-in m columns j (E .number) h (E .stands) in
+        let w : InColumn (m .pattern) j k =
         record {
           column = h;
-          above = subst (λ (x : ℕ). getD (m .colPtr) j 0 ≤ x) (E .place) (p .0);
+          above = subst (λ (x : ℕ). getD (m .pattern .colPtr) j 0 ≤ x) (E .place) (p .0);
           below =
-              subst (λ (x : ℕ). x < getD (m .colPtr) (suc j) 0) (E .place) (p .1);
+              subst (λ (x : ℕ). x < getD (m .pattern .colPtr) (suc j) 0) (E .place) (p .1);
         } in
-        let d : columnOf (patternOf n m) k ≡ j = column-is (patternOf n m) columns j k w in
+        let d : columnOf (m .pattern) k ≡ j = column-is (m .pattern) columns j k w in
         (k, subst (KeptEntry m) (E .place) (place-kept j (E .number) h (E .stands)), d, ap (rowFor c) d ∙ q)
 
-    pub general-set : Bounded n m (c .perm) set
+    pub general-set : Bounded m (c .perm) set
     general-set = record { entries = entries; pairs = pair-entry }
 
     -- ---- the logarithms
@@ -140,27 +140,27 @@ module _ (n : ℕ) (m : Matrix) (s : Slices) (fine : wholeGeneralFault n m s ≡
     Value k = getD (m .values) k nan
 
     abbrev column : ℕ → ℕ
-    column k = columnOf (patternOf n m) k
+    column k = columnOf (m .pattern) k
 
-    at-most : (i j k : ℕ) → KeptEntry m k → EntryAt n m k i j → LogAtMost (Value k) (rowPotential c i) (columnPotential (keptColumns m) logs c j)
+    at-most : (i j k : ℕ) → KeptEntry m k → EntryAt m k i j → LogAtMost (Value k) (rowPotential c i) (columnPotential (keptColumns m) logs c j)
     at-most i j k K (r, d) =
         subst (λ (x : ℕ). LogAtMost (Value k) (rowPotential c x) (columnPotential (keptColumns m) logs c j)) r
-        (subst (λ (x : ℕ). LogAtMost (Value k) (rowPotential c (getD (m .rows) k 0)) (columnPotential (keptColumns m) logs c x)) d
-        (made-at-most n (keptColumns m) (m .values) logs general-columns c C (placed k K .1)))
+        (subst (λ (x : ℕ). LogAtMost (Value k) (rowPotential c (getD (m .pattern .rowIdx) k 0)) (columnPotential (keptColumns m) logs c x)) d
+        (made-at-most (m .pattern .n) (keptColumns m) (m .values) logs general-columns c C (placed k K .1)))
 
-    tight : (j k : ℕ) → KeptEntry m k → EntryAt n m k (rowFor c j) j
+    tight : (j k : ℕ) → KeptEntry m k → EntryAt m k (rowFor c j) j
         → LogTight (Value k) (rowPotential c (rowFor c j)) (columnPotential (keptColumns m) logs c j)
     tight j k K (r, d) =
         subst (λ (x : ℕ). LogTight (Value k) (rowPotential c x) (columnPotential (keptColumns m) logs c j)) r
-        (subst (λ (x : ℕ). LogTight (Value k) (rowPotential c (getD (m .rows) k 0)) (columnPotential (keptColumns m) logs c x)) d
-        (made-tight n (keptColumns m) (m .values) logs general-columns c C (placed k K .1) (ap (rowFor c) d ∙ sym r)))
+        (subst (λ (x : ℕ). LogTight (Value k) (rowPotential c (getD (m .pattern .rowIdx) k 0)) (columnPotential (keptColumns m) logs c x)) d
+        (made-tight (m .pattern .n) (keptColumns m) (m .values) logs general-columns c C (placed k K .1) (ap (rowFor c) d ∙ sym r)))
 
-    pub general-logs : LogPotentials n m (EntryAt n m) (c .perm)
+    pub general-logs : LogPotentials m (EntryAt m) (c .perm)
     general-logs = record {
       row = rowPotential c;
       column = columnPotential (keptColumns m) logs c;
-      inside = pair-inside n (keptColumns m) (m .values) logs general-columns c C;
-      once = pair-once n (keptColumns m) (m .values) logs general-columns c C;
+      inside = pair-inside (m .pattern .n) (keptColumns m) (m .values) logs general-columns c C;
+      once = pair-once (m .pattern .n) (keptColumns m) (m .values) logs general-columns c C;
       alone = general-alone;
       some = λ k h p. record { stored = h; nonzero = some-kept (Value k) (value-double k h) (value-finite k h) p };
       below = at-most;

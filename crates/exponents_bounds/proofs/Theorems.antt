@@ -44,7 +44,7 @@ use Rattle.exponents_powers.proofs.Exact.{scaled-exactly}
 use Rattle.exponents.specs.Call.{duals, makeExponents, setOf}
 use Rattle.exponents_apply.specs.Apply.{shiftAt, applyFault, scaledValues, applyExponents, Exact}
 use Rattle.exponents_apply.proofs.Accepted.{lengths-are, accepted-is}
-use Rattle.exponents_bounds.specs.Bounds.{patternOf, entryMagnitude, Within, Bounded, SymmetricBounded, LeftWithin, Scales, ScalesSymmetric}
+use Rattle.exponents_bounds.specs.Bounds.{entryMagnitude, Within, Bounded, SymmetricBounded, LeftWithin, Scales, ScalesSymmetric}
 use Rattle.exponents_bounds.proofs.AnyColumns.{LoggedColumns, EntryAt, EitherAt, Alone, LogPotentials, made-set, ours-accepted}
 use Rattle.exponents_bounds.proofs.General.{general-columns, general-set, general-alone, general-logs}
 use Rattle.exponents_bounds.proofs.Symmetric.{symmetric-columns, symmetric-set, symmetric-alone, symmetric-logs}
@@ -120,42 +120,42 @@ applied-exact m e bits values number o z = go (applyFault m e bits) refl o
     go (suc f) fine q = let w : number ≡ suc f = ap (λ (x : Outcome ℕ (List ℕ)). x .answer) q in let y : ⊥ = omega (arith, z, w) in absurd y
 
 -- ---- from the exponents to the values that are left
-module _ {n : ℕ} {m : Matrix} {named : ℕ → Type 0} {e : Exponents} (B : Within n m named e) (bits left : List ℕ) (number : ℕ)
-    (values : m .values ≡ map (ofBits binary64) bits) (stored : length bits ≡ length (m .rows))
-    (exact : Exact (patternOf n m) e bits number left) (fine : number ≡ accepted) where
+module _ {m : Matrix} {named : ℕ → Type 0} {e : Exponents} (B : Within m named e) (bits left : List ℕ) (number : ℕ)
+    (values : m .values ≡ map (ofBits binary64) bits) (stored : length bits ≡ length (m .pattern .rowIdx))
+    (exact : Exact (m .pattern) e bits number left) (fine : number ≡ accepted) where
   abbrev after : ℕ → ℕ
   after k = magnitude (ofBits binary64 (getD left k 0))
 
-  scaled-size : (k : ℕ) → k < length (m .rows) → let shift = shiftAt (patternOf n m) e k in after k * down shift ≡ entryMagnitude m k * up shift
+  scaled-size : (k : ℕ) → k < length (m .pattern .rowIdx) → let shift = shiftAt (m .pattern) e k in after k * down shift ≡ entryMagnitude m k * up shift
   scaled-size k h =
       let l : k < length bits = omega arith in
       let same : getD (m .values) k nan ≡ ofBits binary64 (getD bits k 0) =
       ap (λ (x : List Float). getD x k nan) values ∙ map-at (ofBits binary64) bits k nan l in
-      exact fine k l .size ∙ ap (λ (x : Float). magnitude x * up (shiftAt (patternOf n m) e k)) (sym same)
+      exact fine k l .size ∙ ap (λ (x : Float). magnitude x * up (shiftAt (m .pattern) e k)) (sym same)
 
   pub left-bounded : LeftWithin m named left
   left-bounded = record {
-    below = λ k h. lt-of-mul-lt-mul-right (down (shiftAt (patternOf n m) e k)) (omega (arith, scaled-size k h, B .below k h));
-    above = λ k K q. lt-of-mul-lt-mul-right (down (shiftAt (patternOf n m) e k)) (omega (arith, scaled-size k (K .stored), B .above k K q));
+    below = λ k h. lt-of-mul-lt-mul-right (down (shiftAt (m .pattern) e k)) (omega (arith, scaled-size k h, B .below k h));
+    above = λ k K q. lt-of-mul-lt-mul-right (down (shiftAt (m .pattern) e k)) (omega (arith, scaled-size k (K .stored), B .above k K q));
   }
 
 -- by the call's outcome
-applied-bounded : {n : ℕ} {m : Matrix} {named : ℕ → Type 0} {e : Exponents} → Within n m named e → (bits : List ℕ) → m .values ≡ map (ofBits binary64) bits
-    → (number : ℕ) (values : List ℕ) → outcomeIs number values ≡ applyExponents (patternOf n m) e bits → number ≡ accepted → LeftWithin m named values
-applied-bounded {n} {m} {named} {e} B bits same number values o z = let a = applied-exact (patternOf n m) e bits values number o z in
+applied-bounded : {m : Matrix} {named : ℕ → Type 0} {e : Exponents} → Within m named e → (bits : List ℕ) → m .values ≡ map (ofBits binary64) bits
+    → (number : ℕ) (values : List ℕ) → outcomeIs number values ≡ applyExponents (m .pattern) e bits → number ≡ accepted → LeftWithin m named values
+applied-bounded {m} {named} {e} B bits same number values o z = let a = applied-exact (m .pattern) e bits values number o z in
     left-bounded B bits values number same (a .0) (a .1) z
 
-scales : (n : ℕ) (m : Matrix) (bits : List ℕ) → m .values ≡ map (ofBits binary64) bits → {perm : List ℕ} {e : Exponents} → Bounded n m perm e
-    → Scales n m bits perm e
-scales n m bits same B = record { bounded = B; left = applied-bounded (B .entries) bits same }
+scales : (m : Matrix) (bits : List ℕ) → m .values ≡ map (ofBits binary64) bits → {perm : List ℕ} {e : Exponents} → Bounded m perm e
+    → Scales m bits perm e
+scales m bits same B = record { bounded = B; left = applied-bounded (B .entries) bits same }
 
-scales-symmetric : (n : ℕ) (m : Matrix) (bits : List ℕ) → m .values ≡ map (ofBits binary64) bits → {perm : List ℕ} {e : Exponents}
-    → SymmetricBounded n m perm e → ScalesSymmetric n m bits perm e
-scales-symmetric n m bits same {perm} {e} B = record {
+scales-symmetric : (m : Matrix) (bits : List ℕ) → m .values ≡ map (ofBits binary64) bits → {perm : List ℕ} {e : Exponents}
+    → SymmetricBounded m perm e → ScalesSymmetric m bits perm e
+scales-symmetric m bits same {perm} {e} B = record {
   bounded = B;
   left = applied-bounded (B .entries) bits same;
   leftMirrors = applied-bounded (B .mirrors) bits same;
-  general = λ full fullBits alike F. scales n full fullBits alike (general-form n m full perm e F B);
+  general = λ full fullBits alike F. scales full fullBits alike (general-form m full perm e F B);
 }
 
 -- ---- the graph that is left, of either kind
@@ -231,91 +231,95 @@ largest-left : (n : ℕ) (g : GraphColumns) (logs : List Float) (s after : Slice
 unfolding built
 largest-left n g logs s after e = ap (λ (x : Slices). x .cmax) e
 
-module _ (n : ℕ) (m : Matrix) (bits : List ℕ) (same : m .values ≡ map (ofBits binary64) bits) (s after : Slices) (a : Built) where
+module _ (m : Matrix) (bits : List ℕ) (same : m .values ≡ map (ofBits binary64) bits) (s after : Slices) (a : Built) where
   abbrev logs : List Float
   logs = valueLogs (m .values)
 
   doubles : Doubles (m .values)
   doubles = bits-double (m .values) bits same
 
-  general-prepared : outcomeIs a after ≡ wholeGeneralGraph n m s → numberOf a ≡ accepted → Prepared n after (Scales n m bits)
+  general-prepared : outcomeIs a after ≡ wholeGeneralGraph m s → numberOf a ≡ accepted → Prepared (m .pattern .n) after (Scales m bits)
   unfolding wholeGeneralGraph
   general-prepared o z =
-      let fine : wholeGeneralFault n m s ≡ 0 = none-wrong n (keptColumns m) logs s after a (wholeGeneralFault n m s) o z in
-      let e = left-built n (keptColumns m) logs s after a (wholeGeneralFault n m s) o fine in
-      prepared n (keptColumns m) (m .values) logs after (Scales n m bits) (general-columns n m s fine doubles) (left-is n (keptColumns m) m s after e)
-      (largest-left n (keptColumns m) logs s after e) (general-optimal n m s fine doubles after e)
-      (λ c C. scales n m bits same (general-set n m s fine doubles c C))
+      let fine : wholeGeneralFault m s ≡ 0 = none-wrong (m .pattern .n) (keptColumns m) logs s after a (wholeGeneralFault m s) o z in
+      let e = left-built (m .pattern .n) (keptColumns m) logs s after a (wholeGeneralFault m s) o fine in
+      prepared (m .pattern .n) (keptColumns m) (m .values) logs after (Scales m bits) (general-columns m s fine doubles) (left-is (keptColumns m) m s after e)
+      (largest-left (m .pattern .n) (keptColumns m) logs s after e) (general-optimal m s fine doubles after e)
+      (λ c C. scales m bits same (general-set m s fine doubles c C))
 
-  symmetric-prepared : outcomeIs a after ≡ wholeSymmetricGraph n m s → numberOf a ≡ accepted → Prepared n after (ScalesSymmetric n m bits)
+  symmetric-prepared : outcomeIs a after ≡ wholeSymmetricGraph m s → numberOf a ≡ accepted → Prepared (m .pattern .n) after (ScalesSymmetric m bits)
   unfolding wholeSymmetricGraph
   symmetric-prepared o z =
-      let fine : wholeSymmetricFault n m s ≡ 0 = none-wrong n (mirroredColumns m) logs s after a (wholeSymmetricFault n m s) o z in
-      let e = left-built n (mirroredColumns m) logs s after a (wholeSymmetricFault n m s) o fine in
-      prepared n (mirroredColumns m) (m .values) logs after (ScalesSymmetric n m bits) (symmetric-columns n m s fine doubles)
-      (left-is n (mirroredColumns m) m s after e) (largest-left n (mirroredColumns m) logs s after e) (symmetric-optimal n m s fine doubles after e)
-      (λ c C. scales-symmetric n m bits same (symmetric-set n m s fine doubles c C))
+      let fine : wholeSymmetricFault m s ≡ 0 = none-wrong (m .pattern .n) (mirroredColumns m) logs s after a (wholeSymmetricFault m s) o z in
+      let e = left-built (m .pattern .n) (mirroredColumns m) logs s after a (wholeSymmetricFault m s) o fine in
+      prepared (m .pattern .n) (mirroredColumns m) (m .values) logs after (ScalesSymmetric m bits) (symmetric-columns m s fine doubles)
+      (left-is (mirroredColumns m) m s after e) (largest-left (m .pattern .n) (mirroredColumns m) logs s after e) (symmetric-optimal m s fine doubles after e)
+      (λ c C. scales-symmetric m bits same (symmetric-set m s fine doubles c C))
 
   -- ---- what the product needs
   -- no two entries of an accepted matrix are in one place
-  pub general-once : outcomeIs a after ≡ wholeGeneralGraph n m s → numberOf a ≡ accepted → Alone m (EntryAt n m)
+  pub general-once : outcomeIs a after ≡ wholeGeneralGraph m s → numberOf a ≡ accepted → Alone m (EntryAt m)
   unfolding wholeGeneralGraph
-  general-once o z = general-alone n m s (none-wrong n (keptColumns m) logs s after a (wholeGeneralFault n m s) o z) doubles
+  general-once o z = general-alone m s (none-wrong (m .pattern .n) (keptColumns m) logs s after a (wholeGeneralFault m s) o z) doubles
 
-  pub symmetric-once : outcomeIs a after ≡ wholeSymmetricGraph n m s → numberOf a ≡ accepted → Alone m (EitherAt n m)
+  pub symmetric-once : outcomeIs a after ≡ wholeSymmetricGraph m s → numberOf a ≡ accepted → Alone m (EitherAt m)
   unfolding wholeSymmetricGraph
-  symmetric-once o z = symmetric-alone n m s (none-wrong n (mirroredColumns m) logs s after a (wholeSymmetricFault n m s) o z) doubles
+  symmetric-once o z = symmetric-alone m s (none-wrong (m .pattern .n) (mirroredColumns m) logs s after a (wholeSymmetricFault m s) o z) doubles
 
   -- the costs of the graph that is left are whole, and a certified match of it has potentials
-  pub general-left : outcomeIs a after ≡ wholeGeneralGraph n m s → numberOf a ≡ accepted
-      → WholeGraph (graphLeft n after) × ((c : Claim) → Certified (graphLeft n after) c → LogPotentials n m (EntryAt n m) (c .perm))
+  pub general-left : outcomeIs a after ≡ wholeGeneralGraph m s → numberOf a ≡ accepted
+      → WholeGraph (graphLeft (m .pattern .n) after) × ((c : Claim) → Certified (graphLeft (m .pattern .n) after) c → LogPotentials m (EntryAt m) (c .perm))
   unfolding wholeGeneralGraph
   general-left o z =
-      let fine : wholeGeneralFault n m s ≡ 0 = none-wrong n (keptColumns m) logs s after a (wholeGeneralFault n m s) o z in
-      let e = left-built n (keptColumns m) logs s after a (wholeGeneralFault n m s) o fine in
-      let W = general-optimal n m s fine doubles after e in
-      (W, λ c C. general-logs n m s fine doubles c (subst (λ (x : CostGraph). Certified x c) (left-is n (keptColumns m) m s after e) C))
+      let fine : wholeGeneralFault m s ≡ 0 = none-wrong (m .pattern .n) (keptColumns m) logs s after a (wholeGeneralFault m s) o z in
+      let e = left-built (m .pattern .n) (keptColumns m) logs s after a (wholeGeneralFault m s) o fine in
+      let W = general-optimal m s fine doubles after e in
+      (W, λ c C. general-logs m s fine doubles c (subst (λ (x : CostGraph). Certified x c) (left-is (keptColumns m) m s after e) C))
 
-  pub symmetric-left : outcomeIs a after ≡ wholeSymmetricGraph n m s → numberOf a ≡ accepted
-      → WholeGraph (graphLeft n after) × ((c : Claim) → Certified (graphLeft n after) c → LogPotentials n m (EitherAt n m) (c .perm))
+  pub symmetric-left : outcomeIs a after ≡ wholeSymmetricGraph m s → numberOf a ≡ accepted
+      → WholeGraph (graphLeft (m .pattern .n) after) × ((c : Claim) → Certified (graphLeft (m .pattern .n) after) c → LogPotentials m (EitherAt m) (c .perm))
   unfolding wholeSymmetricGraph
   symmetric-left o z =
-      let fine : wholeSymmetricFault n m s ≡ 0 = none-wrong n (mirroredColumns m) logs s after a (wholeSymmetricFault n m s) o z in
-      let e = left-built n (mirroredColumns m) logs s after a (wholeSymmetricFault n m s) o fine in
-      let W = symmetric-optimal n m s fine doubles after e in
-      (W, λ c C. symmetric-logs n m s fine doubles c (subst (λ (x : CostGraph). Certified x c) (left-is n (mirroredColumns m) m s after e) C))
+      let fine : wholeSymmetricFault m s ≡ 0 = none-wrong (m .pattern .n) (mirroredColumns m) logs s after a (wholeSymmetricFault m s) o z in
+      let e = left-built (m .pattern .n) (mirroredColumns m) logs s after a (wholeSymmetricFault m s) o fine in
+      let W = symmetric-optimal m s fine doubles after e in
+      (W, λ c C. symmetric-logs m s fine doubles c (subst (λ (x : CostGraph). Certified x c) (left-is (mirroredColumns m) m s after e) C))
 
   -- ---- the theorems
   -- `whole_general_graph` accepts, `hungarian_match` of the graph left accepts and matches all n columns: then `exponents` of what is left accepts,
   -- and what it makes brings all below 2 and the matched above 1/4, of the values that `apply_exponents` leaves too
-  pub general-ends : outcomeIs a after ≡ wholeGeneralGraph n m s → numberOf a ≡ accepted
-      → (before left : Match.Slices) (answer : Answer) (old : List ℕ) → outcomeIs answer left ≡ Match.matchOutcome (graphLeft n after) before
-      → Match.numberOf answer ≡ accepted → getD (Match.countsLeft answer old) 0 0 ≡ n
-      → (rows columns : List ℤ) → length rows ≡ n → length columns ≡ n
-      → (number : ℕ) (e : Exponents) → outcomeIs number e ≡ makeExponents n (duals (left .u) (left .v) (after .cmax)) rows columns
-      → (number ≡ accepted) × Scales n m bits (left .perm) e
+  pub general-ends : outcomeIs a after ≡ wholeGeneralGraph m s → numberOf a ≡ accepted
+      → (before left : Match.Slices) (answer : Answer) (old : List ℕ) → outcomeIs answer left ≡ Match.matchOutcome (graphLeft (m .pattern .n) after) before
+      → Match.numberOf answer ≡ accepted → getD (Match.countsLeft answer old) 0 0 ≡ m .pattern .n
+      → (rows columns : List ℤ) → length rows ≡ m .pattern .n → length columns ≡ m .pattern .n
+      → (number : ℕ) (e : Exponents) → outcomeIs number e ≡ makeExponents (m .pattern .n) (duals (left .u) (left .v) (after .cmax)) rows columns
+      → (number ≡ accepted) × Scales m bits (left .perm) e
   general-ends o z = ours-end (general-prepared o z)
 
   -- the same of `whole_symmetric_graph`: the entries of the stored triangle and their mirrors, and so the general form
-  pub symmetric-ends : outcomeIs a after ≡ wholeSymmetricGraph n m s → numberOf a ≡ accepted
-      → (before left : Match.Slices) (answer : Answer) (old : List ℕ) → outcomeIs answer left ≡ Match.matchOutcome (graphLeft n after) before
-      → Match.numberOf answer ≡ accepted → getD (Match.countsLeft answer old) 0 0 ≡ n
-      → (rows columns : List ℤ) → length rows ≡ n → length columns ≡ n
-      → (number : ℕ) (e : Exponents) → outcomeIs number e ≡ makeExponents n (duals (left .u) (left .v) (after .cmax)) rows columns
-      → (number ≡ accepted) × ScalesSymmetric n m bits (left .perm) e
+  pub symmetric-ends : outcomeIs a after ≡ wholeSymmetricGraph m s → numberOf a ≡ accepted
+      → (before left : Match.Slices) (answer : Answer) (old : List ℕ) → outcomeIs answer left ≡ Match.matchOutcome (graphLeft (m .pattern .n) after) before
+      → Match.numberOf answer ≡ accepted → getD (Match.countsLeft answer old) 0 0 ≡ m .pattern .n
+      → (rows columns : List ℤ) → length rows ≡ m .pattern .n → length columns ≡ m .pattern .n
+      → (number : ℕ) (e : Exponents) → outcomeIs number e ≡ makeExponents (m .pattern .n) (duals (left .u) (left .v) (after .cmax)) rows columns
+      → (number ≡ accepted) × ScalesSymmetric m bits (left .perm) e
   symmetric-ends o z = ours-end (symmetric-prepared o z)
 
   -- whoever made a match that `check_match` accepts on such a graph: where `exponents` accepts it, the same holds. It may refuse it with 43 (Examples.antt)
-  pub checked-general-ends : outcomeIs a after ≡ wholeGeneralGraph n m s → numberOf a ≡ accepted
-      → (c : Claim) → Doubles (c .u) → Doubles (c .v) → (verdict : Verdict) → verdict ≡ checked (graphLeft n after) c → Check.numberOf verdict ≡ accepted
-      → (rows columns : List ℤ) (number : ℕ) (e : Exponents) → outcomeIs number e ≡ makeExponents n (duals (c .u) (c .v) (after .cmax)) rows columns
+  pub checked-general-ends : outcomeIs a after ≡ wholeGeneralGraph m s → numberOf a ≡ accepted
+      → (c : Claim) → Doubles (c .u) → Doubles (c .v) → (verdict : Verdict) → verdict ≡ checked (graphLeft (m .pattern .n) after) c
+      → Check.numberOf verdict ≡ accepted
+      → (rows columns : List ℤ) (number : ℕ) (e : Exponents) → outcomeIs number e ≡ makeExponents (m .pattern .n)
+      (duals (c .u) (c .v) (after .cmax)) rows columns
       → number ≡ accepted
-      → Scales n m bits (c .perm) e
+      → Scales m bits (c .perm) e
   checked-general-ends o z = checked-end (general-prepared o z)
 
-  pub checked-symmetric-ends : outcomeIs a after ≡ wholeSymmetricGraph n m s → numberOf a ≡ accepted
-      → (c : Claim) → Doubles (c .u) → Doubles (c .v) → (verdict : Verdict) → verdict ≡ checked (graphLeft n after) c → Check.numberOf verdict ≡ accepted
-      → (rows columns : List ℤ) (number : ℕ) (e : Exponents) → outcomeIs number e ≡ makeExponents n (duals (c .u) (c .v) (after .cmax)) rows columns
+  pub checked-symmetric-ends : outcomeIs a after ≡ wholeSymmetricGraph m s → numberOf a ≡ accepted
+      → (c : Claim) → Doubles (c .u) → Doubles (c .v) → (verdict : Verdict) → verdict ≡ checked (graphLeft (m .pattern .n) after) c
+      → Check.numberOf verdict ≡ accepted
+      → (rows columns : List ℤ) (number : ℕ) (e : Exponents) → outcomeIs number e ≡ makeExponents (m .pattern .n)
+      (duals (c .u) (c .v) (after .cmax)) rows columns
       → number ≡ accepted
-      → ScalesSymmetric n m bits (c .perm) e
+      → ScalesSymmetric m bits (c .perm) e
   checked-symmetric-ends o z = checked-end (symmetric-prepared o z)

@@ -12,7 +12,7 @@ use lib.ListN.{length, getD}
 use Rattle.slices.specs.Outcome.{outcomeIs}
 use Rattle.float64.specs.Number.{unitsPerOne, magnitude}
 use Rattle.sparse.specs.Matrix.{Matrix}
-use Rattle.sparse.specs.Pattern.{Pattern, pattern, columnOf}
+use Rattle.sparse.specs.Pattern.{columnOf}
 use Rattle.mc64_general.specs.Graph.{isKept}
 use Rattle.refusal.specs.Refusal.{accepted}
 use Rattle.exponents_powers.specs.Power.{Exponents, exponents}
@@ -20,22 +20,18 @@ use Rattle.exponents_apply.specs.Apply.{shiftAt}
 use Rattle.exponents_apply.specs.Apply.{applyExponents}
 
 -- ---- entries
--- where the entries stand
-abbrev pub patternOf : ℕ → Matrix → Pattern
-patternOf n m = pattern n (m .colPtr) (m .rows)
-
 -- stored entry k has a value that is finite and not zero
 pub record KeptEntry (m : Matrix) (k : ℕ) : Type 0 where
-  pub stored : k < length (m .rows)
+  pub stored : k < length (m .pattern .rowIdx)
   pub nonzero : isKept (getD (m .values) k nan) ≡ true
 
 -- its column j is matched with its row: that is perm j
-abbrev pub IsMatched : ℕ → Matrix → List ℕ → ℕ → Type 0
-IsMatched n m perm k = getD perm (columnOf (patternOf n m) k) 0 ≡ getD (m .rows) k 0
+abbrev pub IsMatched : Matrix → List ℕ → ℕ → Type 0
+IsMatched m perm k = getD perm (columnOf (m .pattern) k) 0 ≡ getD (m .pattern .rowIdx) k 0
 
 -- its mirror is matched: with its row as a column, perm of that is its column
-abbrev pub IsMirrorMatched : ℕ → Matrix → List ℕ → ℕ → Type 0
-IsMirrorMatched n m perm k = getD perm (getD (m .rows) k 0) 0 ≡ columnOf (patternOf n m) k
+abbrev pub IsMirrorMatched : Matrix → List ℕ → ℕ → Type 0
+IsMirrorMatched m perm k = getD perm (getD (m .pattern .rowIdx) k 0) 0 ≡ columnOf (m .pattern) k
 
 -- the magnitude of entry k before scaling
 abbrev pub entryMagnitude : Matrix → ℕ → ℕ
@@ -56,14 +52,16 @@ abbrev pub Scaled : (ℕ → ℕ → Type 0) → ℕ → ℤ → Type 0
 Scaled Bound size shift = Bound (size * up shift) (unitsPerOne * down shift)
 
 -- every stored entry that e scales is below 2, and every kept one of those named above 1/4
-pub record Within (n : ℕ) (m : Matrix) (named : ℕ → Type 0) (e : Exponents) : Type 0 where
-  pub below : (k : ℕ) → k < length (m .rows) → Scaled BelowTwo (entryMagnitude m k) (shiftAt (patternOf n m) e k)
-  pub above : (k : ℕ) → KeptEntry m k → named k → Scaled AboveQuarter (entryMagnitude m k) (shiftAt (patternOf n m) e k)
+pub record Within (m : Matrix) (named : ℕ → Type 0) (e : Exponents) : Type 0 where
+  pub below : (k : ℕ) → k < length (m .pattern .rowIdx)
+      → Scaled BelowTwo (entryMagnitude m k) (shiftAt (m .pattern) e k)
+  pub above : (k : ℕ) → KeptEntry m k → named k → Scaled AboveQuarter (entryMagnitude m k) (shiftAt (m .pattern) e k)
 
 -- a general matrix: the matched entries are above 1/4, and each column's pair (perm j, j) is one
-pub record Bounded (n : ℕ) (m : Matrix) (perm : List ℕ) (e : Exponents) : Type 0 where
-  pub entries : Within n m (IsMatched n m perm) e
-  pub pairs : (j : ℕ) → j < n → (k : ℕ) × KeptEntry m k × (columnOf (patternOf n m) k ≡ j) × IsMatched n m perm k
+pub record Bounded (m : Matrix) (perm : List ℕ) (e : Exponents) : Type 0 where
+  pub entries : Within m (IsMatched m perm) e
+  pub pairs : (j : ℕ) → j < m .pattern .n
+      → (k : ℕ) × KeptEntry m k × (columnOf (m .pattern) k ≡ j) × IsMatched m perm k
 
 -- the exponents of the mirrors: entry (i, j) that is stored stands for (j, i) too, so rows and columns change places
 abbrev pub swapped : Exponents → Exponents
@@ -71,64 +69,68 @@ swapped e = exponents (e .columns) (e .rows)
 
 -- a symmetric matrix, of which the lower triangle is stored: the same of its entries and of their mirrors, and each
 -- column's pair (perm j, j) is an entry or the mirror of one
-pub record SymmetricBounded (n : ℕ) (m : Matrix) (perm : List ℕ) (e : Exponents) : Type 0 where
-  pub entries : Within n m (IsMatched n m perm) e
-  pub mirrors : Within n m (IsMirrorMatched n m perm) (swapped e)
-  pub pairs : (j : ℕ) → j < n
-      → (k : ℕ) × KeptEntry m k × (((columnOf (patternOf n m) k ≡ j) × IsMatched n m perm k)
-      ⊎ ((getD (m .rows) k 0 ≡ j) × IsMirrorMatched n m perm k))
+pub record SymmetricBounded (m : Matrix) (perm : List ℕ) (e : Exponents) : Type 0 where
+  pub entries : Within m (IsMatched m perm) e
+  pub mirrors : Within m (IsMirrorMatched m perm) (swapped e)
+  pub pairs : (j : ℕ) → j < m .pattern .n
+      → (k : ℕ) × KeptEntry m k × (((columnOf (m .pattern) k ≡ j) × IsMatched m perm k)
+      ⊎ ((getD (m .pattern .rowIdx) k 0 ≡ j) × IsMirrorMatched m perm k))
 
 -- ---- the values that are left, taken by their bits
 pub record LeftWithin (m : Matrix) (named : ℕ → Type 0) (left : List ℕ) : Type 0 where
-  pub below : (k : ℕ) → k < length (m .rows) → BelowTwo (magnitude (ofBits binary64 (getD left k 0))) unitsPerOne
+  pub below : (k : ℕ) → k < length (m .pattern .rowIdx)
+      → BelowTwo (magnitude (ofBits binary64 (getD left k 0))) unitsPerOne
   pub above : (k : ℕ) → KeptEntry m k → named k → AboveQuarter (magnitude (ofBits binary64 (getD left k 0))) unitsPerOne
 
 -- the stored entries
-abbrev pub LeftBounded : ℕ → Matrix → List ℕ → List ℕ → Type 0
-LeftBounded n m perm left = LeftWithin m (IsMatched n m perm) left
+abbrev pub LeftBounded : Matrix → List ℕ → List ℕ → Type 0
+LeftBounded m perm left = LeftWithin m (IsMatched m perm) left
 
 -- their mirrors
-abbrev pub LeftMirrors : ℕ → Matrix → List ℕ → List ℕ → Type 0
-LeftMirrors n m perm left = LeftWithin m (IsMirrorMatched n m perm) left
+abbrev pub LeftMirrors : Matrix → List ℕ → List ℕ → Type 0
+LeftMirrors m perm left = LeftWithin m (IsMirrorMatched m perm) left
 
 -- what e does to a general matrix whose values have these bits: the exact bounds, and those of what `apply_exponents`
 -- leaves where it accepts
-pub record Scales (n : ℕ) (m : Matrix) (bits perm : List ℕ) (e : Exponents) : Type 0 where
-  pub bounded : Bounded n m perm e
-  pub left : (number : ℕ) (values : List ℕ) → outcomeIs number values ≡ applyExponents (patternOf n m) e bits
-      → number ≡ accepted → LeftBounded n m perm values
+pub record Scales (m : Matrix) (bits perm : List ℕ) (e : Exponents) : Type 0 where
+  pub bounded : Bounded m perm e
+  pub left : (number : ℕ) (values : List ℕ) → outcomeIs number values ≡ applyExponents (m .pattern) e bits
+      → number ≡ accepted → LeftBounded m perm values
 
 -- ---- both triangles of a symmetric matrix as a general one
 -- place l holds the value x, at row i and column j
-pub record HoldsAt (n : ℕ) (full : Matrix) (x : Float) (i j l : ℕ) : Type 0 where
-  pub stored : l < length (full .rows)
+pub record HoldsAt (full : Matrix) (x : Float) (i j l : ℕ) : Type 0 where
+  pub stored : l < length (full .pattern .rowIdx)
   pub value : getD (full .values) l nan ≡ x
-  pub row : getD (full .rows) l 0 ≡ i
-  pub column : columnOf (patternOf n full) l ≡ j
+  pub row : getD (full .pattern .rowIdx) l 0 ≡ i
+  pub column : columnOf (full .pattern) l ≡ j
 
 -- place l holds stored entry k, or its mirror
-abbrev pub HoldsEntry : ℕ → Matrix → Matrix → ℕ → ℕ → Type 0
-HoldsEntry n m full k l = HoldsAt n full (getD (m .values) k nan) (getD (m .rows) k 0) (columnOf (patternOf n m) k) l
+abbrev pub HoldsEntry : Matrix → Matrix → ℕ → ℕ → Type 0
+HoldsEntry m full k l =
+    HoldsAt full (getD (m .values) k nan) (getD (m .pattern .rowIdx) k 0) (columnOf (m .pattern) k) l
 
-abbrev pub HoldsMirror : ℕ → Matrix → Matrix → ℕ → ℕ → Type 0
-HoldsMirror n m full k l = HoldsAt n full (getD (m .values) k nan) (columnOf (patternOf n m) k) (getD (m .rows) k 0) l
+abbrev pub HoldsMirror : Matrix → Matrix → ℕ → ℕ → Type 0
+HoldsMirror m full k l =
+    HoldsAt full (getD (m .values) k nan) (columnOf (m .pattern) k) (getD (m .pattern .rowIdx) k 0) l
 
--- each entry and each mirror has its place, and no place holds anything else
-pub record GeneralForm (n : ℕ) (m full : Matrix) : Type 0 where
-  pub entry : (k : ℕ) → k < length (m .rows) → (l : ℕ) × HoldsEntry n m full k l
-  pub mirror : (k : ℕ) → k < length (m .rows) → (l : ℕ) × HoldsMirror n m full k l
-  pub each : (l : ℕ) → l < length (full .rows)
-      → (k : ℕ) × (k < length (m .rows)) × (HoldsEntry n m full k l ⊎ HoldsMirror n m full k l)
+-- there are as many columns, each entry and each mirror has its place, and no place holds anything else
+pub record GeneralForm (m full : Matrix) : Type 0 where
+  pub columns : full .pattern .n ≡ m .pattern .n
+  pub entry : (k : ℕ) → k < length (m .pattern .rowIdx) → (l : ℕ) × HoldsEntry m full k l
+  pub mirror : (k : ℕ) → k < length (m .pattern .rowIdx) → (l : ℕ) × HoldsMirror m full k l
+  pub each : (l : ℕ) → l < length (full .pattern .rowIdx)
+      → (k : ℕ) × (k < length (m .pattern .rowIdx)) × (HoldsEntry m full k l ⊎ HoldsMirror m full k l)
 
 -- what e does to a symmetric matrix, by either way to scale it: `apply_exponents` takes the stored triangle as a
 -- general matrix, once with e for the entries that are stored, and once with the swapped set for their mirrors; or it
 -- takes the general form, once, with e
-pub record ScalesSymmetric (n : ℕ) (m : Matrix) (bits perm : List ℕ) (e : Exponents) : Type 0 where
-  pub bounded : SymmetricBounded n m perm e
-  pub left : (number : ℕ) (values : List ℕ) → outcomeIs number values ≡ applyExponents (patternOf n m) e bits
-      → number ≡ accepted → LeftBounded n m perm values
+pub record ScalesSymmetric (m : Matrix) (bits perm : List ℕ) (e : Exponents) : Type 0 where
+  pub bounded : SymmetricBounded m perm e
+  pub left : (number : ℕ) (values : List ℕ) → outcomeIs number values ≡ applyExponents (m .pattern) e bits
+      → number ≡ accepted → LeftBounded m perm values
   pub leftMirrors : (number : ℕ) (values : List ℕ)
-      → outcomeIs number values ≡ applyExponents (patternOf n m) (swapped e) bits
-      → number ≡ accepted → LeftMirrors n m perm values
+      → outcomeIs number values ≡ applyExponents (m .pattern) (swapped e) bits
+      → number ≡ accepted → LeftMirrors m perm values
   pub general : (full : Matrix) (fullBits : List ℕ) → full .values ≡ map (ofBits binary64) fullBits
-      → GeneralForm n m full → Scales n full fullBits perm e
+      → GeneralForm m full → Scales full fullBits perm e

@@ -47,10 +47,10 @@ unfoldable pub greater : ℕ
 greater = 174536318
 
 abbrev even : Matrix
-even = matrix (0 ∷ 2 ∷ 4 ∷ []) (0 ∷ 1 ∷ 0 ∷ 1 ∷ []) (map (ofBits binary64) (174536318 ∷ 174534472 ∷ 174534472 ∷ 174536318 ∷ []))
+even = matrix 2 (0 ∷ 2 ∷ 4 ∷ []) (0 ∷ 1 ∷ 0 ∷ 1 ∷ []) (map (ofBits binary64) (174536318 ∷ 174534472 ∷ 174534472 ∷ 174536318 ∷ []))
 
 abbrev even-builds : Outcome Built Graphs.Slices
-even-builds = wholeGeneralGraph 2 even (Graphs.slices (zeros 3) (zeros 4) (blanks 4) (blanks 2) (zeros 10))
+even-builds = wholeGeneralGraph even (Graphs.slices (zeros 3) (zeros 4) (blanks 4) (blanks 2) (zeros 10))
 
 abbrev even-matches : Outcome Answer Match.Slices
 even-matches = Match.matchOutcome (graphLeft 2 (even-builds .after)) (Match.slices (zeros 2) (blanks 2) (blanks 2) (zeros 25) (blanks 4))
@@ -63,8 +63,8 @@ unfolding wholeGeneralGraph generalInputFault finiteFault frameFault generalFaul
     costFault inRange sizeFault pointerFault firstOf generalColumns generalColumn magnitude unitsPerOne ofInt ofBits lt le eq ne add sub neg columnOf sumTo
 even-matched = (refl, refl, refl, refl)
 
-pub even-products : (productOf 2 (generalSize 2 even) (rowsOf (1 ∷ 0 ∷ [])) ≡ lesser * lesser)
-    × (productOf 2 (generalSize 2 even) (rowsOf (0 ∷ 1 ∷ [])) ≡ greater * greater)
+pub even-products : (productOf 2 (generalSize even) (rowsOf (1 ∷ 0 ∷ [])) ≡ lesser * lesser)
+    × (productOf 2 (generalSize even) (rowsOf (0 ∷ 1 ∷ [])) ≡ greater * greater)
 unfolding magnitude unitsPerOne ofBits columnOf sumTo sizeBy productTo lesser greater
 even-products = (refl, refl)
 
@@ -92,17 +92,17 @@ unfolding lesser greater
 even-apart = apart 16384 lesser greater 47275 47273 (omega arith) (leb-true _ _ refl) (ltb-true _ _ refl)
 
 -- with 2 ^ n in the place of 2 ^ (2 * n) the bound is false of it
-pub even-far : 2 ^ 2 * productOf 2 (generalSize 2 even) (rowsOf (1 ∷ 0 ∷ [])) ^ 65536 < productOf 2 (generalSize 2 even) (rowsOf (0 ∷ 1 ∷ [])) ^ 65536
+pub even-far : 2 ^ 2 * productOf 2 (generalSize even) (rowsOf (1 ∷ 0 ∷ [])) ^ 65536 < productOf 2 (generalSize even) (rowsOf (0 ∷ 1 ∷ [])) ^ 65536
 even-far =
     rw (even-products .0, even-products .1, product-power lesser lesser 65536, product-power greater greater 65536)
     (squares (lesser ^ 65536) (greater ^ 65536) even-apart)
 
 -- ---- a symmetric matrix of two columns: 3 and 1 in the first, whose mirror is 1 in the second, which has no other
 abbrev triangle : Matrix
-triangle = matrix (0 ∷ 2 ∷ 2 ∷ []) (0 ∷ 1 ∷ []) (map (ofBits binary64) (0x4008_0000_0000_0000 ∷ 0x3FF0_0000_0000_0000 ∷ []))
+triangle = matrix 2 (0 ∷ 2 ∷ 2 ∷ []) (0 ∷ 1 ∷ []) (map (ofBits binary64) (0x4008_0000_0000_0000 ∷ 0x3FF0_0000_0000_0000 ∷ []))
 
 abbrev triangle-builds : Outcome Built Graphs.Slices
-triangle-builds = wholeSymmetricGraph 2 triangle (Graphs.slices (zeros 3) (zeros 4) (blanks 4) (blanks 2) (zeros 8))
+triangle-builds = wholeSymmetricGraph triangle (Graphs.slices (zeros 3) (zeros 4) (blanks 4) (blanks 2) (zeros 8))
 
 abbrev triangle-matches : Outcome Answer Match.Slices
 triangle-matches = Match.matchOutcome (graphLeft 2 (triangle-builds .after)) (Match.slices (zeros 2) (blanks 2) (blanks 2) (zeros 25) (blanks 4))
@@ -110,7 +110,7 @@ triangle-matches = Match.matchOutcome (graphLeft 2 (triangle-builds .after)) (Ma
 -- the 1 at row 1 and column 0 is at row 0 and column 1 too, and has its size at both; the diagonal has 3 and nothing
 pub triangle-matched : (Graphs.numberOf (triangle-builds .answer) ≡ accepted) × (Match.numberOf (triangle-matches .answer) ≡ accepted)
     × (getD (Match.countsLeft (triangle-matches .answer) []) 0 0 ≡ 2) × (triangle-matches .after .perm ≡ 1 ∷ 0 ∷ [])
-    × (productOf 2 (symmetricSize 2 triangle) (rowsOf (1 ∷ 0 ∷ [])) ≡ 2 ^ 1074 * 2 ^ 1074) × (productOf 2 (symmetricSize 2 triangle) (rowsOf (0 ∷ 1 ∷ [])) ≡ 0)
+    × (productOf 2 (symmetricSize triangle) (rowsOf (1 ∷ 0 ∷ [])) ≡ 2 ^ 1074 * 2 ^ 1074) × (productOf 2 (symmetricSize triangle) (rowsOf (0 ∷ 1 ∷ [])) ≡ 0)
 unfolding wholeSymmetricGraph symmetricInputFault finiteFault frameFault symmetricFault symmetricColumns lowerColumn risingColumn Graphs.slicesFit
     Graphs.built Graphs.joined placesTo atMost largest largestFrom normalised wholeLog Match.matchOutcome Match.finished
     Match.matchLengths hungarianMatch graphFault costFault inRange sizeFault pointerFault firstOf generalColumns generalColumn magnitude

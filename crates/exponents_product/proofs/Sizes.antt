@@ -45,19 +45,19 @@ module _ (m : Matrix) (At : ℕ → ℕ → ℕ → Type 0) (at : ℕ → ℕ �
   summand i j k = orZero (at i j k) (entryMagnitude m k)
 
   -- where no two are in one place
-  pub size-is : Alone m At → (i j k : ℕ) → k < length (m .rows) → At k i j → size i j ≡ entryMagnitude m k
+  pub size-is : Alone m At → (i j k : ℕ) → k < length (m .pattern .rowIdx) → At k i j → size i j ≡ entryMagnitude m k
   unfolding sizeBy
-  size-is alone i j k h a = sum-alone (length (m .rows)) (summand i j) k h others ∙ or-zero-true (at i j k) (entryMagnitude m k) (tells i j k a)
+  size-is alone i j k h a = sum-alone (length (m .pattern .rowIdx)) (summand i j) k h others ∙ or-zero-true (at i j k) (entryMagnitude m k) (tells i j k a)
     where
-      others : (l : ℕ) → l < length (m .rows) → l ≢ k → summand i j l ≡ 0
+      others : (l : ℕ) → l < length (m .pattern .rowIdx) → l ≢ k → summand i j l ≡ 0
       others l g d = go (ℕ-discrete (summand i j l) 0)
         where
           go : Dec (summand i j l ≡ 0) → summand i j l ≡ 0
           go (yes e) = e
           go (no e) = absurd (d (alone i j l k g h (says i j l (or-zero-pos (at i j l) (entryMagnitude m l) (omega arith))) a))
 
-module _ (n : ℕ) (m : Matrix) (At : ℕ → ℕ → ℕ → Type 0) (at : ℕ → ℕ → ℕ → Bool)
-    (says : (i j k : ℕ) → T (at i j k) → At k i j) (tells : (i j k : ℕ) → At k i j → T (at i j k)) (perm : List ℕ) (L : LogPotentials n m At perm) where
+module _ (m : Matrix) (At : ℕ → ℕ → ℕ → Type 0) (at : ℕ → ℕ → ℕ → Bool)
+    (says : (i j k : ℕ) → T (at i j k) → At k i j) (tells : (i j k : ℕ) → At k i j → T (at i j k)) (perm : List ℕ) (L : LogPotentials m At perm) where
   abbrev sizes : ℕ → ℕ → ℕ
   sizes i j = sizeBy (at i j) m
 
@@ -70,9 +70,9 @@ module _ (n : ℕ) (m : Matrix) (At : ℕ → ℕ → ℕ → Type 0) (at : ℕ 
   -- nothing, or a kept entry
   size-at : (i j : ℕ) → (sizes i j ≡ 0) ⊎ ((k : ℕ) × KeptEntry m k × At k i j)
   unfolding sizeBy
-  size-at i j = go (some-summand (length (m .rows)) (part i j))
+  size-at i j = go (some-summand (length (m .pattern .rowIdx)) (part i j))
     where
-      go : (sumTo (length (m .rows)) (part i j) ≡ 0) ⊎ ((k : ℕ) × (k < length (m .rows)) × (0 < part i j k))
+      go : (sumTo (length (m .pattern .rowIdx)) (part i j) ≡ 0) ⊎ ((k : ℕ) × (k < length (m .pattern .rowIdx)) × (0 < part i j k))
           → (sizes i j ≡ 0) ⊎ ((k : ℕ) × KeptEntry m k × At k i j)
       go (inl z) = inl z
       go (inr (k, h, p)) =
@@ -95,23 +95,25 @@ module _ (n : ℕ) (m : Matrix) (At : ℕ → ℕ → ℕ → Type 0) (at : ℕ 
           let r = L .below i j k K a in
           inr (record { q = r .q; bound = subst (λ (x : ℕ). x ^ 65536 < 2 ^ (r .q + 2)) (sym (own-size i j k K a)) (r .bounds .below); sum = r .sum })
 
-  tight-at : (j : ℕ) → j < n → Tight 65536 (sizes (rowsOf perm j) j) (ups (rowsOf perm j) j) (downs (rowsOf perm j) j)
+  tight-at : (j : ℕ) → j < m .pattern .n → Tight 65536 (sizes (rowsOf perm j) j) (ups (rowsOf perm j) j) (downs (rowsOf perm j) j)
   tight-at j h =
       let (k, K, a) = L .pair j h in
       let r = L .tight j k K a in
       record { q = r .q; bound = subst (λ (x : ℕ). 2 ^ r .q ≤ x ^ 65536) (sym (own-size (rowsOf perm j) j k K a)) (r .bounds .atMost); sum = r .sum }
 
   -- a pair is not zero
-  pair-some : (j : ℕ) → j < n → 0 < sizes (rowsOf perm j) j
+  pair-some : (j : ℕ) → j < m .pattern .n → 0 < sizes (rowsOf perm j) j
   pair-some j h = some-base 65536 (sizes (rowsOf perm j) j) (omega arith) (lt-of-lt-of-le (pow-pos (tight-at j h .q)) (tight-at j h .bound))
 
-  ours : CompleteChoice n (rowsOf perm)
+  ours : CompleteChoice (m .pattern .n) (rowsOf perm)
   ours = record { inside = L .inside; once = L .once }
 
-  pub near-largest : NearLargest n sizes perm
+  pub near-largest : NearLargest (m .pattern .n) sizes perm
   near-largest = record { complete = ours; some = pair-some; most = λ rows c. both rows c .0; below = λ h rows c. both rows c .1 h }
     where
-      both : (rows : ℕ → ℕ) → CompleteChoice n rows → NearTo 65536 n (productOf n sizes rows) (productOf n sizes (rowsOf perm))
+      both : (rows : ℕ → ℕ) → CompleteChoice (m .pattern .n) rows → NearTo 65536 (m .pattern .n) (productOf (m .pattern .n) sizes rows)
+          (productOf (m .pattern .n) sizes (rowsOf perm))
       both rows c =
-          near 65536 (omega arith) n (1074 * 65536) sizes (λ i. plus (L .row i)) (λ j. plus (L .column j)) (λ i. minus (L .row i)) (λ j. minus (L .column j))
+          near 65536 (omega arith) (m .pattern .n) (1074 * 65536) sizes (λ i. plus (L .row i)) (λ j. plus (L .column j)) (λ i. minus (L .row i))
+          (λ j. minus (L .column j))
           ours tight-at c (λ j h. below-at (rows j) j)

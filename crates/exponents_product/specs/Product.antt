@@ -10,30 +10,30 @@ use lib.ListN.{length, getD}
 use Rattle.matching.specs.Sum.{sumTo, orZero}
 use Rattle.sparse.specs.Matrix.{Matrix}
 use Rattle.sparse.specs.Pattern.{columnOf}
-use Rattle.exponents_bounds.specs.Bounds.{patternOf, entryMagnitude}
+use Rattle.exponents_bounds.specs.Bounds.{entryMagnitude}
 
 -- ---- what stands at (i, j)
 -- stored entry k of a general matrix is at row i and column j
-abbrev pub entryAt : ℕ → Matrix → ℕ → ℕ → ℕ → Bool
-entryAt n m i j k = eqb (getD (m .rows) k 0) i && eqb (columnOf (patternOf n m) k) j
+abbrev pub entryAt : Matrix → ℕ → ℕ → ℕ → Bool
+entryAt m i j k = eqb (getD (m .pattern .rowIdx) k 0) i && eqb (columnOf (m .pattern) k) j
 
 -- of a symmetric matrix, of which the lower triangle is stored, entry k is at (i, j) also if its mirror is: if it is
 -- stored at row j and column i
-abbrev pub eitherAt : ℕ → Matrix → ℕ → ℕ → ℕ → Bool
-eitherAt n m i j k = entryAt n m i j k || entryAt n m j i k
+abbrev pub eitherAt : Matrix → ℕ → ℕ → ℕ → Bool
+eitherAt m i j k = entryAt m i j k || entryAt m j i k
 
 -- the size of the entry at (i, j), whose number is the only one that passes the test: 0 where none is stored, or a zero
 unfoldable pub sizeBy : (ℕ → Bool) → Matrix → ℕ
 unfolding sumTo
-sizeBy at m = sumTo (length (m .rows)) (λ k. orZero (at k) (entryMagnitude m k))
+sizeBy at m = sumTo (length (m .pattern .rowIdx)) (λ k. orZero (at k) (entryMagnitude m k))
 
 -- of a general matrix
-abbrev pub generalSize : ℕ → Matrix → ℕ → ℕ → ℕ
-generalSize n m i j = sizeBy (entryAt n m i j) m
+abbrev pub generalSize : Matrix → ℕ → ℕ → ℕ
+generalSize m i j = sizeBy (entryAt m i j) m
 
 -- of a symmetric matrix: that of the entry at (j, i) as well
-abbrev pub symmetricSize : ℕ → Matrix → ℕ → ℕ → ℕ
-symmetricSize n m i j = sizeBy (eitherAt n m i j) m
+abbrev pub symmetricSize : Matrix → ℕ → ℕ → ℕ
+symmetricSize m i j = sizeBy (eitherAt m i j) m
 
 -- ---- complete choices and their products
 -- w 0 * … * w (n - 1)

@@ -25,7 +25,7 @@ use Rattle.mc64_columns.specs.Graphs.{joined, logsOf, graphLargest}
 use Rattle.mc64_columns.proofs.Graphs.{ones-length, joined-at}
 use Rattle.mc64_columns.proofs.Kept.{map-at}
 use Rattle.mc64_symmetric.specs.Graph.{placesOf, mirroredColumns}
-use Rattle.mc64_symmetric.specs.inner.Steps.{columnsOf, Triangle}
+use Rattle.mc64_symmetric.specs.inner.Steps.{Triangle}
 use Rattle.mc64_symmetric.proofs.Theorems.{taken}
 use Rattle.factors_balance.specs.Balance.{KeptEntry, WholeLogs}
 use Rattle.factors_balance.proofs.Entries.{symmetricGraph, topOf, MadeOf, made}
@@ -77,46 +77,46 @@ module _ (x y : Float) (p : Short x) (q : Short y) where
   difference-key : position (sub binary64 x y) + position y ≡ position x + origin
   difference-key = let a = whole-arithmetic .minus-near x y (p .whole) (q .whole) fits in omega (arith, a .above, a .under)
 
-module _ (n : ℕ) (m : Matrix) (logs : List Float) (t : Triangle m) (size : columnsOf m ≡ n) (whole : WholeLogs m logs)
-    (ranges : (k : ℕ) → KeptEntry m k → inLogRange n (getD logs k nan) ≡ true) where
-  pub log-short : (k : ℕ) → 0 < n → KeptEntry m k → Short (getD logs k nan)
+module _ (m : Matrix) (logs : List Float) (t : Triangle m) (whole : WholeLogs m logs)
+    (ranges : (k : ℕ) → KeptEntry m k → inLogRange (m .pattern .n) (getD logs k nan) ≡ true) where
+  pub log-short : (k : ℕ) → 0 < m .pattern .n → KeptEntry m k → Short (getD logs k nan)
   log-short k some K =
       let w = whole k K in
-      record { whole = w; within = log-within n (getD logs k nan) some (number-whole (getD logs k nan) (w .0) (w .1)) (ranges k K) }
+      record { whole = w; within = log-within (m .pattern .n) (getD logs k nan) some (number-whole (getD logs k nan) (w .0) (w .1)) (ranges k K) }
 
   -- the largest log of a column that is not empty
-  pub top-short : (c : ℕ) → c < n → 0 < length (placesOf m c) → Short (topOf m logs c)
+  pub top-short : (c : ℕ) → c < m .pattern .n → 0 < length (placesOf m c) → Short (topOf m logs c)
   top-short c h some = largest-one Short (logsOf (mirroredColumns m) logs c) (rw length-map some) each
     where
       each : (i : ℕ) → i < length (logsOf (mirroredColumns m) logs c) → Short (getD (logsOf (mirroredColumns m) logs c) i nan)
       each i l =
           let u : i < length (placesOf m c) = rw length-map at l in
-          let p = taken m c (length (m .rows)) i u in
+          let p = taken m c (length (m .pattern .rowIdx)) i u in
           rw (map-at (λ (k : ℕ). getD logs k nan) (placesOf m c) i nan u)
           (log-short (getD (placesOf m c) i 0) (omega arith) (record { stored = p .0; isKept = p .2 }))
 
   -- it stands in its place
-  pub largest-at : (c : ℕ) → c < n → getD (graphLargest (mirroredColumns m) logs n) c nan ≡ topOf m logs c
+  pub largest-at : (c : ℕ) → c < m .pattern .n → getD (graphLargest (mirroredColumns m) logs (m .pattern .n)) c nan ≡ topOf m logs c
   largest-at c h =
-      let e : c + suc (n - suc c) ≡ n = omega arith in
+      let e : c + suc (m .pattern .n - suc c) ≡ m .pattern .n = omega arith in
       let q : length (joined (λ i. topOf m logs i ∷ []) c) + 0 ≡ c = omega (arith, ones-length (topOf m logs) c) in
-      subst (λ (x : ℕ). getD (graphLargest (mirroredColumns m) logs n) x nan ≡ topOf m logs c) q
+      subst (λ (x : ℕ). getD (graphLargest (mirroredColumns m) logs (m .pattern .n)) x nan ≡ topOf m logs c) q
       (subst (λ (x : ℕ). getD (graphLargest (mirroredColumns m) logs x) (length (joined (λ i. topOf m logs i ∷ []) c) + 0) nan ≡ topOf m logs c) e
-      (joined-at (λ i. topOf m logs i ∷ []) nan c (n - suc c) 0 (omega arith)))
+      (joined-at (λ i. topOf m logs i ∷ []) nan c (m .pattern .n - suc c) 0 (omega arith)))
 
   -- ---- entries
-  module _ {e c p : ℕ} (M : MadeOf n m logs t size e c p) where
+  module _ {e c p : ℕ} (M : MadeOf m logs t e c p) where
     entry-log : Short (getD logs p nan)
     entry-log = log-short p (omega (arith, M .inside)) (M .place)
 
     entry-top : Short (topOf m logs c)
     entry-top = top-short c (M .inside) (M .some)
 
-    pub cost-whole : IsWhole (costOf (symmetricGraph n m logs) e)
+    pub cost-whole : IsWhole (costOf (symmetricGraph m logs) e)
     cost-whole = rw (M .cost) (difference-whole (topOf m logs c) (getD logs p nan) entry-top entry-log)
 
-    pub cost-key : position (costOf (symmetricGraph n m logs) e) + position (getD logs p nan) ≡ position (topOf m logs c) + origin
+    pub cost-key : position (costOf (symmetricGraph m logs) e) + position (getD logs p nan) ≡ position (topOf m logs c) + origin
     cost-key = rw (M .cost) (difference-key (topOf m logs c) (getD logs p nan) entry-top entry-log)
 
-  pub costs-whole : WholeCosts (symmetricGraph n m logs)
-  costs-whole e h = cost-whole (made n m logs t size e h .1)
+  pub costs-whole : WholeCosts (symmetricGraph m logs)
+  costs-whole e h = cost-whole (made m logs t e h .1)

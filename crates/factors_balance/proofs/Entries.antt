@@ -21,14 +21,15 @@ use Rattle.mc64_columns.specs.Columns.{largest}
 use Rattle.mc64_columns.specs.Graphs.{logsOf, keptBefore, graphPointers, graphRows, graphCosts}
 use Rattle.mc64_columns.proofs.Entries as Columns
 use Rattle.mc64_symmetric.specs.Graph.{placeRow, placeColumn, kept, touches, placesTo, placesOf, otherEnd, mirroredColumns}
-use Rattle.mc64_symmetric.specs.inner.Steps.{columnsOf, Triangle}
+use Rattle.mc64_symmetric.specs.inner.Steps.{Triangle}
 use Rattle.mc64_symmetric.proofs.Places.{in-row, in-column as own-column}
 use Rattle.mc64_symmetric.proofs.Theorems.{Takes, taken, stands, graph-rises}
 use Rattle.factors_balance.specs.Balance.{KeptEntry}
 
 -- the graph of the matrix
-abbrev pub symmetricGraph : ℕ → Matrix → List Float → CostGraph
-symmetricGraph n m logs = graphOf n (graphPointers (mirroredColumns m) n) (graphRows (mirroredColumns m) n) (graphCosts (mirroredColumns m) logs n)
+abbrev pub symmetricGraph : Matrix → List Float → CostGraph
+symmetricGraph m logs = graphOf (m .pattern .n) (graphPointers (mirroredColumns m) (m .pattern .n)) (graphRows (mirroredColumns m) (m .pattern .n))
+    (graphCosts (mirroredColumns m) logs (m .pattern .n))
 
 -- the largest log of column c
 abbrev pub topOf : Matrix → List Float → ℕ → Float
@@ -83,14 +84,14 @@ module _ (m : Matrix) (c p : ℕ) (K : kept m p ≡ true) (t : Takes m c p) wher
           (i, omega (arith, length-append (placesTo m c k) (keep (touches m c k) k)), List·getD-append (placesTo m c k) (keep (touches m c k) k) 0 i l ∙ q)
 
 -- ---- entries
-module _ (n : ℕ) (m : Matrix) (logs : List Float) (t : Triangle m) (size : columnsOf m ≡ n) where
+module _ (m : Matrix) (logs : List Float) (t : Triangle m) where
   abbrev graph : CostGraph
-  graph = symmetricGraph n m logs
+  graph = symmetricGraph m logs
 
   -- entry e of column c is made of place p
   pub record MadeOf (e c p : ℕ) : Type 0 where
     pub within : e < entries (graph .pattern)
-    pub inside : c < n
+    pub inside : c < m .pattern .n
     pub column : columnOf (graph .pattern) e ≡ c
     pub row : rowOf (graph .pattern) e ≡ otherEnd m c p
     pub cost : costOf graph e ≡ sub binary64 (topOf m logs c) (getD logs p nan)
@@ -99,10 +100,10 @@ module _ (n : ℕ) (m : Matrix) (logs : List Float) (t : Triangle m) (size : col
     pub takes : Takes m c p
 
   -- place i of column c makes entry e
-  of-place : (e c i : ℕ) → i < length (placesOf m c) → Columns.MadeOf n (mirroredColumns m) logs (graph-rises n m t size) e c (getD (placesOf m c) i 0)
+  of-place : (e c i : ℕ) → i < length (placesOf m c) → Columns.MadeOf (m .pattern .n) (mirroredColumns m) logs (graph-rises m t) e c (getD (placesOf m c) i 0)
       → MadeOf e c (getD (placesOf m c) i 0)
   of-place e c i l E =
-      let p = taken m c (length (m .rows)) i l in
+      let p = taken m c (length (m .pattern .rowIdx)) i l in
       record {
         within = E .within;
         inside = E .inside;
@@ -118,26 +119,26 @@ module _ (n : ℕ) (m : Matrix) (logs : List Float) (t : Triangle m) (size : col
   pub made : (e : ℕ) → e < entries (graph .pattern) → (p : ℕ) × MadeOf e (columnOf (graph .pattern) e) p
   made e h =
       let c = columnOf (graph .pattern) e in
-      let (p, E) = Columns.made n (mirroredColumns m) logs (graph-rises n m t size) e h in
+      let (p, E) = Columns.made (m .pattern .n) (mirroredColumns m) logs (graph-rises m t) e h in
       let q = E .place in (
         getD (placesOf m c) (E .number) 0,
         of-place e c (E .number) (E .stands)
-            (subst (λ (x : ℕ). Columns.MadeOf n (mirroredColumns m) logs (graph-rises n m t size) e c x) (sym q) E),
+            (subst (λ (x : ℕ). Columns.MadeOf (m .pattern .n) (mirroredColumns m) logs (graph-rises m t) e c x) (sym q) E),
       )
 
   -- and every kept place makes one in each column that takes it
   pub makes : (c p : ℕ) → KeptEntry m p → Takes m c p → (e : ℕ) × MadeOf e c p
   makes c p K u =
-      let (i, l, q) = number-of m c p (K .isKept) u (length (m .rows)) (K .stored) in
+      let (i, l, q) = number-of m c p (K .isKept) u (length (m .pattern .rowIdx)) (K .stored) in
       let e = keptBefore (mirroredColumns m) c + i in (
         e,
         subst (λ (x : ℕ). MadeOf e c x) q
-            (of-place e c i l (Columns.made-at n (mirroredColumns m) logs (graph-rises n m t size) c i inside l (getD (placesOf m c) i 0) refl)),
+            (of-place e c i l (Columns.made-at (m .pattern .n) (mirroredColumns m) logs (graph-rises m t) c i inside l (getD (placesOf m c) i 0) refl)),
       )
     where
-      inside : c < n
-      inside = ⊎-elim (λ (e : placeRow m p ≡ c). omega (arith, size, t .columns .inside p (K .stored)))
-          (λ (e : placeColumn m p ≡ c). omega (arith, size, stands m t p (K .stored) .column)) u
+      inside : c < m .pattern .n
+      inside = ⊎-elim (λ (e : placeRow m p ≡ c). omega (arith, t .columns .inside p (K .stored)))
+          (λ (e : placeColumn m p ≡ c). omega (arith, stands m t p (K .stored) .column)) u
 
   -- the mirror of an entry is made of the same place
   pub mirror-made : (e p : ℕ) → MadeOf e (columnOf (graph .pattern) e) p → (l : ℕ) × Mirror (bipartite (graph .pattern)) e l × MadeOf l

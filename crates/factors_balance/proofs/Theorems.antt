@@ -46,7 +46,7 @@ use Rattle.hungarian.proofs.Theorems.{match-optimal, match-small}
 use Rattle.mc64_columns.specs.Graphs.{Slices, graphLargest}
 use Rattle.mc64_symmetric.specs.Graph.{placeRow, placeColumn, placesOf, otherEnd, mirroredColumns}
 use Rattle.mc64_symmetric.specs.Call.{lengthsFit, inputFault}
-use Rattle.mc64_symmetric.specs.inner.Steps.{columnsOf, Triangle}
+use Rattle.mc64_symmetric.specs.inner.Steps.{Triangle}
 use Rattle.mc64_symmetric.proofs.Calling.{ready}
 use Rattle.mc64_symmetric.proofs.Theorems.{Takes, graph-rises, graph-matched, kept-in-range}
 use Rattle.factors_mc64.specs.Factors.{isMatchedRow, matchedBoth, argument, logFactor, factorAt, symmetricFactors}
@@ -128,12 +128,13 @@ unmarked perm i (suc k) e j h = go (ℕ-discrete j k) (unmarked perm i k (neithe
     go (no d) f = f (omega arith)
 
 -- ---- a complete match of the graph
-module _ (n : ℕ) (m : Matrix) (logs : List Float) (t : Triangle m) (size : columnsOf m ≡ n) (whole : WholeLogs m logs)
-    (ranges : (k : ℕ) → KeptEntry m k → inLogRange n (getD logs k nan) ≡ true)
-    (M : Matching) (O : Optimal (symmetricGraph n m logs) M) (full : M .matched ≡ n)
-    (rowsSmall : (i : ℕ) → i < n → natAbs (wholeOf (rowDual M i)) ≤ 2 ^ 50) (columnsSmall : (j : ℕ) → j < n → natAbs (wholeOf (columnDual M j)) ≤ 2 ^ 50) where
+module _ (m : Matrix) (logs : List Float) (t : Triangle m) (whole : WholeLogs m logs)
+    (ranges : (k : ℕ) → KeptEntry m k → inLogRange (m .pattern .n) (getD logs k nan) ≡ true)
+    (M : Matching) (O : Optimal (symmetricGraph m logs) M) (full : M .matched ≡ m .pattern .n)
+    (rowsSmall : (i : ℕ) → i < m .pattern .n → natAbs (wholeOf (rowDual M i)) ≤ 2 ^ 50)
+    (columnsSmall : (j : ℕ) → j < m .pattern .n → natAbs (wholeOf (columnDual M j)) ≤ 2 ^ 50) where
   abbrev graph : CostGraph
-  graph = symmetricGraph n m logs
+  graph = symmetricGraph m logs
 
   abbrev matched : ℕ → Bool
   matched = matchedEntries (graph .pattern) M
@@ -142,32 +143,32 @@ module _ (n : ℕ) (m : Matrix) (logs : List Float) (t : Triangle m) (size : col
   complete = record { matching = O .ranged .matching; full = O .ranged .pairCount ∙ full }
 
   -- every column has a row, and every row a column
-  has-row : (j : ℕ) → j < n → rowFor M j ≢ none
-  has-row = all-matched none n (rowFor M) (sym (O .ranged .counted) ∙ full)
+  has-row : (j : ℕ) → j < m .pattern .n → rowFor M j ≢ none
+  has-row = all-matched none (m .pattern .n) (rowFor M) (sym (O .ranged .counted) ∙ full)
 
   matched-row : (k : ℕ) → T (matched k) → rowFor M (columnOf (graph .pattern) k) ≡ rowOf (graph .pattern) k
   unfolding matchedEntries pairedEntries
   matched-row k u = eqb→eq (rowFor M (columnOf (graph .pattern) k)) (rowOf (graph .pattern) k) u
 
-  has-column : (i : ℕ) → i < n → isMatchedRow (M .perm) i n ≡ true
-  has-column i h = go (isMatchedRow (M .perm) i n) refl
+  has-column : (i : ℕ) → i < m .pattern .n → isMatchedRow (M .perm) i (m .pattern .n) ≡ true
+  has-column i h = go (isMatchedRow (M .perm) i (m .pattern .n)) refl
     where
-      go : (b : Bool) → isMatchedRow (M .perm) i n ≡ b → isMatchedRow (M .perm) i n ≡ true
+      go : (b : Bool) → isMatchedRow (M .perm) i (m .pattern .n) ≡ b → isMatchedRow (M .perm) i (m .pattern .n) ≡ true
       go true e = e
       go false e =
-          absurd (rows-covered (in-range (graph .pattern) (graph-rises n m t size)) complete i h
-          (λ k l u q. unmarked (M .perm) i n e (columnOf (graph .pattern) k) (in-range (graph .pattern) (graph-rises n m t size) .cols k l)
+          absurd (rows-covered (in-range (graph .pattern) (graph-rises m t)) complete i h
+          (λ k l u q. unmarked (M .perm) i (m .pattern .n) e (columnOf (graph .pattern) k) (in-range (graph .pattern) (graph-rises m t) .cols k l)
           (matched-row k u ∙ q)))
 
   -- so no column is empty
-  some-place : (c : ℕ) → c < n → 0 < length (placesOf m c)
+  some-place : (c : ℕ) → c < m .pattern .n → 0 < length (placesOf m c)
   some-place c h =
       let e : IsEntry (graph .pattern) (rowFor M c) c = O .ranged .pairs c h (has-row c h) in
-      let (p, E) = made n m logs t size (e .entry) (e .within) in
+      let (p, E) = made m logs t (e .entry) (e .within) in
       subst (λ (x : ℕ). 0 < length (placesOf m x)) (e .column) (E .some)
 
-  top : (c : ℕ) → c < n → Short (topOf m logs c)
-  top c h = top-short n m logs t size whole ranges c h (some-place c h)
+  top : (c : ℕ) → c < m .pattern .n → Short (topOf m logs c)
+  top c h = top-short m logs t whole ranges c h (some-place c h)
 
   -- ---- duals in keys
   potentials : Potentials (bipartite (graph .pattern)) (λ k. position (costOf graph k)) matched (λ i. position (rowDual M i))
@@ -182,13 +183,13 @@ module _ (n : ℕ) (m : Matrix) (logs : List Float) (t : Triangle m) (size : col
   }
     where
       rows : (k : ℕ) → k < entries (graph .pattern) → IsWhole (rowDual M (rowOf (graph .pattern) k))
-      rows k h = O .rowsWhole (rowOf (graph .pattern) k) (in-range (graph .pattern) (graph-rises n m t size) .rows k h)
+      rows k h = O .rowsWhole (rowOf (graph .pattern) k) (in-range (graph .pattern) (graph-rises m t) .rows k h)
 
       columns : (k : ℕ) → k < entries (graph .pattern) → IsWhole (columnDual M (columnOf (graph .pattern) k))
-      columns k h = O .columnsWhole (columnOf (graph .pattern) k) (in-range (graph .pattern) (graph-rises n m t size) .cols k h)
+      columns k h = O .columnsWhole (columnOf (graph .pattern) k) (in-range (graph .pattern) (graph-rises m t) .cols k h)
 
       costs : (k : ℕ) → k < entries (graph .pattern) → IsWhole (costOf graph k)
-      costs = costs-whole n m logs t size whole ranges
+      costs = costs-whole m logs t whole ranges
 
   -- the entries whose mirrors are matched
   turned : ℕ → Bool
@@ -203,11 +204,11 @@ module _ (n : ℕ) (m : Matrix) (logs : List Float) (t : Triangle m) (size : col
       → position (costOf graph k) + position (topOf m logs (rowOf (graph .pattern) k)) ≡ position
       (costOf graph l) + position (topOf m logs (rowOf (graph .pattern) l))
   costs-mirrored k l h q =
-      let (p, E) = made n m logs t size k h in
-      let (l', q', L) = mirror-made n m logs t size k p E in
-      let same : l' ≡ l = simple (graph .pattern) (graph-rises n m t size) l' l (q' .within) (q .within) (q' .row ∙ sym (q .row)) (q' .col ∙ sym (q .col)) in
-      let e = cost-key n m logs t size whole ranges E in
-      let f = cost-key n m logs t size whole ranges L in
+      let (p, E) = made m logs t k h in
+      let (l', q', L) = mirror-made m logs t k p E in
+      let same : l' ≡ l = simple (graph .pattern) (graph-rises m t) l' l (q' .within) (q .within) (q' .row ∙ sym (q .row)) (q' .col ∙ sym (q .col)) in
+      let e = cost-key m logs t whole ranges E in
+      let f = cost-key m logs t whole ranges L in
       let s : position (costOf graph l') ≡ position (costOf graph l) = ap (λ (x : ℕ). position (costOf graph x)) same in
       let r : position (topOf m logs (columnOf (graph .pattern) k)) ≡ position (topOf m logs (rowOf (graph .pattern) l)) = ap
       (λ (x : ℕ). position (topOf m logs x)) (sym (q .row)) in
@@ -216,28 +217,28 @@ module _ (n : ℕ) (m : Matrix) (logs : List Float) (t : Triangle m) (size : col
   turned-tight : (k : ℕ) → k < entries (graph .pattern) → T (turned k) → position (rowDual M (rowOf (graph .pattern) k)) + position
       (columnDual M (columnOf (graph .pattern) k)) ≡ position
       (costOf graph k) + origin
-  turned-tight = mirror-tight (in-range (graph .pattern) (graph-rises n m t size)) (simple (graph .pattern) (graph-rises n m t size))
-      (mirrors n m logs t size) turned-mirrors (λ i. position (topOf m logs i)) costs-mirrored complete potentials
+  turned-tight = mirror-tight (in-range (graph .pattern) (graph-rises m t)) (simple (graph .pattern) (graph-rises m t))
+      (mirrors m logs t) turned-mirrors (λ i. position (topOf m logs i)) costs-mirrored complete potentials
 
   -- ---- the factors
   abbrev tops : List Float
-  tops = graphLargest (mirroredColumns m) logs n
+  tops = graphLargest (mirroredColumns m) logs (m .pattern .n)
 
   abbrev pairs : Match Float
   pairs = matchOf (M .perm) (M .u) (M .v) tops
 
   abbrev factors : List Float
-  factors = symmetricFactors n pairs
+  factors = symmetricFactors (m .pattern .n) pairs
 
-  factor-is : (i : ℕ) → i < n → getD factors i nan ≡ logFactor true (rowDual M i) (columnDual M i) (topOf m logs i)
+  factor-is : (i : ℕ) → i < m .pattern .n → getD factors i nan ≡ logFactor true (rowDual M i) (columnDual M i) (topOf m logs i)
   factor-is i h =
-      doubles-at (factorAt n pairs) n i h
-      ∙ ap₂ (λ (b : Bool) (c : Float). logFactor b (rowDual M i) (columnDual M i) c) marked (largest-at n m logs t size whole ranges i h)
+      doubles-at (factorAt (m .pattern .n) pairs) (m .pattern .n) i h
+      ∙ ap₂ (λ (b : Bool) (c : Float). logFactor b (rowDual M i) (columnDual M i) c) marked (largest-at m logs t whole ranges i h)
     where
-      marked : matchedBoth n (M .perm) i ≡ true
+      marked : matchedBoth (m .pattern .n) (M .perm) i ≡ true
       marked = rw (ne-eqb (rowFor M i) none (has-row i h), has-column i h) refl
 
-  argument-is : (i : ℕ) → i < n → Number (argument (rowDual M i) (columnDual M i) (topOf m logs i))
+  argument-is : (i : ℕ) → i < m .pattern .n → Number (argument (rowDual M i) (columnDual M i) (topOf m logs i))
       × (2 * position (argument (rowDual M i) (columnDual M i) (topOf m logs i)) + position (topOf m logs i) ≡ position (rowDual M i) + position
       (columnDual M i) + origin)
   argument-is i h =
@@ -249,14 +250,14 @@ module _ (n : ℕ) (m : Matrix) (logs : List Float) (t : Triangle m) (size : col
       argument-exact u v (topOf m logs i) wu wv (T' .whole) (within-number (2 ^ 50) u wu (rowsSmall i h))
       (within-number (2 ^ 50) v wv (columnsSmall i h)) (T' .within)
 
-  module _ (free : NoneHeld n pairs factors) where
-    factor-exact : (i : ℕ) → i < n → Number (getD factors i nan)
+  module _ (free : NoneHeld (m .pattern .n) pairs factors) where
+    factor-exact : (i : ℕ) → i < m .pattern .n → Number (getD factors i nan)
         × (2 * position (getD factors i nan) + position (topOf m logs i) ≡ position (rowDual M i) + position (columnDual M i) + origin)
     factor-exact i h =
         let u = rowDual M i in
         let v = columnDual M i in
         let c = topOf m logs i in
-        let f : getD factors i nan ≡ argument u v c = free .unheld i h ∙ ap (argument u v) (largest-at n m logs t size whole ranges i h) in
+        let f : getD factors i nan ≡ argument u v c = free .unheld i h ∙ ap (argument u v) (largest-at m logs t whole ranges i h) in
         subst (λ (x : Float). Number x × (2 * position x + position c ≡ position u + position v + origin)) (sym f) (argument-is i h)
 
     -- ---- one entry
@@ -267,11 +268,11 @@ module _ (n : ℕ) (m : Matrix) (logs : List Float) (t : Triangle m) (size : col
       abbrev column : ℕ
       column = placeColumn m k
 
-      own : (e : ℕ) × MadeOf n m logs t size e column k
-      own = makes n m logs t size column k K (inr refl)
+      own : (e : ℕ) × MadeOf m logs t e column k
+      own = makes m logs t column k K (inr refl)
 
-      other : (e : ℕ) × MadeOf n m logs t size e row k
-      other = makes n m logs t size row k K (inl refl)
+      other : (e : ℕ) × MadeOf m logs t e row k
+      other = makes m logs t row k K (inl refl)
 
       own-row : rowOf (graph .pattern) (own .0) ≡ row
       own-row = own .1 .row ∙ from-column m k
@@ -279,10 +280,10 @@ module _ (n : ℕ) (m : Matrix) (logs : List Float) (t : Triangle m) (size : col
       other-row : rowOf (graph .pattern) (other .0) ≡ column
       other-row = other .1 .row ∙ from-row m k
 
-      row-inside : row < n
+      row-inside : row < m .pattern .n
       row-inside = other .1 .inside
 
-      column-inside : column < n
+      column-inside : column < m .pattern .n
       column-inside = own .1 .inside
 
       abbrev sum : ℕ
@@ -305,8 +306,8 @@ module _ (n : ℕ) (m : Matrix) (logs : List Float) (t : Triangle m) (size : col
             other-keys,
             potentials .below (own .0) (own .1 .within),
             potentials .below (other .0) (other .1 .within),
-            cost-key n m logs t size whole ranges (own .1),
-            cost-key n m logs t size whole ranges (other .1),
+            cost-key m logs t whole ranges (own .1),
+            cost-key m logs t whole ranges (other .1),
             factor-exact row row-inside .1,
             factor-exact column column-inside .1,
           )
@@ -319,8 +320,8 @@ module _ (n : ℕ) (m : Matrix) (logs : List Float) (t : Triangle m) (size : col
             arith,
             e,
             f,
-            cost-key n m logs t size whole ranges (own .1),
-            cost-key n m logs t size whole ranges (other .1),
+            cost-key m logs t whole ranges (own .1),
+            cost-key m logs t whole ranges (other .1),
             factor-exact row row-inside .1,
             factor-exact column column-inside .1,
           )
@@ -349,17 +350,17 @@ module _ (n : ℕ) (m : Matrix) (logs : List Float) (t : Triangle m) (size : col
           (factor-exact column column-inside .0) number-log (sum-matched j q)
 
     -- the pair of a column is an entry
-    pair-entry : (j : ℕ) → j < n → (k : ℕ) × KeptEntry m k × Joins m k (rowFor M j) j
+    pair-entry : (j : ℕ) → j < m .pattern .n → (k : ℕ) × KeptEntry m k × Joins m k (rowFor M j) j
     pair-entry j h =
         let e : IsEntry (graph .pattern) (rowFor M j) j = O .ranged .pairs j h (has-row j h) in
-        let (k, E) = made n m logs t size (e .entry) (e .within) in
+        let (k, E) = made m logs t (e .entry) (e .within) in
         (k, E .place, joins k (columnOf (graph .pattern) (e .entry)) (rowOf (graph .pattern) (e .entry)) (E .takes) (E .row) (e .row) (e .column))
       where
         joins : (k c r : ℕ) → Takes m c k → r ≡ otherEnd m c k → r ≡ rowFor M j → c ≡ j → Joins m k (rowFor M j) j
         joins k c r (inl q) e f g = inr (q ∙ g, sym (ap (λ (x : ℕ). otherEnd m x k) (sym q) ∙ from-row m k) ∙ sym e ∙ f)
         joins k c r (inr q) e f g = inl (sym (ap (λ (x : ℕ). otherEnd m x k) (sym q) ∙ from-column m k) ∙ sym e ∙ f, q ∙ g)
 
-    pub balanced : Balanced n m logs (M .perm) factors
+    pub balanced : Balanced m logs (M .perm) factors
     balanced = record {
       finite = λ i h. factor-exact i h .0;
       finiteLogs = number-log;
@@ -368,12 +369,12 @@ module _ (n : ℕ) (m : Matrix) (logs : List Float) (t : Triangle m) (size : col
       matched = λ j k h K q. entry-matched k K j q;
     }
 
-  pub off-ends : OffEnds n factors → NoneHeld n pairs factors
+  pub off-ends : OffEnds (m .pattern .n) factors → NoneHeld (m .pattern .n) pairs factors
   off-ends o = record {
     unheld = λ i h.
         let e = factor-is i h in
         let w = top i h .whole in
-        let c : getD tops i nan ≡ topOf m logs i = largest-at n m logs t size whole ranges i h in
+        let c : getD tops i nan ≡ topOf m logs i = largest-at m logs t whole ranges i h in
         e
         ∙ factor-free (rowDual M i) (columnDual M i) (topOf m logs i) (number-whole (topOf m logs i) (w .0) (w .1)) (argument-is i h .0)
         (subst (λ (x : Float). x ≢ logHuge) e (o .above i h)) (subst (λ (x : Float). x ≢ minusLogHuge) e (o .under i h))
@@ -381,39 +382,36 @@ module _ (n : ℕ) (m : Matrix) (logs : List Float) (t : Triangle m) (size : col
   }
 
 -- ---- the calls, one after the other
-module _ (n : ℕ) (m : Matrix) (logs : List Float) (s : Slices) (fine : inputFault n m logs (lengthsFit n m logs s) ≡ 0)
+module _ (m : Matrix) (logs : List Float) (s : Slices) (fine : inputFault m logs (lengthsFit m logs s) ≡ 0)
     (doubles : (k : ℕ) → k < length logs → T (fits binary64 (getD logs k nan))) (whole : WholeLogs m logs) where
   triangle : Triangle m
-  triangle = ready n m logs s fine .0
+  triangle = ready m logs s fine .0
 
-  size : columnsOf m ≡ n
-  size = omega (arith, ready n m logs s fine .1 .0 .0)
+  ranges : (k : ℕ) → KeptEntry m k → inLogRange (m .pattern .n) (getD logs k nan) ≡ true
+  ranges k K = kept-in-range m logs s fine k (K .stored) (K .isKept)
 
-  ranges : (k : ℕ) → KeptEntry m k → inLogRange n (getD logs k nan) ≡ true
-  ranges k K = kept-in-range n m logs s fine k (K .stored) (K .isKept)
+  accepted : Accepted (symmetricGraph m logs)
+  accepted = graph-matched m logs s fine doubles
 
-  accepted : Accepted (symmetricGraph n m logs)
-  accepted = graph-matched n m logs s fine doubles
-
-  costs : WholeCosts (symmetricGraph n m logs)
-  costs = costs-whole n m logs triangle size whole ranges
+  costs : WholeCosts (symmetricGraph m logs)
+  costs = costs-whole m logs triangle whole ranges
 
   -- what the building leaves, the match of it, and the factors of the match
-  pub symmetric-balanced : let M = hungarianMatch (symmetricGraph n m logs) in
-      let c = matchOf (M .perm) (M .u) (M .v) (graphLargest (mirroredColumns m) logs n) in
-      let factors = symmetricFactors n c in
-      M .matched ≡ n → NoneHeld n c factors → Balanced n m logs (M .perm) factors
+  pub symmetric-balanced : let M = hungarianMatch (symmetricGraph m logs) in
+      let c = matchOf (M .perm) (M .u) (M .v) (graphLargest (mirroredColumns m) logs (m .pattern .n)) in
+      let factors = symmetricFactors (m .pattern .n) c in
+      M .matched ≡ m .pattern .n → NoneHeld (m .pattern .n) c factors → Balanced m logs (M .perm) factors
   symmetric-balanced full =
-      let d = match-small (symmetricGraph n m logs) accepted costs in
-      balanced n m logs triangle size whole ranges (hungarianMatch (symmetricGraph n m logs)) (match-optimal (symmetricGraph n m logs) accepted costs)
+      let d = match-small (symmetricGraph m logs) accepted costs in
+      balanced m logs triangle whole ranges (hungarianMatch (symmetricGraph m logs)) (match-optimal (symmetricGraph m logs) accepted costs)
       full (d .rows) (d .columns)
 
   -- a factor that is neither 709 nor -709 is not held
-  pub off-ends-unheld : let M = hungarianMatch (symmetricGraph n m logs) in
-      let c = matchOf (M .perm) (M .u) (M .v) (graphLargest (mirroredColumns m) logs n) in
-      let factors = symmetricFactors n c in
-      M .matched ≡ n → OffEnds n factors → NoneHeld n c factors
+  pub off-ends-unheld : let M = hungarianMatch (symmetricGraph m logs) in
+      let c = matchOf (M .perm) (M .u) (M .v) (graphLargest (mirroredColumns m) logs (m .pattern .n)) in
+      let factors = symmetricFactors (m .pattern .n) c in
+      M .matched ≡ m .pattern .n → OffEnds (m .pattern .n) factors → NoneHeld (m .pattern .n) c factors
   off-ends-unheld full =
-      let d = match-small (symmetricGraph n m logs) accepted costs in
-      off-ends n m logs triangle size whole ranges (hungarianMatch (symmetricGraph n m logs)) (match-optimal (symmetricGraph n m logs) accepted costs)
+      let d = match-small (symmetricGraph m logs) accepted costs in
+      off-ends m logs triangle whole ranges (hungarianMatch (symmetricGraph m logs)) (match-optimal (symmetricGraph m logs) accepted costs)
       full (d .rows) (d .columns)

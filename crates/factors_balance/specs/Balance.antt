@@ -22,7 +22,7 @@ exact x = signed (negative x) (magnitude x)
 
 -- stored entry k is kept
 pub record KeptEntry (m : Matrix) (k : ℕ) : Type 0 where
-  pub stored : k < length (m .rows)
+  pub stored : k < length (m .pattern .rowIdx)
   pub isKept : kept m k ≡ true
 
 -- every log that is read is whole
@@ -43,13 +43,14 @@ abbrev pub balance : Matrix → List Float → List Float → ℕ → ℤ
 balance m logs factors k =
     (exact (getD factors (placeRow m k) nan) +ℤ exact (getD factors (placeColumn m k) nan)) +ℤ exact (getD logs k nan)
 
-pub record Balanced (n : ℕ) (m : Matrix) (logs : List Float) (perm : List ℕ) (factors : List Float) : Type 0 where
+pub record Balanced (m : Matrix) (logs : List Float) (perm : List ℕ) (factors : List Float) : Type 0 where
   -- every factor is a finite double, and so is the log of every kept entry
-  pub finite : (i : ℕ) → i < n → Number (getD factors i nan)
+  pub finite : (i : ℕ) → i < m .pattern .n → Number (getD factors i nan)
   pub finiteLogs : (k : ℕ) → KeptEntry m k → Number (getD logs k nan)
   -- never above 0
   pub most : (k : ℕ) → KeptEntry m k → balance m logs factors k ≤ℤ pos 0
   -- each column's pair (perm j, j) is a kept entry
-  pub pairs : (j : ℕ) → j < n → (k : ℕ) × KeptEntry m k × Joins m k (getD perm j 0) j
+  pub pairs : (j : ℕ) → j < m .pattern .n → (k : ℕ) × KeptEntry m k × Joins m k (getD perm j 0) j
   -- where it is exactly 0
-  pub matched : (j k : ℕ) → j < n → KeptEntry m k → Joins m k (getD perm j 0) j → balance m logs factors k ≡ pos 0
+  pub matched : (j k : ℕ) → j < m .pattern .n → KeptEntry m k → Joins m k (getD perm j 0) j
+      → balance m logs factors k ≡ pos 0

@@ -29,7 +29,7 @@ use Rattle.mc64_columns.specs.Columns.{largestFrom}
 use Rattle.mc64_symmetric.specs.Graph.{kept, touches, placesTo, otherEnd}
 use Rattle.mc64_symmetric.specs.Call.{valueFault, logFault, placeFault, valuesFault}
 use Rattle.factors_mc64.specs.Factors.{matchedBoth, argument, logFactor, factorAt}
-use Rattle.factors_flat.specs.Flat.{Input, isMatched, alone, sumAt, sumsOver, sumsOf, flattened}
+use Rattle.factors_flat.specs.Flat.{Input, columns, isMatched, alone, sumAt, sumsOver, sumsOf, flattened}
 use Rattle.factors_flat.specs.Call.{Within}
 use Rattle.factors_flat.specs.inner.Steps.{sumsTo}
 use Rattle.factors_flat.proofs.Sums.{sums-more}
@@ -188,12 +188,12 @@ flat-within (x ∷ l) a = clamp-within (neg (largestFrom x l))
     (neg-ordered (largestFrom x l) (largest-ordered x l (a 0 (omega arith)) (λ j h. a (suc j) (omega arith))))
 
 -- ---- the sums of an index
-module _ (g : Input) (fine : (k : ℕ) → k < length (g .stored .rows) → kept (g .stored) k ≡ true → finite (getD (g .logs) k nan) ≡ true) (i : ℕ) where
+module _ (g : Input) (fine : (k : ℕ) → k < length (g .stored .pattern .rowIdx) → kept (g .stored) k ≡ true → finite (getD (g .logs) k nan) ≡ true) (i : ℕ) where
   alone-more : (l : List Float) (b : Bool) (x : Float) → Comparable l → Ordered x → Comparable (l ++ alone b x)
   alone-more l true x a o = comparable-more l x a o
   alone-more l false x a o = subst Comparable (sym (append-nil l)) a
 
-  sums-comparable : (k : ℕ) → k ≤ length (g .stored .rows) → Comparable (sumsTo g k i)
+  sums-comparable : (k : ℕ) → k ≤ length (g .stored .pattern .rowIdx) → Comparable (sumsTo g k i)
   unfolding placesTo sumsOver
   sums-comparable zero h = λ j l. absurd (not-suc-le-zero l)
   sums-comparable (suc k) h = go (sums-comparable k (omega arith)) (touches (g .stored) i k) refl
@@ -201,27 +201,27 @@ module _ (g : Input) (fine : (k : ℕ) → k < length (g .stored .rows) → kept
       go : Comparable (sumsTo g k i) → (b : Bool) → touches (g .stored) i k ≡ b → Comparable (sumsOver g i (placesTo (g .stored) i k ++ keep b k))
       go before true e =
           subst Comparable (sym (sums-more g i (placesTo (g .stored) i k) k))
-          (alone-more (sumsTo g k i) (isMatched (g .n) (g .pairs) (otherEnd (g .stored) i k)) (sumAt g i k) before
-          (add-ordered _ _ (fine k h (both (kept (g .stored) k) _ e .0)) (finite-at (g .n) (g .pairs) (otherEnd (g .stored) i k))))
+          (alone-more (sumsTo g k i) (isMatched (columns g) (g .pairs) (otherEnd (g .stored) i k)) (sumAt g i k) before
+          (add-ordered _ _ (fine k h (both (kept (g .stored) k) _ e .0)) (finite-at (columns g) (g .pairs) (otherEnd (g .stored) i k))))
       go before false e = subst (λ (p : List ℕ). Comparable (sumsOver g i p)) (sym (append-nil (placesTo (g .stored) i k))) before
 
   pub sums-within : Within (flattened (sumsOf g i))
-  sums-within = flat-within (sumsOf g i) (sums-comparable (length (g .stored .rows)) (le-refl _))
+  sums-within = flat-within (sumsOf g i) (sums-comparable (length (g .stored .pattern .rowIdx)) (le-refl _))
 
 -- ---- the logs of an accepted call
 log-finite : (n : ℕ) (x : Float) → inLogRange n x ≡ true → finite x ≡ true
 unfolding inLogRange timesBelow
 log-finite n x h = both (finite x) _ h .0
 
-pub logs-finite : (n : ℕ) (m : Matrix) (logs : List Float) → valuesFault n (m .values) logs ≡ 0 → length (m .values) ≡ length (m .rows)
-    → (k : ℕ) → k < length (m .rows) → kept m k ≡ true → finite (getD logs k nan) ≡ true
+pub logs-finite : (m : Matrix) (logs : List Float) → valuesFault (m .pattern .n) (m .values) logs ≡ 0 → length (m .values) ≡ length (m .pattern .rowIdx)
+    → (k : ℕ) → k < length (m .pattern .rowIdx) → kept m k ≡ true → finite (getD logs k nan) ≡ true
 unfolding valuesFault
-logs-finite n m logs e size k h s =
-    let z = all-zero (placeFault n (m .values) logs) (length (m .values)) .0 e k (omega arith) in
-    let l = or-zero (valueFault (m .values) k) (logFault n (m .values) logs k) z .1 in
-    log-finite n (getD logs k nan)
-    (other (eq (getD (m .values) k nan) Constants.zero) (inLogRange n (getD logs k nan)) s
-    (unless-holds (eq (getD (m .values) k nan) Constants.zero || inLogRange n (getD logs k nan)) costRange (omega arith) l))
+logs-finite m logs e size k h s =
+    let z = all-zero (placeFault (m .pattern .n) (m .values) logs) (length (m .values)) .0 e k (omega arith) in
+    let l = or-zero (valueFault (m .values) k) (logFault (m .pattern .n) (m .values) logs k) z .1 in
+    log-finite (m .pattern .n) (getD logs k nan)
+    (other (eq (getD (m .values) k nan) Constants.zero) (inLogRange (m .pattern .n) (getD logs k nan)) s
+    (unless-holds (eq (getD (m .values) k nan) Constants.zero || inLogRange (m .pattern .n) (getD logs k nan)) costRange (omega arith) l))
   where
     other : (a b : Bool) → not a ≡ true → (a || b) ≡ true → b ≡ true
     other true b p q = absurd (true≢false (sym p))

@@ -23,7 +23,7 @@ use Rattle.mc64_symmetric.specs.Graph.{placesTo}
 use Rattle.factors_mc64.specs.Factors.{doublesOf, isMatchedRow, matchedBoth, argument, logFactor, factorAt, symmetricFactors}
 use Rattle.factors_mc64.specs.Calls.{Slices, slices}
 use Rattle.factors_mc64.specs.inner.Steps.{bit, Marked}
-use Rattle.factors_flat.specs.Flat.{Input, input, matchedBy, isMatched, sumsOver, flattened, keptOrFlat, flatFactorAt, flatFactors}
+use Rattle.factors_flat.specs.Flat.{Input, input, columns, matchedBy, isMatched, sumsOver, flattened, keptOrFlat, flatFactorAt, flatFactors}
 use Rattle.factors_flat.specs.inner.Steps.{mark, held, Levelled, noSums, MarkedTo, sumsTo, Enters, turned, turnedAll}
 use Rattle.factors_mc64.proofs.Exact.{doubles-length, doubles-at}
 use Rattle.factors_flat.proofs.Sums.{levelled-same}
@@ -102,11 +102,12 @@ turned-held true f l = refl
 turned-held false f [] = refl
 turned-held false f (x ∷ l) = refl
 
-pub turned-flat : (g : Input) (s : Slices) → Levelled (g .n) (g .pairs) (sumsTo g (length (g .stored .rows))) s → turnedAll (g .n) s ≡ flatFactors g
+pub turned-flat : (g : Input) (s : Slices) → Levelled (columns g) (g .pairs) (sumsTo g (length (g .stored .pattern .rowIdx))) s
+    → turnedAll (columns g) s ≡ flatFactors g
 unfolding turnedAll
 turned-flat g s h =
-    doubles-same _ (flatFactorAt g) (g .n)
-    (λ i l. ap₂ turned (h .marksAt i l) (h .factorsAt i l) ∙ turned-held (isMatched (g .n) (g .pairs) i) (factorAt (g .n) (g .pairs) i) _)
+    doubles-same _ (flatFactorAt g) (columns g)
+    (λ i l. ap₂ turned (h .marksAt i l) (h .factorsAt i l) ∙ turned-held (isMatched (columns g) (g .pairs) i) (factorAt (columns g) (g .pairs) i) _)
 
 -- ---- the last pass
 pub turned-length : (n : ℕ) (s : Slices) → length (turnedAll n s) ≡ n
@@ -130,15 +131,16 @@ byte-bit false = refl
 
 -- ---- the whole
 -- before the first place there are no sums
-no-places : (g : Input) (s : Slices) → Levelled (g .n) (g .pairs) noSums s → Levelled (g .n) (g .pairs) (sumsTo g 0) s
+no-places : (g : Input) (s : Slices) → Levelled (columns g) (g .pairs) noSums s → Levelled (columns g) (g .pairs) (sumsTo g 0) s
 unfolding placesTo sumsOver
-no-places g s h = levelled-same (g .n) (g .pairs) noSums (sumsTo g 0) s h (λ i l u. refl)
+no-places g s h = levelled-same (columns g) (g .pairs) noSums (sumsTo g 0) s h (λ i l u. refl)
 
-pub flat-written : (n : ℕ) (c : Match Float) (m : Matrix) (logs : List Float) {s t : Slices} {factors : List Float} {work : List ℕ} → Levelled n c noSums s
-    → Enters n m logs 0 (length (m .rows)) s t → factors ≡ turnedAll n t → work ≡ replicate (length (t .work)) 0
-    → slices factors work ≡ slices (flatFactors (input n c m logs)) (replicate n 0)
-flat-written n c m logs {s} {t} {factors} {work} start enters turn clear =
-    let end : Levelled n c (sumsTo (input n c m logs) (length (m .rows))) t = enters .levels c (no-places (input n c m logs) s start) in
-    let f : factors ≡ flatFactors (input n c m logs) = turn ∙ turned-flat (input n c m logs) t end in
-    let w : work ≡ replicate n 0 = clear ∙ ap (λ (k : ℕ). replicate k 0) (end .words) in
+pub flat-written : (c : Match Float) (m : Matrix) (logs : List Float) {s t : Slices} {factors : List Float} {work : List ℕ}
+    → Levelled (m .pattern .n) c noSums s
+    → Enters m logs 0 (length (m .pattern .rowIdx)) s t → factors ≡ turnedAll (m .pattern .n) t → work ≡ replicate (length (t .work)) 0
+    → slices factors work ≡ slices (flatFactors (input c m logs)) (replicate (m .pattern .n) 0)
+flat-written c m logs {s} {t} {factors} {work} start enters turn clear =
+    let end : Levelled (m .pattern .n) c (sumsTo (input c m logs) (length (m .pattern .rowIdx))) t = enters .levels c (no-places (input c m logs) s start) in
+    let f : factors ≡ flatFactors (input c m logs) = turn ∙ turned-flat (input c m logs) t end in
+    let w : work ≡ replicate (m .pattern .n) 0 = clear ∙ ap (λ (k : ℕ). replicate k 0) (end .words) in
     λ i. record { factors = f i; work = w i }

@@ -27,7 +27,7 @@ lost = matchOf (0 ∷ 1 ∷ none ∷ []) (minusZero ∷ fzero ∷ one ∷ []) (m
 
 -- entries (2, 0) and (2, 1)
 abbrev edge : List Float → Input
-edge logs = input 3 lost (matrix (0 ∷ 1 ∷ 2 ∷ 2 ∷ []) (2 ∷ 2 ∷ []) (one ∷ one ∷ [])) logs
+edge logs = input lost (matrix 3 (0 ∷ 1 ∷ 2 ∷ 2 ∷ []) (2 ∷ 2 ∷ []) (one ∷ one ∷ [])) logs
 
 flat : flatFactors (edge (fzero ∷ three ∷ [])) ≡ minusZero ∷ fzero ∷ minusThree ∷ []
 unfolding doublesOf matchedBy isMatchedRow logFactor clampLog sumsOver placesTo atMost flattened largestFrom ofBits add sub div neg lt eq
@@ -43,6 +43,6 @@ unfolding doublesOf matchedBy isMatchedRow logFactor clampLog sumsOver placesTo 
 other-first = refl
 
 -- no entry to a matched index
-alone : flatFactors (input 3 lost (matrix (0 ∷ 0 ∷ 0 ∷ 1 ∷ []) (2 ∷ []) (one ∷ [])) (three ∷ [])) ≡ minusZero ∷ fzero ∷ fzero ∷ []
+alone : flatFactors (input lost (matrix 3 (0 ∷ 0 ∷ 0 ∷ 1 ∷ []) (2 ∷ []) (one ∷ [])) (three ∷ [])) ≡ minusZero ∷ fzero ∷ fzero ∷ []
 unfolding doublesOf matchedBy isMatchedRow logFactor clampLog sumsOver placesTo atMost flattened largestFrom ofBits add sub div neg lt eq
 alone = refl

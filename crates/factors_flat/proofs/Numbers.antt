@@ -23,7 +23,7 @@ use Rattle.factors_mc64.specs.declared.Scaled.the-variants.{Applied, PartialSin
 use Rattle.factors_mc64.specs.Calls.{Slices, numberOf, symmetricOutcome}
 use Rattle.factors_flat.specs.declared.Rule.{Rule}
 use Rattle.factors_flat.specs.declared.Rule.the-variants.{Identity, Flat}
-use Rattle.factors_flat.specs.Flat.{Input}
+use Rattle.factors_flat.specs.Flat.{Input, columns}
 use Rattle.factors_flat.specs.Call.{ruleOutcome, ruleFault, ruleScaled, flatOutcome, Promises}
 use Rattle.factors_flat.specs.ByNumber.{ruleOf, unfitFault, resultOf, resultBy, lent, numberFault, NumberPromises}
 
@@ -71,15 +71,15 @@ module _ (number matched : ℕ) (g : Input) (s : Slices) (old : List ℕ) where
   no-rule h = record { result = rw (lt-leb number 1 h) refl; shared = λ e. let z : ⊥ = omega arith in absurd z; number = refl }
 
   module _ (low : number ≤ 1) where
-    pub unfit : {found : ℕ} → length old ≢ 1 → found ≡ unfitFault (ruleOf number) (g .n) (length (g .stored .rows)) → Promised found s old
+    pub unfit : {found : ℕ} → length old ≢ 1 → found ≡ unfitFault (ruleOf number) (columns g) (length (g .stored .pattern .rowIdx)) → Promised found s old
     unfolding resultBy numberFault
     unfit {found} h e =
-        let some : found ≢ 0 = λ z. unfit-refuses (ruleOf number) (g .n) (length (g .stored .rows)) (sym e ∙ z) in
+        let some : found ≢ 0 = λ z. unfit-refuses (ruleOf number) (columns g) (length (g .stored .pattern .rowIdx)) (sym e ∙ z) in
         let wrong : found ≡ numberFault number matched g s old = rw (le-leb number 1 low, ne-eqb (length old) 1 h) e in
         record {
           result = refused-is asNumber (resultOf (ruleScaled (ruleOf number) matched g) old) (lent s old) wrong some;
           shared = λ z. absurd (some z);
-          number = subst (OneOf ruleNumbers) (sym e) (unfit-listed (ruleOf number) (g .n) (length (g .stored .rows)) .is);
+          number = subst (OneOf ruleNumbers) (sym e) (unfit-listed (ruleOf number) (columns g) (length (g .stored .pattern .rowIdx)) .is);
         }
 
     module _ (h : length old ≡ 1) {rule : Rule} {a : Scaled} {after : Slices} (r : rule ≡ ruleOf number) (P : Promises rule matched g s a after) where

@@ -12,15 +12,15 @@ use lib.Ieee.{Float, nan, binary64, add, eq, lt}
 use lib.ListN.{length, getD, set, length-set}
 use lib.Seq.{getD-set-same, getD-set-other}
 use Rattle.float64.specs.Constants as Constants
-use Rattle.sparse.specs.Matrix.{Matrix}
+use Rattle.sparse.specs.Matrix.{Matrix, matrix}
 use Rattle.matching.specs.Match.{Match}
 use Rattle.mc64_columns.specs.Columns.{largestFrom}
 use Rattle.mc64_symmetric.specs.Graph.{placeRow, placesTo, otherEnd}
-use Rattle.mc64_symmetric.specs.inner.Steps.{columnsOf, Triangle}
+use Rattle.mc64_symmetric.specs.inner.Steps.{Triangle}
 use Rattle.mc64_symmetric.proofs.Places.{In, col-is, row-below, dropped, in-row, in-column, elsewhere}
 use Rattle.factors_mc64.specs.Factors.{factorAt}
 use Rattle.factors_mc64.specs.Calls.{Slices}
-use Rattle.factors_flat.specs.Flat.{Input, input, isMatched, alone, sumAt, sumsOver}
+use Rattle.factors_flat.specs.Flat.{Input, input, columns, isMatched, alone, sumAt, sumsOver}
 use Rattle.factors_flat.specs.inner.Steps.{mark, held, Levelled, sumsTo, Enters, raisedTo, raisedAt, entered}
 
 -- ---- one sum more
@@ -39,13 +39,13 @@ mark-more s [] = refl
 mark-more s (x ∷ l) = refl
 
 pub sums-more : (g : Input) (i : ℕ) (l : List ℕ) (k : ℕ) → sumsOver g i (l ++ (k ∷ [])) ≡ sumsOver g i l ++ alone
-    (isMatched (g .n) (g .pairs) (otherEnd (g .stored) i k)) (sumAt g i k)
+    (isMatched (columns g) (g .pairs) (otherEnd (g .stored) i k)) (sumAt g i k)
 unfolding sumsOver
-sums-more g i [] k = append-nil (alone (isMatched (g .n) (g .pairs) (otherEnd (g .stored) i k)) (sumAt g i k))
+sums-more g i [] k = append-nil (alone (isMatched (columns g) (g .pairs) (otherEnd (g .stored) i k)) (sumAt g i k))
 sums-more g i (h ∷ l) k =
-    ap (λ (r : List Float). alone (isMatched (g .n) (g .pairs) (otherEnd (g .stored) i h)) (sumAt g i h) ++ r) (sums-more g i l k)
-    ∙ sym (append-assoc (alone (isMatched (g .n) (g .pairs) (otherEnd (g .stored) i h)) (sumAt g i h)) (sumsOver g i l)
-    (alone (isMatched (g .n) (g .pairs) (otherEnd (g .stored) i k)) (sumAt g i k)))
+    ap (λ (r : List Float). alone (isMatched (columns g) (g .pairs) (otherEnd (g .stored) i h)) (sumAt g i h) ++ r) (sums-more g i l k)
+    ∙ sym (append-assoc (alone (isMatched (columns g) (g .pairs) (otherEnd (g .stored) i h)) (sumAt g i h)) (sumsOver g i l)
+    (alone (isMatched (columns g) (g .pairs) (otherEnd (g .stored) i k)) (sumAt g i k)))
 
 -- ---- an index whose sums stay, or that has no use for them
 held-same : (b : Bool) (f : Float) (l k : List Float) → (b ≡ false → k ≡ l) → held b f k ≡ held b f l
@@ -108,13 +108,14 @@ module _ (n : ℕ) (c : Match Float) (sums more : ℕ → List Float) (s : Slice
       marked i l (no e) = getD-set-other (s .work) to i 2 0 e ∙ h .marksAt i l ∙ sym (mark-same (isMatched n c i) (sums i) (more i) (same i l e))
 
 -- ---- one place more of column j of the triangle
-module _ (n : ℕ) (c : Match Float) (m : Matrix) (logs : List Float) (t : Triangle m) where
+module _ (c : Match Float) (m : Matrix) (logs : List Float) (t : Triangle m) where
   abbrev g : Input
-  g = input n c m logs
+  g = input c m logs
 
-  pub entry-dropped : (k : ℕ) (s : Slices) → eq (getD (m .values) k nan) Constants.zero ≡ true → Levelled n c (sumsTo g k) s → Levelled n c (sumsTo g (k + 1)) s
+  pub entry-dropped : (k : ℕ) (s : Slices) → eq (getD (m .values) k nan) Constants.zero ≡ true → Levelled (m .pattern .n) c (sumsTo g k) s
+      → Levelled (m .pattern .n) c (sumsTo g (k + 1)) s
   entry-dropped k s z h =
-      levelled-same n c (sumsTo g k) (sumsTo g (k + 1)) s h (λ i l u. ap (sumsOver g i) (ap (placesTo m i) (add-one k) ∙ dropped m i k z))
+      levelled-same (m .pattern .n) c (sumsTo g k) (sumsTo g (k + 1)) s h (λ i l u. ap (sumsOver g i) (ap (placesTo m i) (add-one k) ∙ dropped m i k z))
 
   module _ {j k : ℕ} (p : In m j k) (z : eq (getD (m .values) k nan) Constants.zero ≡ false) where
     own-row : otherEnd m j k ≡ placeRow m k
@@ -129,7 +130,7 @@ module _ (n : ℕ) (c : Match Float) (m : Matrix) (logs : List Float) (t : Trian
 
     -- the sum that index i gets by the place whose other end is x
     abbrev by : ℕ → List Float
-    by x = alone (isMatched n c x) (add binary64 (getD logs k nan) (factorAt n c x))
+    by x = alone (isMatched (m .pattern .n) c x) (add binary64 (getD logs k nan) (factorAt (m .pattern .n) c x))
 
     column-more : sumsTo g (k + 1) j ≡ sumsTo g k j ++ by (placeRow m k)
     column-more =
@@ -144,16 +145,17 @@ module _ (n : ℕ) (c : Match Float) (m : Matrix) (logs : List Float) (t : Trian
     others : (i : ℕ) → (i ≡ placeRow m k → ⊥) → (i ≡ j → ⊥) → sumsTo g (k + 1) i ≡ sumsTo g k i
     others i a b = ap (sumsOver g i) (ap (placesTo m i) (add-one k) ∙ elsewhere m i k z (λ q. a (sym q)) (λ q. b (sym q ∙ col-is m t p)))
 
-    no-more : (i x : ℕ) → isMatched n c x ≡ false → sumsTo g k i ++ by x ≡ sumsTo g k i
-    no-more i x e = ap (λ (b : Bool). sumsTo g k i ++ alone b (add binary64 (getD logs k nan) (factorAt n c x))) e ∙ append-nil (sumsTo g k i)
+    no-more : (i x : ℕ) → isMatched (m .pattern .n) c x ≡ false → sumsTo g k i ++ by x ≡ sumsTo g k i
+    no-more i x e = ap (λ (b : Bool). sumsTo g k i ++ alone b (add binary64 (getD logs k nan) (factorAt (m .pattern .n) c x))) e ∙ append-nil (sumsTo g k i)
 
-    one-more : (i x : ℕ) → isMatched n c x ≡ true → sumsTo g k i ++ by x ≡ sumsTo g k i ++ (add binary64 (getD logs k nan) (factorAt n c x) ∷ [])
-    one-more i x e = ap (λ (b : Bool). sumsTo g k i ++ alone b (add binary64 (getD logs k nan) (factorAt n c x))) e
+    one-more : (i x : ℕ) → isMatched (m .pattern .n) c x ≡ true → sumsTo g k i ++ by x ≡ sumsTo g k i ++
+        (add binary64 (getD logs k nan) (factorAt (m .pattern .n) c x) ∷ [])
+    one-more i x e = ap (λ (b : Bool). sumsTo g k i ++ alone b (add binary64 (getD logs k nan) (factorAt (m .pattern .n) c x))) e
 
     -- an end that is matched, or whose other end is not, keeps its sums
-    stays : (i : ℕ) → (i ≡ placeRow m k → isMatched n c i ≡ false → isMatched n c j ≡ false)
-        → (i ≡ j → isMatched n c i ≡ false → isMatched n c (placeRow m k) ≡ false)
-        → isMatched n c i ≡ false → sumsTo g (k + 1) i ≡ sumsTo g k i
+    stays : (i : ℕ) → (i ≡ placeRow m k → isMatched (m .pattern .n) c i ≡ false → isMatched (m .pattern .n) c j ≡ false)
+        → (i ≡ j → isMatched (m .pattern .n) c i ≡ false → isMatched (m .pattern .n) c (placeRow m k) ≡ false)
+        → isMatched (m .pattern .n) c i ≡ false → sumsTo g (k + 1) i ≡ sumsTo g k i
     stays i a b u = go (ℕ-discrete i (placeRow m k)) (ℕ-discrete i j)
       where
         go : Dec (i ≡ placeRow m k) → Dec (i ≡ j) → sumsTo g (k + 1) i ≡ sumsTo g k i
@@ -161,57 +163,63 @@ module _ (n : ℕ) (c : Match Float) (m : Matrix) (logs : List Float) (t : Trian
         go (no e) (yes f) = subst (λ (x : ℕ). sumsTo g (k + 1) x ≡ sumsTo g k x) (sym f) (column-more ∙ no-more j (placeRow m k) (b f u))
         go (no e) (no f) = others i e f
 
-    pub entry-entered : (s : Slices) → columnsOf m ≡ n → Levelled n c (sumsTo g k) s
-        → Levelled n c (sumsTo g (k + 1)) (entered (eqb (getD (s .work) (placeRow m k) 0) 1) (eqb (getD (s .work) j 0) 1) (placeRow m k) j (getD logs k nan) s)
-    entry-entered s size h = rw (tells (placeRow m k) row, tells j column) (go (isMatched n c (placeRow m k)) refl (isMatched n c j) refl)
+    pub entry-entered : (s : Slices) → Levelled (m .pattern .n) c (sumsTo g k) s
+        → Levelled (m .pattern .n) c (sumsTo g (k + 1)) (entered (eqb (getD (s .work) (placeRow m k) 0) 1) (eqb (getD (s .work) j 0) 1) (placeRow m k) j
+        (getD logs k nan) s)
+    entry-entered s h = rw (tells (placeRow m k) row, tells j column)
+        (go (isMatched (m .pattern .n) c (placeRow m k)) refl (isMatched (m .pattern .n) c j) refl)
       where
-        row : placeRow m k < n
-        row = omega (arith, row-below m t p)
+        row : placeRow m k < m .pattern .n
+        row = row-below m t p
 
-        column : j < n
-        column = omega (arith, p .column)
+        column : j < m .pattern .n
+        column = p .column
 
-        tells : (i : ℕ) → i < n → eqb (getD (s .work) i 0) 1 ≡ isMatched n c i
-        tells i l = ap (λ (w : ℕ). eqb w 1) (h .marksAt i l) ∙ mark-tells (isMatched n c i) (sumsTo g k i)
+        tells : (i : ℕ) → i < m .pattern .n → eqb (getD (s .work) i 0) 1 ≡ isMatched (m .pattern .n) c i
+        tells i l = ap (λ (w : ℕ). eqb w 1) (h .marksAt i l) ∙ mark-tells (isMatched (m .pattern .n) c i) (sumsTo g k i)
 
         clash : {A : Type 0} {b : Bool} → b ≡ true → b ≡ false → A
         clash e f = absurd (true≢false (sym e ∙ f))
 
-        go : (x : Bool) → isMatched n c (placeRow m k) ≡ x → (y : Bool) → isMatched n c j ≡ y
-            → Levelled n c (sumsTo g (k + 1)) (entered x y (placeRow m k) j (getD logs k nan) s)
+        go : (x : Bool) → isMatched (m .pattern .n) c (placeRow m k) ≡ x → (y : Bool) → isMatched (m .pattern .n) c j ≡ y
+            → Levelled (m .pattern .n) c (sumsTo g (k + 1)) (entered x y (placeRow m k) j (getD logs k nan) s)
         go true e true f =
-            levelled-same n c (sumsTo g k) (sumsTo g (k + 1)) s h
-            (λ i l. stays i (λ q u. clash (ap (isMatched n c) q ∙ e) u) (λ q u. clash (ap (isMatched n c) q ∙ f) u))
-        go false e false f = levelled-same n c (sumsTo g k) (sumsTo g (k + 1)) s h (λ i l. stays i (λ q u. f) (λ q u. e))
+            levelled-same (m .pattern .n) c (sumsTo g k) (sumsTo g (k + 1)) s h
+            (λ i l. stays i (λ q u. clash (ap (isMatched (m .pattern .n) c) q ∙ e) u) (λ q u. clash (ap (isMatched (m .pattern .n) c) q ∙ f) u))
+        go false e false f = levelled-same (m .pattern .n) c (sumsTo g k) (sumsTo g (k + 1)) s h (λ i l. stays i (λ q u. f) (λ q u. e))
         go true e false f =
-            levelled-more n c (sumsTo g k) (sumsTo g (k + 1)) s h j (placeRow m k) (getD logs k nan) column row f e (column-more ∙ one-more j (placeRow m k) e)
+            levelled-more (m .pattern .n) c (sumsTo g k) (sumsTo g (k + 1)) s h j (placeRow m k) (getD logs k nan) column row f e
+            (column-more ∙ one-more j (placeRow m k) e)
             (λ i l d. stays i (λ q u. f) (λ q u. absurd (d q)))
         go false e true f =
-            levelled-more n c (sumsTo g k) (sumsTo g (k + 1)) s h (placeRow m k) j (getD logs k nan) row column e f (row-more ∙ one-more (placeRow m k) j f)
+            levelled-more (m .pattern .n) c (sumsTo g k) (sumsTo g (k + 1)) s h (placeRow m k) j (getD logs k nan) row column e f
+            (row-more ∙ one-more (placeRow m k) j f)
             (λ i l d. stays i (λ q u. absurd (d q)) (λ q u. e))
 
 -- ---- from place to place, for any match
-module _ {n : ℕ} {m : Matrix} {logs : List Float} where
-  pub enters-none : (k : ℕ) (s : Slices) → Enters n m logs k k s s
+module _ {m : Matrix} {logs : List Float} where
+  pub enters-none : (k : ℕ) (s : Slices) → Enters m logs k k s s
   enters-none k s = record { levels = λ c h. h }
 
-  pub enters-join : {a b d : ℕ} {s t r : Slices} → Enters n m logs a b s t → Enters n m logs b d t r → Enters n m logs a d s r
+  pub enters-join : {a b d : ℕ} {s t r : Slices} → Enters m logs a b s t → Enters m logs b d t r → Enters m logs a d s r
   enters-join p q = record { levels = λ c h. q .levels c (p .levels c h) }
 
-  pub enters-dropped : Triangle m → {a k : ℕ} {s t : Slices} → eq (getD (m .values) k nan) Constants.zero ≡ true → Enters n m logs a k s t
-      → Enters n m logs a (k + 1) s t
-  enters-dropped tri {a} {k} {s} {t} z p = record { levels = λ c h. entry-dropped n c m logs tri k t z (p .levels c h) }
+  pub enters-dropped : Triangle m → {a k : ℕ} {s t : Slices} → eq (getD (m .values) k nan) Constants.zero ≡ true → Enters m logs a k s t
+      → Enters m logs a (k + 1) s t
+  enters-dropped tri {a} {k} {s} {t} z p = record { levels = λ c h. entry-dropped c m logs tri k t z (p .levels c h) }
 
-  pub enters-more : Triangle m → columnsOf m ≡ n → {a j k : ℕ} {s t after : Slices} → In m j k → eq (getD (m .values) k nan) Constants.zero ≡ false
+  pub enters-more : Triangle m → {a j k : ℕ} {s t after : Slices} → In m j k → eq (getD (m .values) k nan) Constants.zero ≡ false
       → after ≡ entered (eqb (getD (t .work) (placeRow m k) 0) 1) (eqb (getD (t .work) j 0) 1) (placeRow m k) j (getD logs k nan) t
-      → Enters n m logs a k s t → Enters n m logs a (k + 1) s after
-  enters-more tri size {a} {j} {k} {s} {t} {after} i z e p =
+      → Enters m logs a k s t → Enters m logs a (k + 1) s after
+  enters-more tri {a} {j} {k} {s} {t} {after} i z e p =
       record {
-        levels = λ c h. subst (λ (r : Slices). Levelled n c (sumsTo (input n c m logs) (k + 1)) r) (sym e)
-            (entry-entered n c m logs tri i z t size (p .levels c h));
+        levels = λ c h. subst (λ (r : Slices). Levelled (m .pattern .n) c (sumsTo (input c m logs) (k + 1)) r) (sym e)
+            (entry-entered c m logs tri i z t (p .levels c h));
       }
 
 -- with the length of a slice in the place of n
-pub enters-next : {n l : ℕ} {m : Matrix} {logs : List Float} {a b d : ℕ} {s t r : Slices} → l ≡ n → Enters n m logs a b s t → Enters l m logs b d t r
-    → Enters n m logs a d s r
-enters-next {n} {l} {m} {logs} {a} {b} {d} {s} {t} {r} e p q = enters-join p (subst (λ (i : ℕ). Enters i m logs b d t r) e q)
+pub enters-next : {n l : ℕ} {colPtr rows : List ℕ} {values logs : List Float} {a b d : ℕ} {s t r : Slices} → l ≡ n
+    → Enters (matrix n colPtr rows values) logs a b s t → Enters (matrix l colPtr rows values) logs b d t r
+    → Enters (matrix n colPtr rows values) logs a d s r
+enters-next {n} {l} {colPtr} {rows} {values} {logs} {a} {b} {d} {s} {t} {r} e p q =
+    enters-join p (subst (λ (i : ℕ). Enters (matrix i colPtr rows values) logs b d t r) e q)

@@ -19,7 +19,7 @@ use Rattle.factors_mc64.specs.declared.Scaled.the-variants.{Applied, PartialSin
 use Rattle.factors_mc64.specs.Calls.{Slices, numberOf, unmatchedOf}
 use Rattle.factors_flat.specs.declared.Rule.{Rule}
 use Rattle.factors_flat.specs.declared.Rule.the-variants.{Identity, Flat}
-use Rattle.factors_flat.specs.Flat.{Input}
+use Rattle.factors_flat.specs.Flat.{Input, columns}
 use Rattle.factors_flat.specs.Call.{Shared, ruleFault, ruleScaled}
 
 -- the rule of a number
@@ -55,7 +55,7 @@ unfoldable pub numberFault : ℕ → ℕ → Input → Slices → List ℕ → �
 numberFault number matched g s old =
     cond (leb number 1)
     (cond (eqb (length old) 1) (ruleFault (ruleOf number) matched g s)
-    (unfitFault (ruleOf number) (g .n) (length (g .stored .rows))))
+    (unfitFault (ruleOf number) (columns g) (length (g .stored .pattern .rowIdx))))
     indexRange
 
 -- what `factors_by_number` does
@@ -76,6 +76,6 @@ pub record NumberPromises (rule matched : ℕ) (g : Input) (before : Slices) (ol
   -- the number answered and every slice left are the definition's
   pub result : outcomeIs r (lent after left) ≡ resultBy rule matched g before old
   -- what both rules share holds of the factors of an accepted call
-  pub shared : SharesBy (g .n) (g .pairs) r (after .factors)
+  pub shared : SharesBy (columns g) (g .pairs) r (after .factors)
   -- the number answered is one of the call's list
   pub number : OneOf ruleNumbers r

@@ -22,40 +22,41 @@ use Rattle.factors_mc64.specs.Calls.{AnswersBy, appliedOrPartial, symmetricOutc
 use Rattle.mc64_symmetric.specs.Call.{inputFault}
 use Rattle.factors_flat.specs.declared.Rule.{Rule}
 use Rattle.factors_flat.specs.declared.Rule.the-variants.{Identity, Flat}
-use Rattle.factors_flat.specs.Flat.{Input, isMatched, flatFactors}
+use Rattle.factors_flat.specs.Flat.{Input, columns, isMatched, flatFactors}
 
 -- 3: whether every slice has its length
 unfoldable pub flatLengths : Input → Slices → Bool
 flatLengths g s =
-    eqb (length (g .stored .colPtr)) (g .n + 1)
-    && (eqb (length (g .stored .values)) (length (g .stored .rows))
-    && (eqb (length (g .logs)) (length (g .stored .rows)) && lengths (g .n) (g .pairs) s))
+    eqb (length (g .stored .pattern .colPtr)) (columns g + 1)
+    && (eqb (length (g .stored .values)) (length (g .stored .pattern .rowIdx))
+    && (eqb (length (g .logs)) (length (g .stored .pattern .rowIdx)) && lengths (columns g) (g .pairs) s))
 
 -- the first thing wrong by the flat rule, or 0: as for the symmetric graph, then 10
 abbrev pub flatFault : ℕ → Input → Slices → ℕ
 flatFault matched g s =
-    orElse (inputFault (g .n) (g .stored) (g .logs) (flatLengths g s)) (matchingFault (g .n) matched (g .pairs .perm))
+    orElse (inputFault (g .stored) (g .logs) (flatLengths g s)) (matchingFault (columns g) matched (g .pairs .perm))
 
 -- by either rule
 abbrev pub ruleFault : Rule → ℕ → Input → Slices → ℕ
-ruleFault Identity matched g s = logFactorsFault (g .n) matched (g .pairs) s
+ruleFault Identity matched g s = logFactorsFault (columns g) matched (g .pairs) s
 ruleFault Flat matched g s = flatFault matched g s
 
 -- an accepted call by the flat rule: the factors, and work that is zero
 abbrev pub flatScaled : ℕ → Input → Outcome Scaled Slices
-flatScaled matched g = outcomeIs (appliedOrPartial (g .n) matched) (slices (flatFactors g) (replicate (g .n) 0))
+flatScaled matched g =
+    outcomeIs (appliedOrPartial (columns g) matched) (slices (flatFactors g) (replicate (columns g) 0))
 
 unfoldable pub flatOutcome : ℕ → Input → Slices → Outcome Scaled Slices
 flatOutcome matched g s = refusing Refused (flatFault matched g s) (flatScaled matched g) s
 
 -- an accepted call by either rule
 abbrev pub ruleScaled : Rule → ℕ → Input → Outcome Scaled Slices
-ruleScaled Identity matched g = scaled (g .n) matched (g .pairs)
+ruleScaled Identity matched g = scaled (columns g) matched (g .pairs)
 ruleScaled Flat matched g = flatScaled matched g
 
 -- what `log_factors_by_rule` does
 abbrev pub ruleOutcome : Rule → ℕ → Input → Slices → Outcome Scaled Slices
-ruleOutcome Identity matched g s = symmetricOutcome (g .n) matched (g .pairs) s
+ruleOutcome Identity matched g s = symmetricOutcome (columns g) matched (g .pairs) s
 ruleOutcome Flat matched g s = flatOutcome matched g s
 
 -- ---- what a caller may rely on
@@ -81,8 +82,8 @@ pub record Promises (rule : Rule) (matched : ℕ) (g : Input) (before : Slices) 
   -- the answer and every slice left are the definition's
   pub outcome : outcomeIs r after ≡ ruleOutcome rule matched g before
   -- the number is the first fault's, and an accepted call tells how many columns are unmatched
-  pub answered : AnswersBy (ruleFault rule matched g before) (g .n - matched) r
+  pub answered : AnswersBy (ruleFault rule matched g before) (columns g - matched) r
   -- the number is one of the call's list
   pub number : OneOf ruleNumbers (numberOf r)
   -- what both rules share holds of the factors of an accepted call
-  pub shared : Shares (g .n) (g .pairs) r (after .factors)
+  pub shared : Shares (columns g) (g .pairs) r (after .factors)

@@ -15,15 +15,18 @@ use Rattle.mc64_columns.specs.Columns.{largestFrom}
 use Rattle.mc64_symmetric.specs.Graph.{placesOf, otherEnd}
 use Rattle.factors_mc64.specs.Factors.{matchedBoth, factorAt, doublesOf}
 
--- what the factors are made of: a match of n columns, the matrix and a log for each of its entries
+-- what the factors are made of: a match, the matrix and a log for each of its entries
 pub record Input : Type 0 where
-  pub n : ℕ
   pub pairs : Match Float
   pub stored : Matrix
   pub logs : List Float
 
-abbrev pub input : ℕ → Match Float → Matrix → List Float → Input
-input n pairs stored logs = record { n = n; pairs = pairs; stored = stored; logs = logs }
+abbrev pub input : Match Float → Matrix → List Float → Input
+input pairs stored logs = record { pairs = pairs; stored = stored; logs = logs }
+
+-- how many columns
+abbrev pub columns : Input → ℕ
+columns g = g .stored .pattern .n
 
 -- whether index i is matched, of n: its column and its row are, and its largest log is finite
 unfoldable pub matchedBy : ℕ → List ℕ → List Float → ℕ → Bool
@@ -40,12 +43,13 @@ alone false x = []
 
 -- the log of place k plus the factor of the index at its other end, rounded once
 abbrev pub sumAt : Input → ℕ → ℕ → Float
-sumAt g i k = add binary64 (getD (g .logs) k nan) (factorAt (g .n) (g .pairs) (otherEnd (g .stored) i k))
+sumAt g i k = add binary64 (getD (g .logs) k nan) (factorAt (columns g) (g .pairs) (otherEnd (g .stored) i k))
 
 -- those of the places whose other end is matched, in the order of the places
 unfoldable pub sumsOver : Input → ℕ → List ℕ → List Float
 sumsOver g i [] = []
-sumsOver g i (k ∷ l) = alone (isMatched (g .n) (g .pairs) (otherEnd (g .stored) i k)) (sumAt g i k) ++ sumsOver g i l
+sumsOver g i (k ∷ l) =
+    alone (isMatched (columns g) (g .pairs) (otherEnd (g .stored) i k)) (sumAt g i k) ++ sumsOver g i l
 
 -- over all places of its column of the graph: the mirrored ones first, by rising row
 abbrev pub sumsOf : Input → ℕ → List Float
@@ -63,7 +67,7 @@ keptOrFlat true factor sums = factor
 keptOrFlat false factor sums = flattened sums
 
 abbrev pub flatFactorAt : Input → ℕ → Float
-flatFactorAt g i = keptOrFlat (isMatched (g .n) (g .pairs) i) (factorAt (g .n) (g .pairs) i) (sumsOf g i)
+flatFactorAt g i = keptOrFlat (isMatched (columns g) (g .pairs) i) (factorAt (columns g) (g .pairs) i) (sumsOf g i)
 
 abbrev pub flatFactors : Input → List Float
-flatFactors g = doublesOf (flatFactorAt g) (g .n)
+flatFactors g = doublesOf (flatFactorAt g) (columns g)

@@ -44,9 +44,9 @@ fn lengths_fit(
     requires { ⌜ n < 2 ^ 32 ⌝ }
     ensures { λ r.
         let c = matchOf (now (perm .entry)) (now (u .entry)) (now (v .entry)) (now (cmax .entry)) in
-        let m = matrix (now («col_ptr» .entry)) (now («row_idx» .entry)) (now (values .entry)) in
+        let m = matrix n (now («col_ptr» .entry)) (now («row_idx» .entry)) (now (values .entry)) in
         let before = slices (now (factors .entry)) (now (work .entry)) in
-        ⌜ r ≡ flatLengths (input n c m (now (logs .entry))) before ⌝ }
+        ⌜ r ≡ flatLengths (input c m (now (logs .entry))) before ⌝ }
 {
     let count = row_idx.len();
     let held = factors_mc64::lengths_fit(n, perm, u, v, cmax, factors, work);
@@ -66,8 +66,8 @@ fn call_fault(
 ) -> u32
     requires { ⌜ (lengths ≡ true → length (now logs) ≡ length (now values)) ⌝ }
     ensures { λ r.
-        let m = matrix (now («col_ptr» .entry)) (now («row_idx» .entry)) (now (values .entry)) in
-        ⌜ r ≡ orElse (inputFault n m (now (logs .entry)) lengths) (matchingFault n matched (now (perm .entry))) ⌝ }
+        let m = matrix n (now («col_ptr» .entry)) (now («row_idx» .entry)) (now (values .entry)) in
+        ⌜ r ≡ orElse (inputFault m (now (logs .entry)) lengths) (matchingFault n matched (now (perm .entry))) ⌝ }
 {
     let fault = mc64_symmetric::input_fault(n, col_ptr, row_idx, values, logs, lengths);
     if fault != refusal::ACCEPTED {
@@ -169,15 +169,16 @@ fn enter_column(
     work: &mut [u32],
 )
     requires { ⌜ (j < length (now factors)) × (length (now work) ≡ length (now factors)) ⌝ }
-    requires { let m = matrix (now «col_ptr») (now «row_idx») (now values) in
-        ⌜ Ready (length (now factors)) m (now logs) ⌝ }
+    requires { let m = matrix (length (now factors)) (now «col_ptr») (now «row_idx») (now values) in
+        ⌜ Ready m (now logs) ⌝ }
     ensures { λ _.
-        let m = matrix (now («col_ptr» .entry)) (now («row_idx» .entry)) (now (values .entry)) in
+        let m = matrix (length (now (factors .entry))) (now («col_ptr» .entry)) (now («row_idx» .entry))
+        (now (values .entry)) in
         let from = getD (now («col_ptr» .entry)) j 0 in
         let to = getD (now («col_ptr» .entry)) (j + 1) 0 in
         let before = slices (now (factors .entry)) (now (work .entry)) in
         let after = slices (now (factors .exit)) (now (work .exit)) in
-        ⌜ Enters (length (now (factors .entry))) m (now (logs .entry)) from to before after ⌝ }
+        ⌜ Enters m (now (logs .entry)) from to before after ⌝ }
 {
     for k in col_ptr[j] as usize..col_ptr[j + 1] as usize {
         if values[k] == 0.0 {
@@ -198,12 +199,12 @@ fn enter_entries(
     work: &mut [u32],
 )
     requires { ⌜ (length (now factors) ≡ n) × (length (now work) ≡ n) ⌝ }
-    requires { ⌜ Ready n (matrix (now «col_ptr») (now «row_idx») (now values)) (now logs) ⌝ }
+    requires { ⌜ Ready (matrix n (now «col_ptr») (now «row_idx») (now values)) (now logs) ⌝ }
     ensures { λ _.
-        let m = matrix (now («col_ptr» .entry)) (now («row_idx» .entry)) (now (values .entry)) in
+        let m = matrix n (now («col_ptr» .entry)) (now («row_idx» .entry)) (now (values .entry)) in
         let before = slices (now (factors .entry)) (now (work .entry)) in
         let after = slices (now (factors .exit)) (now (work .exit)) in
-        ⌜ Enters n m (now (logs .entry)) 0 (length (now («row_idx» .entry))) before after ⌝ }
+        ⌜ Enters m (now (logs .entry)) 0 (length (now («row_idx» .entry))) before after ⌝ }
 {
     for j in 0..n {
         enter_column(j, col_ptr, row_idx, values, logs, factors, work);
@@ -245,12 +246,12 @@ fn write_flat(
     work: &mut [u32],
 )
     requires { ⌜ Accepted n (matchOf (now perm) (now u) (now v) (now cmax)) (slices (now factors) (now work)) ⌝ }
-    requires { ⌜ Ready n (matrix (now «col_ptr») (now «row_idx») (now values)) (now logs) ⌝ }
+    requires { ⌜ Ready (matrix n (now «col_ptr») (now «row_idx») (now values)) (now logs) ⌝ }
     ensures { λ _.
         let c = matchOf (now (perm .entry)) (now (u .entry)) (now (v .entry)) (now (cmax .entry)) in
-        let m = matrix (now («col_ptr» .entry)) (now («row_idx» .entry)) (now (values .entry)) in
+        let m = matrix n (now («col_ptr» .entry)) (now («row_idx» .entry)) (now (values .entry)) in
         let after = slices (now (factors .exit)) (now (work .exit)) in
-        ⌜ after ≡ slices (flatFactors (input n c m (now (logs .entry)))) (replicate n 0) ⌝ }
+        ⌜ after ≡ slices (flatFactors (input c m (now (logs .entry)))) (replicate n 0) ⌝ }
 {
     fill_matched(n, perm, u, v, cmax, factors, work);
     enter_entries(n, col_ptr, row_idx, values, logs, factors, work);
@@ -275,10 +276,10 @@ fn flat_factors(
 ) -> Scaled
     ensures { λ r.
         let c = matchOf (now (perm .entry)) (now (u .entry)) (now (v .entry)) (now (cmax .entry)) in
-        let m = matrix (now («col_ptr» .entry)) (now («row_idx» .entry)) (now (values .entry)) in
+        let m = matrix n (now («col_ptr» .entry)) (now («row_idx» .entry)) (now (values .entry)) in
         let before = slices (now (factors .entry)) (now (work .entry)) in
         let after = slices (now (factors .exit)) (now (work .exit)) in
-        ⌜ outcomeIs r after ≡ flatOutcome matched (input n c m (now (logs .entry))) before ⌝ }
+        ⌜ outcomeIs r after ≡ flatOutcome matched (input c m (now (logs .entry))) before ⌝ }
 {
     let size = n as usize;
     let fit = lengths_fit(
@@ -332,10 +333,10 @@ pub fn log_factors_by_rule(
 ) -> Scaled
     ensures { λ r.
         let c = matchOf (now (perm .entry)) (now (u .entry)) (now (v .entry)) (now (cmax .entry)) in
-        let m = matrix (now («col_ptr» .entry)) (now («row_idx» .entry)) (now (values .entry)) in
+        let m = matrix n (now («col_ptr» .entry)) (now («row_idx» .entry)) (now (values .entry)) in
         let before = slices (now (factors .entry)) (now (work .entry)) in
         let after = slices (now (factors .exit)) (now (work .exit)) in
-        ⌜ Promises rule matched (input n c m (now (logs .entry))) before r after ⌝ }
+        ⌜ Promises rule matched (input c m (now (logs .entry))) before r after ⌝ }
 {
     match rule {
         Rule::Identity => factors_mc64::log_factors(n, matched, perm, u, v, cmax, factors, work),
@@ -395,8 +396,8 @@ pub fn factors_by_number(
 ) -> u32
     ensures { λ r.
         let c = matchOf (now (perm .entry)) (now (u .entry)) (now (v .entry)) (now (cmax .entry)) in
-        let m = matrix (now («col_ptr» .entry)) (now («row_idx» .entry)) (now (values .entry)) in
-        let g = input n c m (now (logs .entry)) in
+        let m = matrix n (now («col_ptr» .entry)) (now («row_idx» .entry)) (now (values .entry)) in
+        let g = input c m (now (logs .entry)) in
         let before = slices (now (factors .entry)) (now (work .entry)) in
         let after = slices (now (factors .exit)) (now (work .exit)) in
         ⌜ NumberPromises number matched g before (now (unmatched .entry)) r after (now (unmatched .exit)) ⌝ }

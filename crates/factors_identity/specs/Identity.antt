@@ -11,6 +11,7 @@ use Rattle.sparse.specs.Matrix.{Matrix}
 use Rattle.infnorm.specs.Call.{lengthsFit, inputFault}
 
 -- what `identity_factors` does: the number answered, and the factors left
-unfoldable pub identityFactors : ℕ → Matrix → List Float → Outcome ℕ (List Float)
-identityFactors n m factors =
-    refusing asNumber (inputFault n m (lengthsFit n m factors)) (outcomeIs accepted (replicate n Constants.one)) factors
+unfoldable pub identityFactors : Matrix → List Float → Outcome ℕ (List Float)
+identityFactors m factors =
+    refusing asNumber (inputFault m (lengthsFit m factors))
+    (outcomeIs accepted (replicate (m .pattern .n) Constants.one)) factors

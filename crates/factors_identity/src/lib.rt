@@ -13,8 +13,8 @@ pub fn identity_factors(
     factors: &mut [f64],
 ) -> u32
     ensures { λ r.
-        let m = matrix (now («col_ptr» .entry)) (now («row_idx» .entry)) (now (values .entry)) in
-        ⌜ outcomeIs r (now (factors .exit)) ≡ identityFactors n m (now (factors .entry)) ⌝ }
+        let m = matrix n (now («col_ptr» .entry)) (now («row_idx» .entry)) (now (values .entry)) in
+        ⌜ outcomeIs r (now (factors .exit)) ≡ identityFactors m (now (factors .entry)) ⌝ }
 {
     let lengths = infnorm::lengths_fit(n as usize, col_ptr, row_idx, values, factors);
     let fault = infnorm::input_fault(n, col_ptr, row_idx, values, lengths);

@@ -4,7 +4,6 @@ ghost use mathlib.Core.Path.{_≡_};
 ghost use mathlib.Core.List.{List};
 ghost use Prim.Native.Nat.{ℕ, _+_, _*_, _≤_};
 ghost use lib.ListN.{length};
-ghost use Rattle.hungarian.specs.Graph.{CostGraph, graphOf};
 ghost use Rattle.hungarian.specs.Match.{permOf, columnDuals, rowDuals};
 ghost use Rattle.hungarian.specs.inner.Layout.{region, ipermAt, jpermAt};
 ghost use Rattle.hungarian_match.specs.inner.StepsFinish.{Finishable, Columned};

@@ -19,38 +19,38 @@ use Rattle.infnorm_factors.specs.Factors.{onepassFactors}
 use Rattle.infnorm.specs.Call.{lengthsFit, inputFault, computeInfnorm, computeOnepass, Slices, slices, iterated}
 use Rattle.infnorm.specs.Call.{InfnormPromises, OnepassPromises}
 
-pub input-listed : (n : ℕ) (m : Matrix) (lengths : Bool) → Listed symmetricNumbers (inputFault n m lengths)
+pub input-listed : (m : Matrix) (lengths : Bool) → Listed symmetricNumbers (inputFault m lengths)
 unfolding listed within inputFault
-input-listed n m lengths =
-    or-listed (part sizeNumbers (sizes-listed n maxSymmetric (length (m .rows)) lengths) refl) (symmetric-listed n (m .colPtr) (m .rows) (m .values))
+input-listed m lengths =
+    or-listed (part sizeNumbers (sizes-listed (m .pattern .n) maxSymmetric (length (m .pattern .rowIdx)) lengths) refl) (symmetric-listed m)
 
-module _ (n : ℕ) (m : Matrix) (factors : List Float) where
-  pub infnorm-listed : (work : List Float) → Listed symmetricNumbers (computeInfnorm n m factors work .answer)
+module _ (m : Matrix) (factors : List Float) where
+  pub infnorm-listed : (work : List Float) → Listed symmetricNumbers (computeInfnorm m factors work .answer)
   unfolding computeInfnorm iterated
-  infnorm-listed work = let fit = lengthsFit n m factors && eqb (length work) n in go (inputFault n m fit) (input-listed n m fit)
+  infnorm-listed work = let fit = lengthsFit m factors && eqb (length work) (m .pattern .n) in go (inputFault m fit) (input-listed m fit)
     where
-      go : (fault : ℕ) → Listed symmetricNumbers fault → Listed symmetricNumbers (refusing asNumber fault (iterated n m) (slices factors work) .answer)
+      go : (fault : ℕ) → Listed symmetricNumbers fault → Listed symmetricNumbers (refusing asNumber fault (iterated m) (slices factors work) .answer)
       go zero p = p
       go (suc fault) p = p
 
-  pub onepass-listed : Listed symmetricNumbers (computeOnepass n m factors .answer)
+  pub onepass-listed : Listed symmetricNumbers (computeOnepass m factors .answer)
   unfolding computeOnepass
-  onepass-listed = let fit = lengthsFit n m factors in go (inputFault n m fit) (input-listed n m fit)
+  onepass-listed = let fit = lengthsFit m factors in go (inputFault m fit) (input-listed m fit)
     where
-      go : (fault : ℕ) → Listed symmetricNumbers fault → Listed symmetricNumbers (refusing asNumber fault (outcomeIs 0 (onepassFactors n m)) factors .answer)
+      go : (fault : ℕ) → Listed symmetricNumbers fault → Listed symmetricNumbers (refusing asNumber fault (outcomeIs 0 (onepassFactors m)) factors .answer)
       go zero p = p
       go (suc fault) p = p
 
   -- ---- the promises: an answer that is its number's
   pub infnorm-promised : (work : List Float) {r : Validity} {after cleared : List Float} → r ≡ validityOf (numberOf r)
-      → outcomeIs (numberOf r) (slices after cleared) ≡ computeInfnorm n m factors work
-      → InfnormPromises n m factors work r after cleared
+      → outcomeIs (numberOf r) (slices after cleared) ≡ computeInfnorm m factors work
+      → InfnormPromises m factors work r after cleared
   infnorm-promised work {r} a e =
-      let number : numberOf r ≡ computeInfnorm n m factors work .answer = ap (λ (o : Outcome ℕ Slices). o .answer) e in
+      let number : numberOf r ≡ computeInfnorm m factors work .answer = ap (λ (o : Outcome ℕ Slices). o .answer) e in
       record { outcome = e; answer = a ∙ ap validityOf number; number = subst (OneOf symmetricNumbers) (sym number) (infnorm-listed work .is) }
 
-  pub onepass-promised : {r : Validity} {after : List Float} → r ≡ validityOf (numberOf r) → outcomeIs (numberOf r) after ≡ computeOnepass n m factors
-      → OnepassPromises n m factors r after
+  pub onepass-promised : {r : Validity} {after : List Float} → r ≡ validityOf (numberOf r) → outcomeIs (numberOf r) after ≡ computeOnepass m factors
+      → OnepassPromises m factors r after
   onepass-promised {r} a e =
-      let number : numberOf r ≡ computeOnepass n m factors .answer = ap (λ (o : Outcome ℕ (List Float)). o .answer) e in
+      let number : numberOf r ≡ computeOnepass m factors .answer = ap (λ (o : Outcome ℕ (List Float)). o .answer) e in
       record { outcome = e; answer = a ∙ ap validityOf number; number = subst (OneOf symmetricNumbers) (sym number) (onepass-listed .is) }

@@ -19,14 +19,16 @@ use Rattle.sparse.specs.Matrix.{Matrix}
 use Rattle.infnorm_factors.specs.Factors.{infnormFactors, onepassFactors}
 
 -- whether every slice has its length for n columns
-unfoldable pub lengthsFit : ℕ → Matrix → List Float → Bool
-lengthsFit n m factors =
-    eqb (length (m .colPtr)) (n + 1) && (eqb (length (m .values)) (length (m .rows)) && eqb (length factors) n)
+unfoldable pub lengthsFit : Matrix → List Float → Bool
+lengthsFit m factors =
+    let p = m .pattern in
+    eqb (length (p .colPtr)) (p .n + 1)
+    && (eqb (length (m .values)) (length (p .rowIdx)) && eqb (length factors) (p .n))
 
 -- the first thing wrong, or 0; `lengths` says whether every slice has its length
-unfoldable pub inputFault : ℕ → Matrix → Bool → ℕ
-inputFault n m lengths =
-    orElse (sizeFault n maxSymmetric (length (m .rows)) lengths) (symmetricFault n (m .colPtr) (m .rows) (m .values))
+unfoldable pub inputFault : Matrix → Bool → ℕ
+inputFault m lengths =
+    orElse (sizeFault (m .pattern .n) maxSymmetric (length (m .pattern .rowIdx)) lengths) (symmetricFault m)
 
 -- ---- iterated
 -- what is lent for the factors, and the work
@@ -38,39 +40,39 @@ abbrev pub slices : List Float → List Float → Slices
 slices factors work = record { factors = factors; work = work }
 
 -- an accepted call: the factors, and work that is zero
-unfoldable pub iterated : ℕ → Matrix → Outcome ℕ Slices
-iterated n m = outcomeIs accepted (slices (infnormFactors n m) (replicate n Constants.zero))
+unfoldable pub iterated : Matrix → Outcome ℕ Slices
+iterated m = outcomeIs accepted (slices (infnormFactors m) (replicate (m .pattern .n) Constants.zero))
 
 -- what `compute_infnorm` does
-unfoldable pub computeInfnorm : ℕ → Matrix → List Float → List Float → Outcome ℕ Slices
+unfoldable pub computeInfnorm : Matrix → List Float → List Float → Outcome ℕ Slices
 unfolding iterated inputFault lengthsFit
-computeInfnorm n m factors work =
-    refusing asNumber (inputFault n m (lengthsFit n m factors && eqb (length work) n)) (iterated n m)
+computeInfnorm m factors work =
+    refusing asNumber (inputFault m (lengthsFit m factors && eqb (length work) (m .pattern .n))) (iterated m)
     (slices factors work)
 
 -- ---- one-pass
 -- what `compute_onepass` does
-unfoldable pub computeOnepass : ℕ → Matrix → List Float → Outcome ℕ (List Float)
+unfoldable pub computeOnepass : Matrix → List Float → Outcome ℕ (List Float)
 unfolding inputFault lengthsFit
-computeOnepass n m factors =
-    refusing asNumber (inputFault n m (lengthsFit n m factors)) (outcomeIs accepted (onepassFactors n m)) factors
+computeOnepass m factors =
+    refusing asNumber (inputFault m (lengthsFit m factors)) (outcomeIs accepted (onepassFactors m)) factors
 
 -- ---- all that the calls promise, of the matrix, what was lent, its answer r and what is left
 -- `compute_infnorm`
-pub record InfnormPromises (n : ℕ) (m : Matrix) (factors work : List Float) (r : Validity) (left cleared : List Float)
+pub record InfnormPromises (m : Matrix) (factors work : List Float) (r : Validity) (left cleared : List Float)
     : Type 0 where
   -- the number and every slice left are the definition's
-  pub outcome : outcomeIs (numberOf r) (slices left cleared) ≡ computeInfnorm n m factors work
+  pub outcome : outcomeIs (numberOf r) (slices left cleared) ≡ computeInfnorm m factors work
   -- the answer is the one of that number
-  pub answer : r ≡ validityOf (computeInfnorm n m factors work .answer)
+  pub answer : r ≡ validityOf (computeInfnorm m factors work .answer)
   -- the number is one of the call's list
   pub number : OneOf symmetricNumbers (numberOf r)
 
 -- `compute_onepass`
-pub record OnepassPromises (n : ℕ) (m : Matrix) (factors : List Float) (r : Validity) (left : List Float) : Type 0 where
+pub record OnepassPromises (m : Matrix) (factors : List Float) (r : Validity) (left : List Float) : Type 0 where
   -- the number and the factors left are the definition's
-  pub outcome : outcomeIs (numberOf r) left ≡ computeOnepass n m factors
+  pub outcome : outcomeIs (numberOf r) left ≡ computeOnepass m factors
   -- the answer is the one of that number
-  pub answer : r ≡ validityOf (computeOnepass n m factors .answer)
+  pub answer : r ≡ validityOf (computeOnepass m factors .answer)
   -- the number is one of the call's list
   pub number : OneOf symmetricNumbers (numberOf r)

@@ -18,7 +18,7 @@ pub fn lengths_fit(
     requires { ⌜ n < 2 ^ 32 ⌝ }
     ensures { λ r.
         ⌜ r
-        ≡ lengthsFit n (matrix (now («col_ptr» .entry)) (now («row_idx» .entry)) (now (values .entry)))
+        ≡ lengthsFit (matrix n (now («col_ptr» .entry)) (now («row_idx» .entry)) (now (values .entry)))
         (now (factors .entry)) ⌝ }
 {
     (col_ptr.len() == n + 1) & ((values.len() == row_idx.len()) & (factors.len() == n))
@@ -27,7 +27,7 @@ pub fn lengths_fit(
 // The number of the first thing wrong, or 0; `lengths` says whether every slice has its length.
 pub fn input_fault(n: u32, col_ptr: &[u32], row_idx: &[u32], values: &[f64], lengths: bool) -> u32
     ensures { λ r.
-        ⌜ r ≡ inputFault n (matrix (now («col_ptr» .entry)) (now («row_idx» .entry)) (now (values .entry))) lengths ⌝ }
+        ⌜ r ≡ inputFault (matrix n (now («col_ptr» .entry)) (now («row_idx» .entry)) (now (values .entry))) lengths ⌝ }
 {
     let sizes = layout::size_fault(n, limits::MAX_SYMMETRIC, row_idx.len(), lengths);
     if sizes != refusal::ACCEPTED {
@@ -46,8 +46,8 @@ pub fn compute_infnorm(
     work: &mut [f64],
 ) -> Validity
     ensures { λ r.
-        let m = matrix (now («col_ptr» .entry)) (now («row_idx» .entry)) (now (values .entry)) in
-        ⌜ InfnormPromises n m (now (factors .entry)) (now (work .entry)) r (now (factors .exit)) (now (work .exit)) ⌝ }
+        let m = matrix n (now («col_ptr» .entry)) (now («row_idx» .entry)) (now (values .entry)) in
+        ⌜ InfnormPromises m (now (factors .entry)) (now (work .entry)) r (now (factors .exit)) (now (work .exit)) ⌝ }
 {
     let size = n as usize;
     let lengths = lengths_fit(size, col_ptr, row_idx, values, factors);
@@ -70,8 +70,8 @@ pub fn compute_onepass(
     factors: &mut [f64],
 ) -> Validity
     ensures { λ r.
-        let m = matrix (now («col_ptr» .entry)) (now («row_idx» .entry)) (now (values .entry)) in
-        ⌜ OnepassPromises n m (now (factors .entry)) r (now (factors .exit)) ⌝ }
+        let m = matrix n (now («col_ptr» .entry)) (now («row_idx» .entry)) (now (values .entry)) in
+        ⌜ OnepassPromises m (now (factors .entry)) r (now (factors .exit)) ⌝ }
 {
     let size = n as usize;
     let lengths = lengths_fit(size, col_ptr, row_idx, values, factors);

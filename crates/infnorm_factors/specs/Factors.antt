@@ -6,7 +6,7 @@ use mathlib.Core.List.{List, [], _∷_, map}
 use Prim.Native.Nat.{ℕ, zero, suc}
 use lib.Ieee.{Float, nan, binary64, lt, mul, div, sub}
 use lib.Ieee.Scale.{finite}
-use lib.ListN.{length, getD, replicate}
+use lib.ListN.{getD, replicate}
 use Rattle.float64.specs.Constants as Constants
 use Rattle.float64.specs.Functions.{absolute, sizeOf}
 use Rattle.square_root.specs.Root.{valueOf, sqrtOf}
@@ -83,9 +83,9 @@ abbrev pub roundWith : List Float → List Float → Round
 roundWith d maxima = roundIs (zipped newFactor d maxima) (deviatingAll Constants.zero maxima)
 
 abbrev pub roundFrom : Matrix → List Float → Round
-roundFrom m d = roundWith d (rowMaxima (scaledSizes (m .rows) (m .values) d) m (length d))
+roundFrom m d = roundWith d (rowMaxima (scaledSizes (m .pattern .rowIdx) (m .values) d) m)
 
--- ---- the factors of n rows
+-- ---- the factors of all rows
 -- at most `count` rounds; the round whose largest deviation is below 1e-8 is the last
 unfoldable pub rounds : ℕ → Matrix → List Float → List Float
 unfolding rowMaxima scaledSize newFactor zipped deviatingAll
@@ -94,10 +94,10 @@ rounds (suc count) m d =
     cond (lt (roundFrom m d .largest) Constants.infnormTol) (roundFrom m d .factors)
     (rounds count m (roundFrom m d .factors))
 
-unfoldable pub infnormFactors : ℕ → Matrix → List Float
+unfoldable pub infnormFactors : Matrix → List Float
 unfolding rounds
-infnormFactors n m = rounds 10 m (replicate n Constants.one)
+infnormFactors m = rounds 10 m (replicate (m .pattern .n) Constants.one)
 
-unfoldable pub onepassFactors : ℕ → Matrix → List Float
+unfoldable pub onepassFactors : Matrix → List Float
 unfolding rowMaxima invSqrtScaleGuarded
-onepassFactors n m = map invSqrtScaleGuarded (rowMaxima (ownSizes (m .values)) m n)
+onepassFactors m = map invSqrtScaleGuarded (rowMaxima (ownSizes (m .values)) m)

@@ -7,6 +7,7 @@ use Prim.Native.Nat.{ℕ, zero, suc, _-_}
 use lib.Ieee.{Float, nan, lt}
 use lib.ListN.{getD, set, replicate}
 use Rattle.float64.specs.Constants as Constants
+use Rattle.sparse.specs.Pattern.{start, end}
 use Rattle.sparse.specs.Matrix.{Matrix}
 
 -- the new number if it is above the old one; a NaN never is
@@ -31,10 +32,11 @@ unfoldable pub enterColumns : (ℕ → ℕ → Float) → Matrix → ℕ → ℕ
 unfolding enterColumn
 enterColumns size m zero j maxima = maxima
 enterColumns size m (suc count) j maxima =
+    let p = m .pattern in
     enterColumns size m count (suc j)
-    (enterColumn (size j) (m .rows) j (getD (m .colPtr) (suc j) 0 - getD (m .colPtr) j 0) (getD (m .colPtr) j 0) maxima)
+    (enterColumn (size j) (p .rowIdx) j (end p j - start p j) (start p j) maxima)
 
--- the maxima of n rows
-unfoldable pub rowMaxima : (ℕ → ℕ → Float) → Matrix → ℕ → List Float
+-- the maxima of all rows
+unfoldable pub rowMaxima : (ℕ → ℕ → Float) → Matrix → List Float
 unfolding enterColumns
-rowMaxima size m n = enterColumns size m n 0 (replicate n Constants.zero)
+rowMaxima size m = enterColumns size m (m .pattern .n) 0 (replicate (m .pattern .n) Constants.zero)

@@ -25,15 +25,15 @@ abbrev sixteen : Float
 sixteen = ofBits binary64 0x4030_0000_0000_0000
 
 -- both kinds give these factors
-abbrev Gives : ℕ → Matrix → List Float → Type 0
-Gives n m factors = (Factors.onepassFactors n m ≡ factors) × (Factors.infnormFactors n m ≡ factors)
+abbrev Gives : Matrix → List Float → Type 0
+Gives m factors = (Factors.onepassFactors m ≡ factors) × (Factors.infnormFactors m ≡ factors)
 
-small : Gives 0 (matrix (0 ∷ []) [] []) []
-    × Gives 1 (matrix (0 ∷ 1 ∷ []) (0 ∷ []) (four ∷ [])) (half ∷ [])
-    × Gives 1 (matrix (0 ∷ 1 ∷ []) (0 ∷ []) (inf false ∷ [])) (Constants.one ∷ [])
-    × Gives 2 (matrix (0 ∷ 2 ∷ 3 ∷ []) (0 ∷ 1 ∷ 1 ∷ []) (four ∷ nan ∷ sixteen ∷ [])) (half ∷ quarter ∷ [])
-    × Gives 2 (matrix (0 ∷ 1 ∷ 2 ∷ []) (0 ∷ 1 ∷ []) (four ∷ Constants.zero ∷ [])) (half ∷ Constants.one ∷ [])
-    × Gives 2 (matrix (0 ∷ 1 ∷ 1 ∷ []) (1 ∷ []) (neg four ∷ [])) (half ∷ half ∷ [])
+small : Gives (matrix 0 (0 ∷ []) [] []) []
+    × Gives (matrix 1 (0 ∷ 1 ∷ []) (0 ∷ []) (four ∷ [])) (half ∷ [])
+    × Gives (matrix 1 (0 ∷ 1 ∷ []) (0 ∷ []) (inf false ∷ [])) (Constants.one ∷ [])
+    × Gives (matrix 2 (0 ∷ 2 ∷ 3 ∷ []) (0 ∷ 1 ∷ 1 ∷ []) (four ∷ nan ∷ sixteen ∷ [])) (half ∷ quarter ∷ [])
+    × Gives (matrix 2 (0 ∷ 1 ∷ 2 ∷ []) (0 ∷ 1 ∷ []) (four ∷ Constants.zero ∷ [])) (half ∷ Constants.one ∷ [])
+    × Gives (matrix 2 (0 ∷ 1 ∷ 1 ∷ []) (1 ∷ []) (neg four ∷ [])) (half ∷ half ∷ [])
 unfolding Factors.onepassFactors Factors.infnormFactors Factors.rounds sizeOf Factors.scaledSize Factors.newFactor Factors.krGuardedUpdate
     Factors.invSqrtScaleGuarded
     Factors.deviating Factors.deviatingAll Factors.zipped Factors.root Factors.guarded rowMaxima enterColumns enterColumn raise absolute sqrtOf rootOf square

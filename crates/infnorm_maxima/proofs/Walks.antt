@@ -14,6 +14,7 @@ use lib.ListN.{length, getD, set, replicate, length-set}
 use lib.Seq.{getD-set-same, getD-set-other, set-getD, set-set, set-comm}
 use Rattle.float64.specs.Constants as Constants
 use Rattle.sparse.proofs.Accepted.{pointer-below}
+use Rattle.sparse.specs.Pattern.{start, end}
 use Rattle.sparse.specs.Matrix.{Matrix}
 use Rattle.infnorm_factors.specs.Maxima.{larger, raise, enter, enterColumn, enterColumns, rowMaxima}
 use Rattle.infnorm_maxima.specs.inner.Steps.{Accepted, Stretch}
@@ -92,7 +93,8 @@ module _ (size : ℕ → Float) (rows : List ℕ) (j : ℕ) where
 module _ (size : ℕ → ℕ → Float) (m : Matrix) where
   column : (i count j : ℕ) (maxima : List Float) → i ≡ suc count
       → enterColumns size m i j maxima
-      ≡ enterColumns size m count (suc j) (enterColumn (size j) (m .rows) j (getD (m .colPtr) (suc j) 0 - getD (m .colPtr) j 0) (getD (m .colPtr) j 0) maxima)
+      ≡ enterColumns size m count (suc j) (enterColumn (size j) (m .pattern .rowIdx) j (end (m .pattern) j - start (m .pattern) j)
+      (start (m .pattern) j) maxima)
   unfolding enterColumns
   column i count j maxima e = rw e refl
 
@@ -103,13 +105,13 @@ module _ (size : ℕ → ℕ → Float) (m : Matrix) where
   abbrev pub Walked : List Float → ℕ → ℕ → List Float → Type 0
   Walked whole n j maxima = whole ≡ enterColumns size m (n - j) j maxima
 
-  pub maxima-start : (n : ℕ) {maxima : List Float} → maxima ≡ replicate n Constants.zero → Walked (rowMaxima size m n) n 0 maxima
+  pub maxima-start : {maxima : List Float} → maxima ≡ replicate (m .pattern .n) Constants.zero → Walked (rowMaxima size m) (m .pattern .n) 0 maxima
   unfolding rowMaxima
-  maxima-start n e = rw (e, sub-zero n) refl
+  maxima-start e = rw (e, sub-zero (m .pattern .n)) refl
 
   module _ {whole : List Float} (n j : ℕ) (maxima : List Float) (w : Walked whole n j maxima) where
     pub walk-next : {after : List Float} → j < n
-        → after ≡ enterColumn (size j) (m .rows) j (getD (m .colPtr) (j + 1) 0 - getD (m .colPtr) j 0) (getD (m .colPtr) j 0) maxima
+        → after ≡ enterColumn (size j) (m .pattern .rowIdx) j (start (m .pattern) (j + 1) - start (m .pattern) j) (start (m .pattern) j) maxima
         → Walked whole n (j + 1) after
     walk-next h e = w ∙ column (n - j) (n - (j + 1)) j maxima (omega arith) ∙ rw (e, add-one j) refl
 
@@ -117,16 +119,16 @@ module _ (size : ℕ → ℕ → Float) (m : Matrix) where
     walk-end h = sym (w ∙ no-column (n - j) j maxima (omega arith))
 
 -- ---- what a column's scan asks for
-pub column-stretch : (n j room : ℕ) (m : Matrix) → Accepted n m → room ≡ n → j < n
-    → Stretch room (m .rows) (m .values) j (getD (m .colPtr) j 0) (getD (m .colPtr) (j + 1) 0)
-column-stretch n j room m a e h =
+pub column-stretch : (j room : ℕ) (m : Matrix) → Accepted m → room ≡ m .pattern .n → j < m .pattern .n
+    → Stretch room (m .pattern .rowIdx) (m .values) j (start (m .pattern) j) (start (m .pattern) (j + 1))
+column-stretch j room m a e h =
     let p = a .columns .pointers in
     rw (e, add-one j)
     (record { column = h; up = p .rises j h; within = pointer-below p (suc j) h; stored = a .sizes .stored; inside = a .columns .inside })
 
-pub pointers-fit : (n j : ℕ) (m : Matrix) → Accepted n m → j < n
-    → (j + 1 < length (m .colPtr)) × (getD (m .colPtr) j 0 ≤ 131072) × (getD (m .colPtr) (j + 1) 0 ≤ 131072)
-pointers-fit n j m a h =
+pub pointers-fit : (j : ℕ) (m : Matrix) → Accepted m → j < m .pattern .n
+    → (j + 1 < length (m .pattern .colPtr)) × (start (m .pattern) j ≤ 131072) × (start (m .pattern) (j + 1) ≤ 131072)
+pointers-fit j m a h =
     let p = a .columns .pointers in (
       omega (arith, a .sizes .colptrs),
       le-trans (pointer-below p j (omega arith)) (a .sizes .entries),

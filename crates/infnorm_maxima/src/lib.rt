@@ -46,12 +46,12 @@ pub fn row_maxima(
     factors: &[f64],
     work: &mut [f64],
 )
-    requires { ⌜ Accepted n (matrix (now «col_ptr») (now «row_idx») (now values)) ⌝ }
+    requires { ⌜ Accepted (matrix n (now «col_ptr») (now «row_idx») (now values)) ⌝ }
     requires { ⌜ (length (now factors) ≡ n) × (length (now work) ≡ n) ⌝ }
     ensures { λ _.
-        let m = matrix (now («col_ptr» .entry)) (now («row_idx» .entry)) (now (values .entry)) in
+        let m = matrix n (now («col_ptr» .entry)) (now («row_idx» .entry)) (now (values .entry)) in
         let sizes = Factors.scaledSizes (now («row_idx» .entry)) (now (values .entry)) (now (factors .entry)) in
-        ⌜ now (work .exit) ≡ Maxima.rowMaxima sizes m n ⌝ }
+        ⌜ now (work .exit) ≡ Maxima.rowMaxima sizes m ⌝ }
 {
     slices::fill(work, 0.0);
     for j in 0..n {
@@ -88,12 +88,12 @@ fn scan_values(
 
 // The maxima of the values.
 pub fn value_maxima(n: usize, col_ptr: &[u32], row_idx: &[u32], values: &[f64], maxima: &mut [f64])
-    requires { ⌜ Accepted n (matrix (now «col_ptr») (now «row_idx») (now values)) ⌝ }
+    requires { ⌜ Accepted (matrix n (now «col_ptr») (now «row_idx») (now values)) ⌝ }
     requires { ⌜ length (now maxima) ≡ n ⌝ }
     ensures { λ _.
-        let m = matrix (now («col_ptr» .entry)) (now («row_idx» .entry)) (now (values .entry)) in
+        let m = matrix n (now («col_ptr» .entry)) (now («row_idx» .entry)) (now (values .entry)) in
         let sizes = Factors.ownSizes (now (values .entry)) in
-        ⌜ now (maxima .exit) ≡ Maxima.rowMaxima sizes m n ⌝ }
+        ⌜ now (maxima .exit) ≡ Maxima.rowMaxima sizes m ⌝ }
 {
     slices::fill(maxima, 0.0);
     for j in 0..n {

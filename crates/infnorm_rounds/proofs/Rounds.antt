@@ -11,8 +11,7 @@ use lib.ListN.{length, getD, drop, drop-of-length-le}
 use lib.Seq.{drop-cons}
 use Rattle.float64.specs.Constants as Constants
 use Rattle.sparse.specs.Matrix.{Matrix}
-use Rattle.infnorm_factors.specs.Maxima.{rowMaxima}
-use Rattle.infnorm_factors.specs.Factors.{scaledSizes, Round, roundIs, roundWith, roundFrom, deviating, deviatingAll, zipped, rounds}
+use Rattle.infnorm_factors.specs.Factors.{Round, roundIs, roundFrom, deviating, deviatingAll, zipped, rounds}
 
 -- ---- f of the numbers of two lists of one length
 pub length-zipped : (f : Float → Float → Float) (l r : List Float) → length l ≡ length r → length (zipped f l r) ≡ length l
@@ -41,10 +40,6 @@ module _ {whole : Float} (largest : Float) (maxima : List Float) (i : ℕ) (e : 
 
 -- ---- the rounds
 module _ (m : Matrix) where
-  pub round-is : (n : ℕ) (d : List Float) {maxima : List Float} → length d ≡ n → maxima ≡ rowMaxima (scaledSizes (m .rows) (m .values) d) m n
-      → roundWith d maxima ≡ roundFrom m d
-  round-is n d l e = ap (roundWith d) (e ∙ ap (rowMaxima (scaledSizes (m .rows) (m .values) d) m) (sym l))
-
   -- a round, and `count` more unless it is the last
   abbrev followed : ℕ → Round → List Float
   followed count r = cond (lt (r .largest) Constants.infnormTol) (r .factors) (rounds count m (r .factors))

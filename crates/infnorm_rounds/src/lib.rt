@@ -34,11 +34,11 @@ fn one_round(
     factors: &mut [f64],
     work: &mut [f64],
 ) -> f64
-    requires { ⌜ Accepted n (matrix (now «col_ptr») (now «row_idx») (now values)) ⌝ }
+    requires { ⌜ Accepted (matrix n (now «col_ptr») (now «row_idx») (now values)) ⌝ }
     requires { ⌜ (length (now factors) ≡ n) × (length (now work) ≡ n) ⌝ }
     ensures { λ r.
         ⌜ Factors.roundIs (now (factors .exit)) r
-        ≡ Factors.roundFrom (matrix (now («col_ptr» .entry)) (now («row_idx» .entry)) (now (values .entry)))
+        ≡ Factors.roundFrom (matrix n (now («col_ptr» .entry)) (now («row_idx» .entry)) (now (values .entry)))
         (now (factors .entry)) ⌝ }
 {
     infnorm_maxima::row_maxima(n, col_ptr, row_idx, values, factors, work);
@@ -54,11 +54,11 @@ pub fn iterate(
     factors: &mut [f64],
     work: &mut [f64],
 )
-    requires { ⌜ Accepted n (matrix (now «col_ptr») (now «row_idx») (now values)) ⌝ }
+    requires { ⌜ Accepted (matrix n (now «col_ptr») (now «row_idx») (now values)) ⌝ }
     requires { ⌜ (length (now factors) ≡ n) × (length (now work) ≡ n) ⌝ }
     ensures { λ _.
         ⌜ now (factors .exit)
-        ≡ Factors.rounds 10 (matrix (now («col_ptr» .entry)) (now («row_idx» .entry)) (now (values .entry)))
+        ≡ Factors.rounds 10 (matrix n (now («col_ptr» .entry)) (now («row_idx» .entry)) (now (values .entry)))
         (now (factors .entry)) ⌝ }
 {
     let mut done = 0;

@@ -93,37 +93,37 @@ rest-fitting n p f e =
       marks = eqb-true _ _ (x .1);
     }
 
-module _ (n : ℕ) (m : Matrix) (logs : List Float) (s : Graphs.Slices) where
+module _ (m : Matrix) (logs : List Float) (s : Graphs.Slices) where
   abbrev whole : Match.Slices → Factors.Slices → ℕ
-  whole p f = inputFault n m logs (lengthsFit n m logs s && restFits n (scalingSlices s p f))
+  whole p f = inputFault m logs (lengthsFit m logs s && restFits (m .pattern .n) (scalingSlices s p f))
 
   -- ---- a length of the match or of the factors is wrong: 1, 2 or 3
-  module _ (p : Match.Slices) (f : Factors.Slices) {fit : Bool} (e : fit ≡ restLengths n p f) where
-    pub lengths-refused : {x : ℕ} → fit ≡ false → x ≡ sizeFault n maxSymmetric (length (m .rows)) false
-        → outcomeIs (Scaled.Refused x) (scalingSlices s p f) ≡ symmetricScaling n m logs (scalingSlices s p f)
+  module _ (p : Match.Slices) (f : Factors.Slices) {fit : Bool} (e : fit ≡ restLengths (m .pattern .n) p f) where
+    pub lengths-refused : {x : ℕ} → fit ≡ false → x ≡ sizeFault (m .pattern .n) maxSymmetric (length (m .pattern .rowIdx)) false
+        → outcomeIs (Scaled.Refused x) (scalingSlices s p f) ≡ symmetricScaling m logs (scalingSlices s p f)
     unfolding symmetricScaling inputFault restFits
     lengths-refused {x} z q =
-        let some : sizeFault n maxSymmetric (length (m .rows)) false ≢ 0 =
-        λ y. false≢true (sizes-accepted n maxSymmetric (length (m .rows)) false .0 y .2) in
-        let r : restLengths n p f ≡ false = sym e ∙ z in
-        let same : whole p f ≡ x = rw (r, and-false (lengthsFit n m logs s)) (or-some _ _ some ∙ sym q) in
-        refused-is Scaled.Refused (done n m logs (scalingSlices s p f)) (scalingSlices s p f) (sym same) (λ y. some (sym q ∙ y))
+        let some : sizeFault (m .pattern .n) maxSymmetric (length (m .pattern .rowIdx)) false ≢ 0 =
+        λ y. false≢true (sizes-accepted (m .pattern .n) maxSymmetric (length (m .pattern .rowIdx)) false .0 y .2) in
+        let r : restLengths (m .pattern .n) p f ≡ false = sym e ∙ z in
+        let same : whole p f ≡ x = rw (r, and-false (lengthsFit m logs s)) (or-some _ _ some ∙ sym q) in
+        refused-is Scaled.Refused (done m logs (scalingSlices s p f)) (scalingSlices s p f) (sym same) (λ y. some (sym q ∙ y))
 
-    pub same-fault : fit ≡ true → whole p f ≡ inputFault n m logs (lengthsFit n m logs s)
+    pub same-fault : fit ≡ true → whole p f ≡ inputFault m logs (lengthsFit m logs s)
     unfolding restFits
-    same-fault z = let r : restLengths n p f ≡ true = sym e ∙ z in rw (r, and-true (lengthsFit n m logs s)) refl
+    same-fault z = let r : restLengths (m .pattern .n) p f ≡ true = sym e ∙ z in rw (r, and-true (lengthsFit m logs s)) refl
 
-  module _ {a : Built} {after : Graphs.Slices} (e : outcomeIs a after ≡ costGraph n m logs s) where
+  module _ {a : Built} {after : Graphs.Slices} (e : outcomeIs a after ≡ costGraph m logs s) where
     -- ---- the building refuses
-    pub building-refused : {k : ℕ} {fit : Bool} (p : Match.Slices) (f : Factors.Slices) → fit ≡ restLengths n p f → fit ≡ true → a ≡ Refused k
-        → outcomeIs (Scaled.Refused k) (scalingSlices after p f) ≡ symmetricScaling n m logs (scalingSlices s p f)
+    pub building-refused : {k : ℕ} {fit : Bool} (p : Match.Slices) (f : Factors.Slices) → fit ≡ restLengths (m .pattern .n) p f → fit ≡ true → a ≡ Refused k
+        → outcomeIs (Scaled.Refused k) (scalingSlices after p f) ≡ symmetricScaling m logs (scalingSlices s p f)
     unfolding symmetricScaling costGraph
     building-refused {k} p f t z q =
-        go (inputFault n m logs (lengthsFit n m logs s)) e
-        ∙ ap (λ (i : ℕ). refusing Scaled.Refused i (done n m logs (scalingSlices s p f)) (scalingSlices s p f)) (sym (same-fault p f t z))
+        go (inputFault m logs (lengthsFit m logs s)) e
+        ∙ ap (λ (i : ℕ). refusing Scaled.Refused i (done m logs (scalingSlices s p f)) (scalingSlices s p f)) (sym (same-fault p f t z))
       where
-        go : (i : ℕ) → outcomeIs a after ≡ Graphs.outcome i n (mirroredColumns m) logs s
-            → outcomeIs (Scaled.Refused k) (scalingSlices after p f) ≡ refusing Scaled.Refused i (done n m logs (scalingSlices s p f)) (scalingSlices s p f)
+        go : (i : ℕ) → outcomeIs a after ≡ Graphs.outcome i (m .pattern .n) (mirroredColumns m) logs s
+            → outcomeIs (Scaled.Refused k) (scalingSlices after p f) ≡ refusing Scaled.Refused i (done m logs (scalingSlices s p f)) (scalingSlices s p f)
         go zero o = absurd (kept-or-refused (sym (ap (λ (x : Outcome Built Graphs.Slices). x .answer) o) ∙ q))
         go (suc i) o = rw (
           same-refused (sym q ∙ ap (λ (x : Outcome Built Graphs.Slices). x .answer) o),
@@ -132,51 +132,64 @@ module _ (n : ℕ) (m : Matrix) (logs : List Float) (s : Graphs.Slices) where
 
     -- ---- the graph is built
     module _ {k : ℕ} (q : a ≡ Kept k) (doubles : (i : ℕ) → i < length logs → T (fits binary64 (getD logs i nan))) where
-      builds : (inputFault n m logs (lengthsFit n m logs s) ≡ 0) × (k ≡ keptBefore (mirroredColumns m) n) × (after ≡ built n (mirroredColumns m) logs s)
+      builds : (inputFault m logs (lengthsFit m logs s) ≡ 0) × (k ≡ keptBefore (mirroredColumns m) (m .pattern .n)) ×
+          (after ≡ built (m .pattern .n) (mirroredColumns m) logs s)
       unfolding costGraph
-      builds = go (inputFault n m logs (lengthsFit n m logs s)) e
+      builds = go (inputFault m logs (lengthsFit m logs s)) e
         where
-          go : (i : ℕ) → outcomeIs a after ≡ Graphs.outcome i n (mirroredColumns m) logs s → (i ≡ 0) × (k ≡ keptBefore (mirroredColumns m) n)
-              × (after ≡ built n (mirroredColumns m) logs s)
+          go : (i : ℕ) → outcomeIs a after ≡ Graphs.outcome i (m .pattern .n) (mirroredColumns m) logs s
+              → (i ≡ 0) × (k ≡ keptBefore (mirroredColumns m) (m .pattern .n))
+              × (after ≡ built (m .pattern .n) (mirroredColumns m) logs s)
           go zero o = (refl, same-kept (sym q ∙ ap (λ (x : Outcome Built Graphs.Slices). x .answer) o), ap (λ (x : Outcome Built Graphs.Slices). x .after) o)
           go (suc i) o = absurd (kept-or-refused (sym q ∙ ap (λ (x : Outcome Built Graphs.Slices). x .answer) o))
 
-      accepted : Accepted (symmetricGraph n m logs)
-      accepted = graph-matched n m logs s (builds .0) doubles
+      accepted : Accepted (symmetricGraph m logs)
+      accepted = graph-matched m logs s (builds .0) doubles
 
-      costs : length (graphCosts (mirroredColumns m) logs n) ≡ k
+      costs : length (graphCosts (mirroredColumns m) logs (m .pattern .n)) ≡ k
       costs =
-          let l = both (eqb (length (graphPointers (mirroredColumns m) n)) (n + 1)) _ (graph-fits (symmetricGraph n m logs) accepted) in
+          let l = both (eqb (length (graphPointers (mirroredColumns m) (m .pattern .n))) (m .pattern .n + 1)) _ (graph-fits (symmetricGraph m logs) accepted) in
           eqb-true _ _ (l .1) ∙ sym (builds .1)
 
       pub rows-room : k ≤ length (after .graphIdx)
       unfolding built
       rows-room = rw (builds .2)
-          (omega (arith, builds .1, length-append (graphRows (mirroredColumns m) n) (drop (keptBefore (mirroredColumns m) n) (s .graphIdx))))
+          (omega (
+            arith,
+            builds .1,
+            length-append (graphRows (mirroredColumns m) (m .pattern .n))
+                (drop (keptBefore (mirroredColumns m) (m .pattern .n)) (s .graphIdx)),
+          ))
 
       pub cost-room : k ≤ length (after .cost)
       unfolding built
       cost-room = rw (builds .2)
-          (omega (arith, costs, length-append (graphCosts (mirroredColumns m) logs n) (drop (keptBefore (mirroredColumns m) n) (s .cost))))
+          (omega (
+            arith,
+            costs,
+            length-append (graphCosts (mirroredColumns m) logs (m .pattern .n))
+                (drop (keptBefore (mirroredColumns m) (m .pattern .n)) (s .cost)),
+          ))
 
       -- the parts that are lent are the graph
       abbrev parts : CostGraph
-      parts = graphOf n (after .graphPtr) (take k (after .graphIdx)) (take k (after .cost))
+      parts = graphOf (m .pattern .n) (after .graphPtr) (take k (after .graphIdx)) (take k (after .cost))
 
-      graph-is : parts ≡ symmetricGraph n m logs
+      graph-is : parts ≡ symmetricGraph m logs
       unfolding built
       graph-is =
-          let rows = take-at (graphRows (mirroredColumns m) n) (drop (keptBefore (mirroredColumns m) n) (s .graphIdx)) k (sym (builds .1)) in
-          let paid = take-at (graphCosts (mirroredColumns m) logs n) (drop (keptBefore (mirroredColumns m) n) (s .cost)) k costs in
+          let rows = take-at (graphRows (mirroredColumns m) (m .pattern .n)) (drop (keptBefore (mirroredColumns m) (m .pattern .n)) (s .graphIdx)) k
+          (sym (builds .1)) in
+          let paid = take-at (graphCosts (mirroredColumns m) logs (m .pattern .n)) (drop (keptBefore (mirroredColumns m) (m .pattern .n)) (s .cost)) k costs in
           rw (builds .2, rows, paid) refl
 
-      largest-is : after .cmax ≡ graphLargest (mirroredColumns m) logs n
+      largest-is : after .cmax ≡ graphLargest (mirroredColumns m) logs (m .pattern .n)
       unfolding built
       largest-is = ap (λ (x : Graphs.Slices). x .cmax) (builds .2)
 
-      module _ (p : Match.Slices) (f : Factors.Slices) {fit : Bool} (t : fit ≡ restLengths n p f) (z : fit ≡ true) where
-        fitting : Fitting n p f
-        fitting = rest-fitting n p f (sym t ∙ z)
+      module _ (p : Match.Slices) (f : Factors.Slices) {fit : Bool} (t : fit ≡ restLengths (m .pattern .n) p f) (z : fit ≡ true) where
+        fitting : Fitting (m .pattern .n) p f
+        fitting = rest-fitting (m .pattern .n) p f (sym t ∙ z)
 
         pub ready : Ready parts (after .cmax) p f
         ready =
@@ -190,70 +203,72 @@ module _ (n : ℕ) (m : Matrix) (logs : List Float) (s : Graphs.Slices) where
                 words = fitting .words;
                 values = fitting .doubles;
               };
-              largest = rw largest-is (ones-length (λ c. largest (logsOf (mirroredColumns m) logs c)) n);
+              largest = rw largest-is (ones-length (λ c. largest (logsOf (mirroredColumns m) logs c)) (m .pattern .n));
               factors = fitting .factors;
               marks = fitting .marks;
             }
 
         pub complete : {pairs : Match.Slices} {scaled : Factors.Slices} {r : Scaled} → Scales parts (after .cmax) p pairs scaled r
-            → outcomeIs r (scalingSlices after pairs scaled) ≡ symmetricScaling n m logs (scalingSlices s p f)
+            → outcomeIs r (scalingSlices after pairs scaled) ≡ symmetricScaling m logs (scalingSlices s p f)
         unfolding symmetricScaling done
         complete {pairs} {scaled} {r} C =
-            let c : Scales (symmetricGraph n m logs) (graphLargest (mirroredColumns m) logs n) p pairs scaled r = rw (graph-is, largest-is) at C in
+            let c : Scales (symmetricGraph m logs) (graphLargest (mirroredColumns m) logs (m .pattern .n)) p pairs scaled r = rw (graph-is, largest-is) at C in
             rw (c .answered, c .pairs, c .scaled, builds .2, same-fault p f t z, builds .0) refl
 
 -- ---- the number and the unmatched count
-pub answered : (n : ℕ) (m : Matrix) (logs : List Float) (l : ScalingSlices) {answer : Scaled} {after : ScalingSlices}
-    → outcomeIs answer after ≡ symmetricScaling n m logs l
-    → Factors.AnswersBy (scalingFault n m logs l) (unmatchedColumns n m logs) answer
+pub answered : (m : Matrix) (logs : List Float) (l : ScalingSlices) {answer : Scaled} {after : ScalingSlices}
+    → outcomeIs answer after ≡ symmetricScaling m logs l
+    → Factors.AnswersBy (scalingFault m logs l) (unmatchedColumns m logs) answer
 unfolding symmetricScaling done
-answered n m logs l {answer} e = go (scalingFault n m logs l) (ap (λ (o : Outcome Scaled ScalingSlices). o .answer) e)
+answered m logs l {answer} e = go (scalingFault m logs l) (ap (λ (o : Outcome Scaled ScalingSlices). o .answer) e)
   where
-    go : (fault : ℕ) → answer ≡ refusing Scaled.Refused fault (done n m logs l) l .answer → Factors.AnswersBy fault (unmatchedColumns n m logs) answer
-    go zero q = answered-scaled n (hungarianMatch (symmetricGraph n m logs) .matched) q refl
+    go : (fault : ℕ) → answer ≡ refusing Scaled.Refused fault (done m logs l) l .answer → Factors.AnswersBy fault (unmatchedColumns m logs) answer
+    go zero q = answered-scaled (m .pattern .n) (hungarianMatch (symmetricGraph m logs) .matched) q refl
     go (suc fault) q =
         let number : Factors.numberOf answer ≡ suc fault = ap Factors.numberOf q in
         record { number = number; count = λ z. let w : ⊥ = omega arith in absurd w }
 
 -- the number is listed: neither the match nor the factors refuse, so it is the building's
-pub numbered : (n : ℕ) (m : Matrix) (logs : List Float) (l : ScalingSlices) {answer : Scaled} {after : ScalingSlices}
-    → outcomeIs answer after ≡ symmetricScaling n m logs l → OneOf symmetricGraphNumbers (Factors.numberOf answer)
-numbered n m logs l e =
-    subst (OneOf symmetricGraphNumbers) (sym (answered n m logs l e .number)) (input-listed n m logs (lengthsFit n m logs (l .graph) && restFits n l) .is)
+pub numbered : (m : Matrix) (logs : List Float) (l : ScalingSlices) {answer : Scaled} {after : ScalingSlices}
+    → outcomeIs answer after ≡ symmetricScaling m logs l → OneOf symmetricGraphNumbers (Factors.numberOf answer)
+numbered m logs l e =
+    subst (OneOf symmetricGraphNumbers) (sym (answered m logs l e .number))
+    (input-listed m logs (lengthsFit m logs (l .graph) && restFits (m .pattern .n) l) .is)
 
 -- ---- what follows from the outcome
-module _ (n : ℕ) (m : Matrix) (logs : List Float) where
+module _ (m : Matrix) (logs : List Float) where
   -- with fewer lengths tested nothing else is wrong
-  part-fine : (a b : Bool) → inputFault n m logs (a && b) ≡ 0 → inputFault n m logs a ≡ 0
+  part-fine : (a b : Bool) → inputFault m logs (a && b) ≡ 0 → inputFault m logs a ≡ 0
   unfolding inputFault
   part-fine false b e = e
   part-fine true true e = e
   part-fine true false e =
-      absurd (false≢true (sizes-accepted n maxSymmetric (length (m .rows)) false .0 (or-zero (sizeFault n maxSymmetric (length (m .rows)) false) _ e .0) .2))
+      absurd (false≢true (sizes-accepted (m .pattern .n) maxSymmetric (length (m .pattern .rowIdx)) false .0
+      (or-zero (sizeFault (m .pattern .n) maxSymmetric (length (m .pattern .rowIdx)) false) _ e .0) .2))
 
   -- the factors of whole logs
   pub balances : (l : ScalingSlices) {answer : Scaled} {after : ScalingSlices} → ((k : ℕ) → k < length logs → T (fits binary64 (getD logs k nan)))
-      → (fault : ℕ) → scalingFault n m logs l ≡ fault
-      → outcomeIs answer after ≡ refusing Scaled.Refused fault (done n m logs l) l → Balances n m logs answer (cacheLeft after) (after .scaled .factors)
+      → (fault : ℕ) → scalingFault m logs l ≡ fault
+      → outcomeIs answer after ≡ refusing Scaled.Refused fault (done m logs l) l → Balances m logs answer (cacheLeft after) (after .scaled .factors)
   unfolding done built
   balances l {answer} {after} doubles zero z o = λ applied whole.
-      let is-full : hungarianMatch (symmetricGraph n m logs) .matched ≡ n =
-      applied-full n (hungarianMatch (symmetricGraph n m logs) .matched) (sym (ap (λ (x : Outcome Scaled ScalingSlices). x .answer) o) ∙ applied) in
-      let left : after ≡ slicesAfter n m logs l = ap (λ (x : Outcome Scaled ScalingSlices). x .after) o in
-      rw left (symmetric-balanced n m logs (l .graph) (part-fine (lengthsFit n m logs (l .graph)) (restFits n l) z) doubles whole is-full)
+      let is-full : hungarianMatch (symmetricGraph m logs) .matched ≡ m .pattern .n =
+      applied-full (m .pattern .n) (hungarianMatch (symmetricGraph m logs) .matched) (sym (ap (λ (x : Outcome Scaled ScalingSlices). x .answer) o) ∙ applied) in
+      let left : after ≡ slicesAfter m logs l = ap (λ (x : Outcome Scaled ScalingSlices). x .after) o in
+      rw left (symmetric-balanced m logs (l .graph) (part-fine (lengthsFit m logs (l .graph)) (restFits (m .pattern .n) l) z) doubles whole is-full)
   balances l {answer} {after} doubles (suc fault) z o =
       λ applied whole free. absurd (applied-or-refused (sym applied ∙ ap (λ (x : Outcome Scaled ScalingSlices). x .answer) o))
 
 -- the unmatched count, the number and the factors' bound
-pub promised : (n : ℕ) (m : Matrix) (logs : List Float) (l : ScalingSlices) {answer : Scaled} {after : ScalingSlices}
+pub promised : (m : Matrix) (logs : List Float) (l : ScalingSlices) {answer : Scaled} {after : ScalingSlices}
     → ((k : ℕ) → k < length logs → T (fits binary64 (getD logs k nan)))
-    → outcomeIs answer after ≡ symmetricScaling n m logs l
-    → Promises n m logs l answer after
+    → outcomeIs answer after ≡ symmetricScaling m logs l
+    → Promises m logs l answer after
 unfolding symmetricScaling
-promised n m logs l doubles e =
+promised m logs l doubles e =
     record {
       outcome = e;
-      answered = answered n m logs l e;
-      number = numbered n m logs l e;
-      balanced = balances n m logs l doubles (scalingFault n m logs l) refl e;
+      answered = answered m logs l e;
+      number = numbered m logs l e;
+      balanced = balances m logs l doubles (scalingFault m logs l) refl e;
     }

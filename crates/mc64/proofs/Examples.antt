@@ -35,7 +35,7 @@ abbrev three : Float
 three = ofBits binary64 0x4008_0000_0000_0000
 
 -- no columns: all work is cleared
-none : symmetricScaling 0 (matrix (0 ∷ []) [] []) []
+none : symmetricScaling (matrix 0 (0 ∷ []) [] []) []
     (scalingSlices (Graphs.slices (9 ∷ []) [] [] [] (9 ∷ 9 ∷ [])) (Match.slices [] [] [] (9 ∷ []) []) (Factors.slices [] []))
     ≡ outcomeIs Applied (scalingSlices (Graphs.slices (0 ∷ []) [] [] [] (0 ∷ 0 ∷ [])) (Match.slices [] [] [] (0 ∷ []) []) (Factors.slices [] []))
 unfolding symmetricScaling scaled restFits slicesFit inputFault valuesFault built sizeFault pointerFault frameFault symmetricColumns symmetricFault
@@ -44,7 +44,7 @@ none = refl
 
 -- one column: what is lent, with these contents everywhere
 abbrev single : Matrix
-single = matrix (0 ∷ 1 ∷ []) (0 ∷ []) (one ∷ [])
+single = matrix 1 (0 ∷ 1 ∷ []) (0 ∷ []) (one ∷ [])
 
 abbrev slicesOne : List Float → ScalingSlices
 slicesOne factors =
@@ -53,7 +53,7 @@ slicesOne factors =
     (Factors.slices factors (9 ∷ []))
 
 -- the log 3 gives -1.5; the second places of the graph stay
-log-3 : symmetricScaling 1 single (three ∷ []) (slicesOne (one ∷ []))
+log-3 : symmetricScaling single (three ∷ []) (slicesOne (one ∷ []))
     ≡ outcomeIs Applied
     (scalingSlices (Graphs.slices (0 ∷ 1 ∷ []) (0 ∷ 9 ∷ []) (fzero ∷ one ∷ []) (three ∷ []) (0 ∷ 0 ∷ 0 ∷ 0 ∷ 0 ∷ []))
     (Match.slices (0 ∷ []) (fzero ∷ []) (fzero ∷ []) (0 ∷ 0 ∷ 0 ∷ 0 ∷ 0 ∷ 0 ∷ 0 ∷ 0 ∷ 0 ∷ 0 ∷ 0 ∷ 0 ∷ 0 ∷ []) (fzero ∷ fzero ∷ []))
@@ -68,7 +68,7 @@ log-3 = refl
 abbrev low : Float
 low = ofBits binary64 0xC096_2800_0000_0000
 
-log-1418 : symmetricScaling 1 single (low ∷ []) (slicesOne (one ∷ []))
+log-1418 : symmetricScaling single (low ∷ []) (slicesOne (one ∷ []))
     ≡ outcomeIs Applied
     (scalingSlices (Graphs.slices (0 ∷ 1 ∷ []) (0 ∷ 9 ∷ []) (fzero ∷ one ∷ []) (low ∷ []) (0 ∷ 0 ∷ 0 ∷ 0 ∷ 0 ∷ []))
     (Match.slices (0 ∷ []) (fzero ∷ []) (fzero ∷ []) (0 ∷ 0 ∷ 0 ∷ 0 ∷ 0 ∷ 0 ∷ 0 ∷ 0 ∷ 0 ∷ 0 ∷ 0 ∷ 0 ∷ 0 ∷ []) (fzero ∷ fzero ∷ []))
@@ -98,14 +98,15 @@ unheld-709 = record { unheld = at }
     at (suc i) h = absurd (omega arith)
 
 -- so what the call promises of its factors holds of it
-pub sample-8-balanced : Balanced 1 single (low ∷ []) (0 ∷ []) (logHuge ∷ [])
-sample-8-balanced = promised 1 single (low ∷ []) (slicesOne (one ∷ [])) low-double (sym log-1418) .balanced refl low-whole unheld-709
+pub sample-8-balanced : Balanced single (low ∷ []) (0 ∷ []) (logHuge ∷ [])
+sample-8-balanced = promised single (low ∷ []) (slicesOne (one ∷ [])) low-double (sym log-1418) .balanced refl low-whole unheld-709
 
 -- two factors for one column: 3, and all stays; but 1 comes first
-too-long : symmetricScaling 1 single (three ∷ []) (slicesOne (one ∷ one ∷ [])) ≡ outcomeIs (Refused 3) (slicesOne (one ∷ one ∷ []))
+too-long : symmetricScaling single (three ∷ []) (slicesOne (one ∷ one ∷ [])) ≡ outcomeIs (Refused 3) (slicesOne (one ∷ one ∷ []))
 unfolding symmetricScaling scaled restFits slicesFit inputFault sizeFault
 too-long = refl
 
-too-many : symmetricScaling 4097 single (three ∷ []) (slicesOne (one ∷ one ∷ [])) ≡ outcomeIs (Refused 1) (slicesOne (one ∷ one ∷ []))
+too-many : symmetricScaling (matrix 4097 (0 ∷ 1 ∷ []) (0 ∷ []) (one ∷ [])) (three ∷ []) (slicesOne (one ∷ one ∷ []))
+    ≡ outcomeIs (Refused 1) (slicesOne (one ∷ one ∷ []))
 unfolding symmetricScaling scaled restFits slicesFit inputFault sizeFault
 too-many = refl

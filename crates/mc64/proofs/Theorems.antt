@@ -10,6 +10,6 @@ use Rattle.factors_mc64.specs.Calls.{numberOf}
 use Rattle.mc64.specs.Call.{ScalingSlices, symmetricScaling}
 use Rattle.mc64.proofs.Calling.{numbered}
 
-pub scaling-listed : (n : ℕ) (m : Matrix) (logs : List Float) (l : ScalingSlices) → Listed symmetricGraphNumbers
-    (numberOf (symmetricScaling n m logs l .answer))
-scaling-listed n m logs l = record { is = numbered n m logs l refl }
+pub scaling-listed : (m : Matrix) (logs : List Float) (l : ScalingSlices) → Listed symmetricGraphNumbers
+    (numberOf (symmetricScaling m logs l .answer))
+scaling-listed m logs l = record { is = numbered m logs l refl }

@@ -49,18 +49,19 @@ unfolding restLengths
 restFits n l = restLengths n (l .pairs) (l .scaled)
 
 -- the first thing wrong, or 0
-abbrev pub scalingFault : ℕ → Matrix → List Float → ScalingSlices → ℕ
-scalingFault n m logs l = inputFault n m logs (lengthsFit n m logs (l .graph) && restFits n l)
+abbrev pub scalingFault : Matrix → List Float → ScalingSlices → ℕ
+scalingFault m logs l = inputFault m logs (lengthsFit m logs (l .graph) && restFits (m .pattern .n) l)
 
 -- the graph that is built
-abbrev pub symmetricGraph : ℕ → Matrix → List Float → CostGraph
-symmetricGraph n m logs =
+abbrev pub symmetricGraph : Matrix → List Float → CostGraph
+symmetricGraph m logs =
+    let n = m .pattern .n in
     let g = mirroredColumns m in
     graphOf n (graphPointers g n) (graphRows g n) (graphCosts g logs n)
 
 -- how many of its columns the match leaves unmatched
-abbrev pub unmatchedColumns : ℕ → Matrix → List Float → ℕ
-unmatchedColumns n m logs = n - hungarianMatch (symmetricGraph n m logs) .matched
+abbrev pub unmatchedColumns : Matrix → List Float → ℕ
+unmatchedColumns m logs = m .pattern .n - hungarianMatch (symmetricGraph m logs) .matched
 
 -- what the match of a graph leaves, and what the factors of that match leave
 abbrev pub pairsLeft : CostGraph → Match.Slices → Match.Slices
@@ -76,40 +77,41 @@ factorsLeft g cmax =
     (replicate (g .pattern .n) 0)
 
 -- what the three calls leave, one after the other
-abbrev pub slicesAfter : ℕ → Matrix → List Float → ScalingSlices → ScalingSlices
-slicesAfter n m logs l =
-    let g = symmetricGraph n m logs in
-    scalingSlices (built n (mirroredColumns m) logs (l .graph)) (pairsLeft g (l .pairs))
-    (factorsLeft g (graphLargest (mirroredColumns m) logs n))
+abbrev pub slicesAfter : Matrix → List Float → ScalingSlices → ScalingSlices
+slicesAfter m logs l =
+    let g = symmetricGraph m logs in
+    scalingSlices (built (m .pattern .n) (mirroredColumns m) logs (l .graph)) (pairsLeft g (l .pairs))
+    (factorsLeft g (graphLargest (mirroredColumns m) logs (m .pattern .n)))
 
 -- an accepted call: every column is matched, or how many are not
-unfoldable pub scaled : ℕ → Matrix → List Float → ScalingSlices → Outcome Scaled ScalingSlices
-scaled n m logs l =
-    outcomeIs (Factors.appliedOrPartial n (hungarianMatch (symmetricGraph n m logs) .matched)) (slicesAfter n m logs l)
+unfoldable pub scaled : Matrix → List Float → ScalingSlices → Outcome Scaled ScalingSlices
+scaled m logs l =
+    outcomeIs (Factors.appliedOrPartial (m .pattern .n) (hungarianMatch (symmetricGraph m logs) .matched))
+    (slicesAfter m logs l)
 
 -- what `compute_symmetric` does
-unfoldable pub symmetricScaling : ℕ → Matrix → List Float → ScalingSlices → Outcome Scaled ScalingSlices
+unfoldable pub symmetricScaling : Matrix → List Float → ScalingSlices → Outcome Scaled ScalingSlices
 unfolding scaled restFits
-symmetricScaling n m logs l = refusing Refused (scalingFault n m logs l) (scaled n m logs l) l
+symmetricScaling m logs l = refusing Refused (scalingFault m logs l) (scaled m logs l) l
 
 -- what the factors are good for, where every column is matched, the logs that are read are whole and no factor is held:
 -- with the log of an entry its two factors are never above 0, and exactly 0 on every matched pair
-abbrev pub Balances : ℕ → Matrix → List Float → Scaled → Match Float → List Float → Type 0
-Balances n m logs answer c factors =
-    answer ≡ Applied → WholeLogs m logs → NoneHeld n c factors → Balanced n m logs (c .perm) factors
+abbrev pub Balances : Matrix → List Float → Scaled → Match Float → List Float → Type 0
+Balances m logs answer c factors =
+    answer ≡ Applied → WholeLogs m logs → NoneHeld (m .pattern .n) c factors → Balanced m logs (c .perm) factors
 
 -- the match that is left, with the largest logs
 abbrev pub cacheLeft : ScalingSlices → Match Float
 cacheLeft after = matchOf (after .pairs .perm) (after .pairs .u) (after .pairs .v) (after .graph .cmax)
 
 -- ---- all that `compute_symmetric` promises, of the matrix, its logs, what was lent, its answer r and what is left
-pub record Promises (n : ℕ) (m : Matrix) (logs : List Float) (before : ScalingSlices) (r : Scaled)
+pub record Promises (m : Matrix) (logs : List Float) (before : ScalingSlices) (r : Scaled)
     (after : ScalingSlices) : Type 0 where
   -- the answer and every slice left are the definition's
-  pub outcome : outcomeIs r after ≡ symmetricScaling n m logs before
+  pub outcome : outcomeIs r after ≡ symmetricScaling m logs before
   -- the number is the first fault's, and an accepted call tells how many columns are unmatched
-  pub answered : Factors.AnswersBy (scalingFault n m logs before) (unmatchedColumns n m logs) r
+  pub answered : Factors.AnswersBy (scalingFault m logs before) (unmatchedColumns m logs) r
   -- the number is one of the call's list
   pub number : OneOf symmetricGraphNumbers (Factors.numberOf r)
   -- the factors of whole logs balance the entries, where every column is matched
-  pub balanced : Balances n m logs r (cacheLeft after) (after .scaled .factors)
+  pub balanced : Balances m logs r (cacheLeft after) (after .scaled .factors)

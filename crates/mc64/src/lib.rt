@@ -97,7 +97,7 @@ pub fn compute_symmetric(
     factor_work: &mut [u32],
 ) -> Scaled
     ensures { λ r.
-        let m = matrix (now («col_ptr» .entry)) (now («row_idx» .entry)) (now (values .entry)) in
+        let m = matrix n (now («col_ptr» .entry)) (now («row_idx» .entry)) (now (values .entry)) in
         let graph = Graphs.slices (now («graph_ptr» .entry)) (now («graph_rows» .entry)) (now (cost .entry))
         (now (cmax .entry)) (now («graph_work» .entry)) in
         let pairs = Match.slices (now (perm .entry)) (now (u .entry)) (now (v .entry)) (now («match_work» .entry))
@@ -109,7 +109,7 @@ pub fn compute_symmetric(
         (now (distances .exit)) in
         let after = scalingSlices graphAfter pairsAfter (Factors.slices (now (factors .exit))
         (now («factor_work» .exit))) in
-        ⌜ Promises n m (now (logs .entry)) before r after ⌝ }
+        ⌜ Promises m (now (logs .entry)) before r after ⌝ }
 {
     let fit = rest_fits(n, perm, u, v, match_work, distances, factors, factor_work);
     if !fit {

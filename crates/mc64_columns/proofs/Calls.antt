@@ -65,26 +65,26 @@ module _ (n : ℕ) (g : GraphColumns) (logs : List Float) (s : Slices) where
     outcome-alike (suc fault) = refl
 
 -- ---- lengths
-pub record Fitting (n room : ℕ) (m : Matrix) (logs : List Float) (s : Slices) : Type 0 where
-  pub colptrs : length (m .colPtr) ≡ n + 1
-  pub valued : length (m .values) ≡ length (m .rows)
-  pub logged : length logs ≡ length (m .rows)
-  pub pointers : length (s .graphPtr) ≡ n + 1
+pub record Fitting (room : ℕ) (m : Matrix) (logs : List Float) (s : Slices) : Type 0 where
+  pub colptrs : length (m .pattern .colPtr) ≡ m .pattern .n + 1
+  pub valued : length (m .values) ≡ length (m .pattern .rowIdx)
+  pub logged : length logs ≡ length (m .pattern .rowIdx)
+  pub pointers : length (s .graphPtr) ≡ m .pattern .n + 1
   pub rowRoom : length (s .graphIdx) ≡ room
   pub costRoom : length (s .cost) ≡ room
-  pub cmaxRoom : length (s .cmax) ≡ n
-  pub workRoom : length (s .work) ≡ 2 * n + 2 + length (m .rows)
+  pub cmaxRoom : length (s .cmax) ≡ m .pattern .n
+  pub workRoom : length (s .work) ≡ 2 * m .pattern .n + 2 + length (m .pattern .rowIdx)
 
-pub lengths-fitting : (n room : ℕ) (m : Matrix) (logs : List Float) (s : Slices) → slicesFit n room m logs s ≡ true → Fitting n room m logs s
+pub lengths-fitting : (room : ℕ) (m : Matrix) (logs : List Float) (s : Slices) → slicesFit room m logs s ≡ true → Fitting room m logs s
 unfolding slicesFit
-lengths-fitting n room m logs s e =
-    let p = both (eqb (length (m .colPtr)) (n + 1)) _ e in
-    let v = both (eqb (length (m .values)) (length (m .rows))) _ (p .1) in
-    let l = both (eqb (length logs) (length (m .rows))) _ (v .1) in
-    let g = both (eqb (length (s .graphPtr)) (n + 1)) _ (l .1) in
+lengths-fitting room m logs s e =
+    let p = both (eqb (length (m .pattern .colPtr)) (m .pattern .n + 1)) _ e in
+    let v = both (eqb (length (m .values)) (length (m .pattern .rowIdx))) _ (p .1) in
+    let l = both (eqb (length logs) (length (m .pattern .rowIdx))) _ (v .1) in
+    let g = both (eqb (length (s .graphPtr)) (m .pattern .n + 1)) _ (l .1) in
     let r = both (eqb (length (s .graphIdx)) room) _ (g .1) in
     let c = both (eqb (length (s .cost)) room) _ (r .1) in
-    let x = both (eqb (length (s .cmax)) n) _ (c .1) in
+    let x = both (eqb (length (s .cmax)) (m .pattern .n)) _ (c .1) in
     record {
       colptrs = eqb-true _ _ (p .0);
       valued = eqb-true _ _ (v .0);

@@ -12,6 +12,7 @@ use lib.ListN.{length, getD, drop, set, length-append, length-map, List·getD-ap
 use lib.Seq.{getD-append-add, drop-cons, set-at, append-snoc}
 use Rattle.limits.specs.Limits.{maxGeneral}
 use Rattle.refusal.specs.Refusal.{costRange}
+use Rattle.sparse.specs.Matrix.{matrix}
 use Rattle.sparse.specs.Columns.{Pointers, Columns}
 use Rattle.sparse.specs.Validate.{generalFault, frameFault, sizeFault, matrixLengths}
 use Rattle.sparse.specs.Fault.{unless}
@@ -156,9 +157,9 @@ module _ (g : GraphColumns) where
 
     module _ (few : n ≤ 4096) (entries : keptBefore g n ≤ 262144) (logs : List Float) where
       -- the match's tests 1 to 7 find nothing wrong
-      pub columns-accepted : generalFault n (graphPointers g n) (graphRows g n) (graphCosts g logs n) ≡ 0
+      pub columns-accepted : generalFault (matrix n (graphPointers g n) (graphRows g n) (graphCosts g logs n)) ≡ 0
       columns-accepted =
-          general-accepted n (graphPointers g n) (graphRows g n) (graphCosts g logs n) .1 (
+          general-accepted (matrix n (graphPointers g n) (graphRows g n) (graphCosts g logs n)) .1 (
             record { columns = few; entries = entries; colptrs = ones-length (keptBefore g) (suc n) ∙ omega arith; stored = costs-length logs n },
             columns-rise,
           )
@@ -175,7 +176,7 @@ module _ (g : GraphColumns) where
           → Accepted (graphOf n (graphPointers g n) (graphRows g n) (graphCosts g logs n))
       unfolding graphFault costFault generalFault frameFault
       columns-match fine =
-          let a = or-zero (frameFault maxGeneral n (graphPointers g n) (graphRows g n) (graphCosts g logs n)) _ columns-accepted in
+          let a = or-zero (frameFault maxGeneral (matrix n (graphPointers g n) (graphRows g n) (graphCosts g logs n))) _ columns-accepted in
           let f = or-zero (sizeFault n maxGeneral (length (graphRows g n)) (matrixLengths n (graphPointers g n) (graphRows g n) (graphCosts g logs n)))
           _ (a .0) in
           or-none (f .0)

@@ -27,15 +27,16 @@ slices graphPtr graphIdx cost cmax work =
     record { graphPtr = graphPtr; graphIdx = graphIdx; cost = cost; cmax = cmax; work = work }
 
 -- 3: whether every slice has its length for n columns, with room for so many entries of the graph
-unfoldable pub slicesFit : ℕ → ℕ → Matrix → List Float → Slices → Bool
-slicesFit n room m logs s =
-    eqb (length (m .colPtr)) (n + 1)
-    && (eqb (length (m .values)) (length (m .rows))
-    && (eqb (length logs) (length (m .rows))
-    && (eqb (length (s .graphPtr)) (n + 1)
+unfoldable pub slicesFit : ℕ → Matrix → List Float → Slices → Bool
+slicesFit room m logs s =
+    let p = m .pattern in
+    eqb (length (p .colPtr)) (p .n + 1)
+    && (eqb (length (m .values)) (length (p .rowIdx))
+    && (eqb (length logs) (length (p .rowIdx))
+    && (eqb (length (s .graphPtr)) (p .n + 1)
     && (eqb (length (s .graphIdx)) room
     && (eqb (length (s .cost)) room
-    && (eqb (length (s .cmax)) n && eqb (length (s .work)) (2 * n + 2 + length (m .rows))))))))
+    && (eqb (length (s .cmax)) (p .n) && eqb (length (s .work)) (2 * p .n + 2 + length (p .rowIdx))))))))
 
 -- ---- answers
 -- the number of an answer, 0 for a graph, and how many entries that has

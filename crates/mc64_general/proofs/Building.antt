@@ -43,12 +43,20 @@ module _ (front column rest : List Float) (a end : ℕ) (starts : length front �
 
 -- ---- columns
 -- no more entries than places
-pub kept-below : {n : ℕ} (m : Matrix) → Pointers n (m .colPtr) (length (m .rows)) → (c : ℕ) → c ≤ n → keptBefore (keptColumns m) c ≤ getD (m .colPtr) c 0
+pub kept-below : {n : ℕ} (m : Matrix) → Pointers n (m .pattern .colPtr) (length (m .pattern .rowIdx)) → (c : ℕ) → c ≤ n
+    → keptBefore (keptColumns m) c ≤ getD (m .pattern .colPtr) c 0
 unfolding joined
 kept-below m p zero h = omega arith
 kept-below m p (suc c) h =
-    let from = getD (m .colPtr) c 0 in
-    omega (arith, kept-next (keptColumns m) c, kept-below m p c (omega arith), kept-few (m .values) from (getD (m .colPtr) (suc c) 0 - from), p .rises c h)
+    let from = getD (m .pattern .colPtr) c 0 in
+    omega (
+      arith,
+      kept-next (keptColumns m) c,
+      kept-below m p c (omega arith),
+      kept-few (m .values) from
+          (getD (m .pattern .colPtr) (suc c) 0 - from),
+      p .rises c h,
+    )
 
 module _ (m : Matrix) (logs : List Float) (graphPtr₀ graphIdx₀ : List ℕ) (cost₀ cmax₀ : List Float) where
   pub built-none : BuiltTo 0 m logs graphPtr₀ graphIdx₀ cost₀ cmax₀ graphPtr₀ graphIdx₀ cost₀ cmax₀ 0
@@ -58,7 +66,7 @@ module _ (m : Matrix) (logs : List Float) (graphPtr₀ graphIdx₀ : List ℕ) (
   module _ {c : ℕ} {graphPtr graphIdx : List ℕ} {cost cmax : List Float} {next : ℕ}
       (s : BuiltTo c m logs graphPtr₀ graphIdx₀ cost₀ cmax₀ graphPtr graphIdx cost cmax next) where
     next-column : {graphIdx′ : List ℕ} {cost′ cost″ : List Float} {top : Float} {end : ℕ} → c < length graphPtr₀ → c < length cmax₀
-        → Copied (placesOf m c) (m .rows) logs next graphIdx cost graphIdx′ cost′ end
+        → Copied (placesOf m c) (m .pattern .rowIdx) logs next graphIdx cost graphIdx′ cost′ end
         → top ≡ largestLog (stretch next end cost′) → cost″ ≡ normalisedAt next end cost′
         → BuiltTo (suc c) m logs graphPtr₀ graphIdx₀ cost₀ cmax₀ (set graphPtr c next) graphIdx′ cost″ (set cmax c top) end
     unfolding joined
@@ -92,7 +100,7 @@ module _ (m : Matrix) (logs : List Float) (graphPtr₀ graphIdx₀ : List ℕ) (
         rows-there : graphIdx′ ≡ graphRows (keptColumns m) c ++ rowsOf (keptColumns m) c ++ drop (keptBefore (keptColumns m) (suc c)) graphIdx₀
         rows-there =
             let e : next + length (rowsOf (keptColumns m) c) ≡ keptBefore (keptColumns m) (suc c) =
-            omega (arith, size, length-map (placesOf m c) (λ k. getD (m .rows) k 0)) in
+            omega (arith, size, length-map (placesOf m c) (λ k. getD (m .pattern .rowIdx) k 0)) in
             copied .rowsThere
             ∙ ap (λ (g : List ℕ). written g next (rowsOf (keptColumns m) c))
             (s .rowsBuilt ∙ ap (λ (i : ℕ). graphRows (keptColumns m) c ++ drop i graphIdx₀) (sym (s .count)))
@@ -106,22 +114,25 @@ module _ (m : Matrix) (logs : List Float) (graphPtr₀ graphIdx₀ : List ℕ) (
             ∙ write-after costs cost₀ column next front ∙ ap (λ (i : ℕ). costs ++ column ++ drop i cost₀) (sym ends)
 
     pub built-next : {graphIdx′ : List ℕ} {cost′ cost″ : List Float} {top : Float} {end : ℕ} → c < length graphPtr₀ → c < length cmax₀
-        → let from = getD (m .colPtr) c 0 in
-        Copied (keptPlaces (m .values) from (getD (m .colPtr) (c + 1) 0 - from)) (m .rows) logs next graphIdx cost graphIdx′ cost′ end
+        → let from = getD (m .pattern .colPtr) c 0 in
+        Copied (keptPlaces (m .values) from (getD (m .pattern .colPtr) (c + 1) 0 - from)) (m .pattern .rowIdx) logs next graphIdx cost graphIdx′ cost′ end
         → top ≡ largestLog (stretch next end cost′) → cost″ ≡ normalisedAt next end cost′
         → BuiltTo (c + 1) m logs graphPtr₀ graphIdx₀ cost₀ cmax₀ (set graphPtr c next) graphIdx′ cost″ (set cmax c top) end
     built-next h l = rw (add-one c) (next-column h l)
 
-    pub built-last : length graphPtr₀ ≡ c + 1 → length cmax₀ ≡ c → BuiltAll c m logs graphIdx₀ cost₀ (set graphPtr c next) graphIdx cost cmax next
-    built-last h l =
-        record {
-          count = s .count;
-          pointers = rw (s .pointers, s .count) (one-more (keptBefore (keptColumns m)) graphPtr₀ 0 c (omega arith))
-              ∙ none (joined (λ i. keptBefore (keptColumns m) i ∷ []) (suc c)) graphPtr₀ (suc c) (omega arith);
-          rowsBuilt = s .rowsBuilt;
-          costs = s .costs;
-          tops = s .tops ∙ none (joined (λ i. largestLog (logsOf (keptColumns m) logs i) ∷ []) c) cmax₀ c (omega arith);
-        }
-      where
-        none : {A : Type 0} (l k : List A) (i : ℕ) → length k ≤ i → l ++ drop i k ≡ l
-        none l k i h = ap (λ (r : List _). l ++ r) (drop-of-length-le k {i = i} h) ∙ append-nil l
+  pub built-last : {graphPtr graphIdx : List ℕ} {cost cmax : List Float} {next : ℕ} → let n = m .pattern .n in
+      BuiltTo n m logs graphPtr₀ graphIdx₀ cost₀ cmax₀ graphPtr graphIdx cost cmax next → length graphPtr₀ ≡ n + 1 → length cmax₀ ≡ n
+      → BuiltAll m logs graphIdx₀ cost₀ (set graphPtr n next) graphIdx cost cmax next
+  built-last s h l =
+      let n = m .pattern .n in
+      record {
+        count = s .count;
+        pointers = rw (s .pointers, s .count) (one-more (keptBefore (keptColumns m)) graphPtr₀ 0 n (omega arith))
+            ∙ none (joined (λ i. keptBefore (keptColumns m) i ∷ []) (suc n)) graphPtr₀ (suc n) (omega arith);
+        rowsBuilt = s .rowsBuilt;
+        costs = s .costs;
+        tops = s .tops ∙ none (joined (λ i. largestLog (logsOf (keptColumns m) logs i) ∷ []) n) cmax₀ n (omega arith);
+      }
+    where
+      none : {A : Type 0} (l k : List A) (i : ℕ) → length k ≤ i → l ++ drop i k ≡ l
+      none l k i h = ap (λ (r : List _). l ++ r) (drop-of-length-le k {i = i} h) ∙ append-nil l

@@ -18,26 +18,28 @@ use Rattle.mc64_general.specs.inner.Steps.{Accepted, Roomy, BuiltAll}
 use Rattle.mc64_columns.specs.declared.Built.the-variants.{Kept}
 
 -- the building and the clearing of the work complete the call
-pub accepted : (n : ℕ) (m : Matrix) (logs : List Float) (s after : Slices) (kept fault : ℕ) → 0 ≡ fault
-    → BuiltAll n m logs (s .graphIdx) (s .cost) (after .graphPtr) (after .graphIdx) (after .cost) (after .cmax) kept → after .work ≡ replicate
+pub accepted : (m : Matrix) (logs : List Float) (s after : Slices) (kept fault : ℕ) → 0 ≡ fault
+    → BuiltAll m logs (s .graphIdx) (s .cost) (after .graphPtr) (after .graphIdx) (after .cost) (after .cmax) kept → after .work ≡ replicate
     (length (s .work)) 0
-    → (outcomeIs (Kept kept) after ≡ outcome fault n (keptColumns m) logs s) × AnswersBy fault (keptBefore (keptColumns m) n) (Kept kept)
+    → (outcomeIs (Kept kept) after ≡ outcome fault (m .pattern .n) (keptColumns m) logs s) × AnswersBy fault (keptBefore (keptColumns m) (m .pattern .n))
+    (Kept kept)
 unfolding built
-accepted n m logs s after kept fault e b w =
-    Calls.accepted n (keptColumns m) logs s after kept fault e
+accepted m logs s after kept fault e b w =
+    Calls.accepted (m .pattern .n) (keptColumns m) logs s after kept fault e
     (record {
       count = b .count;
       slices = λ i. record { graphPtr = b .pointers i; graphIdx = b .rowsBuilt i; cost = b .costs i; cmax = b .tops i; work = w i };
     })
 
 -- ---- what an accepted call has
-pub ready : (n : ℕ) (m : Matrix) (logs : List Float) (s : Slices) → inputFault n m logs (lengthsFit n m logs s) ≡ 0
-    → Accepted n m logs × Roomy n (m .rows) (s .graphPtr) (s .graphIdx) (s .cost) (s .cmax)
+pub ready : (m : Matrix) (logs : List Float) (s : Slices) → inputFault m logs (lengthsFit m logs s) ≡ 0
+    → Accepted m logs × Roomy (m .pattern .n) (m .pattern .rowIdx) (s .graphPtr) (s .graphIdx) (s .cost) (s .cmax)
 unfolding inputFault
-ready n m logs s fine =
-    let z = or-zero (sizeFault n maxGeneral (length (m .rows)) (lengthsFit n m logs s)) _ fine in
-    let f = Calls.lengths-fitting n (length (m .rows)) m logs s (sizes-accepted n maxGeneral (length (m .rows)) _ .0 (z .0) .2) in
-    let a = general-accepted n (m .colPtr) (m .rows) (m .values) .0 (or-zero (generalFault n (m .colPtr) (m .rows) (m .values)) _ (z .1) .0) in (
+ready m logs s fine =
+    let z = or-zero (sizeFault (m .pattern .n) maxGeneral (length (m .pattern .rowIdx)) (lengthsFit m logs s)) _ fine in
+    let f = Calls.lengths-fitting (length (m .pattern .rowIdx)) m logs s
+    (sizes-accepted (m .pattern .n) maxGeneral (length (m .pattern .rowIdx)) _ .0 (z .0) .2) in
+    let a = general-accepted m .0 (or-zero (generalFault m) _ (z .1) .0) in (
       record { sizes = a .0; pointers = a .1 .pointers; logged = f .logged },
       record { pointerRoom = f .pointers; rowRoom = f .rowRoom; costRoom = f .costRoom; cmaxRoom = f .cmaxRoom },
     )

@@ -25,7 +25,7 @@ limit = ofBits binary64 0x4220_0000_0000_0000
 
 -- columns {0, 1 with value 0, 2}, {1 with value infinity}, {0}; the logs of dropped entries are out of range
 abbrev small : Matrix
-small = matrix (0 ∷ 3 ∷ 4 ∷ 5 ∷ []) (0 ∷ 1 ∷ 2 ∷ 1 ∷ 0 ∷ []) (Constants.two ∷ Constants.zero ∷ Constants.two ∷ inf false ∷ Constants.one ∷ [])
+small = matrix 3 (0 ∷ 3 ∷ 4 ∷ 5 ∷ []) (0 ∷ 1 ∷ 2 ∷ 1 ∷ 0 ∷ []) (Constants.two ∷ Constants.zero ∷ Constants.two ∷ inf false ∷ Constants.one ∷ [])
 
 abbrev logs : List Float
 logs = Constants.one ∷ nan ∷ five ∷ limit ∷ Constants.two ∷ []

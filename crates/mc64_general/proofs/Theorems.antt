@@ -24,7 +24,7 @@ use Rattle.sparse.proofs.Theorems.{sizeNumbers, sizes-listed, general-listed}
 use Rattle.hungarian.specs.Accepted.{Accepted}
 use Rattle.hungarian.specs.Graph.{graphOf}
 use Rattle.cost_limit.specs.Range.{inLogRange}
-use Rattle.sparse.specs.Matrix.{Matrix}
+use Rattle.sparse.specs.Matrix.{Matrix, matrix}
 use Rattle.mc64_columns.specs.Graphs.{Slices, slicesFit, numberOf, AnswersBy, outcome, rowsOf, logsAt, keptBefore, graphPointers, graphRows, graphCosts}
 use Rattle.mc64_columns.specs.declared.Built.{Built}
 use Rattle.mc64_columns.proofs.Kept.{keep-all, keep-rises, keep-alike}
@@ -63,91 +63,98 @@ module _ {n : ℕ} (colPtr rows : List ℕ) (columns : Columns n colPtr rows) wh
       rw e (omega (arith, climb c p d h l (omega arith), columns .rising c (p + suc d) h (omega arith) (omega arith)))
 
 -- ---- the graph
-module _ (n : ℕ) (m : Matrix) (columns : Columns n (m .colPtr) (m .rows)) where
+module _ (m : Matrix) (columns : Columns (m .pattern .n) (m .pattern .colPtr) (m .pattern .rowIdx)) where
   -- a place of column c stands between its pointers
-  pub place-in : (c i : ℕ) → c < n → i < length (placesOf m c) → let k = getD (placesOf m c) i 0 in
-      (getD (m .colPtr) c 0 ≤ k) × (k < getD (m .colPtr) (suc c) 0) × (k < length (m .rows)) × (isKept (getD (m .values) k nan) ≡ true)
+  pub place-in : (c i : ℕ) → c < m .pattern .n → i < length (placesOf m c) → let k = getD (placesOf m c) i 0 in
+      (getD (m .pattern .colPtr) c 0 ≤ k) × (k < getD (m .pattern .colPtr) (suc c) 0) × (k < length (m .pattern .rowIdx)) ×
+      (isKept (getD (m .values) k nan) ≡ true)
   place-in c i h l =
-      let from = getD (m .colPtr) c 0 in
-      let t = taken (m .values) from (getD (m .colPtr) (suc c) 0 - from) i l in
+      let from = getD (m .pattern .colPtr) c 0 in
+      let t = taken (m .values) from (getD (m .pattern .colPtr) (suc c) 0 - from) i l in
       let r = columns .pointers .rises c h in
       let b = pointer-below (columns .pointers) (suc c) h in
       (t .0, omega (arith, t .1), omega (arith, t .1), t .2)
 
-  row-inside : (c i : ℕ) → c < n → i < length (rowsOf (keptColumns m) c) → getD (rowsOf (keptColumns m) c) i 0 < n
+  row-inside : (c i : ℕ) → c < m .pattern .n → i < length (rowsOf (keptColumns m) c) → getD (rowsOf (keptColumns m) c) i 0 < m .pattern .n
   row-inside c i h l =
       let u : i < length (placesOf m c) = rw length-map at l in
       rw (row-at (keptColumns m) c i u) (columns .inside _ (place-in c i h u .2))
 
-  row-rises : (c i : ℕ) → c < n → suc i < length (rowsOf (keptColumns m) c) → getD (rowsOf (keptColumns m) c) i 0 < getD (rowsOf (keptColumns m) c) (suc i) 0
+  row-rises : (c i : ℕ) → c < m .pattern .n → suc i < length (rowsOf (keptColumns m) c) → getD (rowsOf (keptColumns m) c) i 0 < getD (rowsOf (keptColumns m) c)
+      (suc i) 0
   row-rises c i h l =
       let u : suc i < length (placesOf m c) = rw length-map at l in
-      let from = getD (m .colPtr) c 0 in
+      let from = getD (m .pattern .colPtr) c 0 in
       let p = getD (placesOf m c) i 0 in
       let q = getD (placesOf m c) (suc i) 0 in
-      let o : p < q = in-order (m .values) from (getD (m .colPtr) (suc c) 0 - from) i u in
+      let o : p < q = in-order (m .values) from (getD (m .pattern .colPtr) (suc c) 0 - from) i u in
       let e : p + suc (q - suc p) ≡ q = omega arith in
       let a = place-in c i h (omega arith) in
       let b = place-in c (suc i) h u in
       rw (row-at (keptColumns m) c i (omega arith), row-at (keptColumns m) c (suc i) u)
-      (subst (λ (x : ℕ). getD (m .rows) p 0 < getD (m .rows) x 0) e (climb (m .colPtr) (m .rows) columns c p (q - suc p) h (a .0) (omega (arith, b .1))))
+      (subst (λ (x : ℕ). getD (m .pattern .rowIdx) p 0 < getD (m .pattern .rowIdx) x 0) e
+      (climb (m .pattern .colPtr) (m .pattern .rowIdx) columns c p (q - suc p) h (a .0) (omega (arith, b .1))))
 
-  pub graph-rises : Columns n (graphPointers (keptColumns m) n) (graphRows (keptColumns m) n)
-  graph-rises = columns-rise (keptColumns m) n row-inside row-rises
+  pub graph-rises : Columns (m .pattern .n) (graphPointers (keptColumns m) (m .pattern .n)) (graphRows (keptColumns m) (m .pattern .n))
+  graph-rises = columns-rise (keptColumns m) (m .pattern .n) row-inside row-rises
 
-  module _ (few : n ≤ 4096) (entries : length (m .rows) ≤ 262144) (logs : List Float) where
-    kept-few : keptBefore (keptColumns m) n ≤ 262144
-    kept-few = omega (arith, kept-below m (columns .pointers) n (le-refl n), columns .pointers .last)
+  module _ (few : m .pattern .n ≤ 4096) (entries : length (m .pattern .rowIdx) ≤ 262144) (logs : List Float) where
+    kept-few : keptBefore (keptColumns m) (m .pattern .n) ≤ 262144
+    kept-few = omega (arith, kept-below m (columns .pointers) (m .pattern .n) (le-refl (m .pattern .n)), columns .pointers .last)
 
     -- the match's tests 1 to 7 find nothing wrong with the graph
-    pub graph-accepted : generalFault n (graphPointers (keptColumns m) n) (graphRows (keptColumns m) n) (graphCosts (keptColumns m) logs n) ≡ 0
-    graph-accepted = columns-accepted (keptColumns m) n row-inside row-rises few kept-few logs
+    pub graph-accepted : generalFault (matrix (m .pattern .n) (graphPointers (keptColumns m) (m .pattern .n)) (graphRows (keptColumns m) (m .pattern .n))
+        (graphCosts (keptColumns m) logs (m .pattern .n))) ≡ 0
+    graph-accepted = columns-accepted (keptColumns m) (m .pattern .n) row-inside row-rises few kept-few logs
 
     -- and where the logs of kept places are doubles in range, its own test accepts the graph
-    pub match-accepts : ((k : ℕ) → k < length (m .rows) → isKept (getD (m .values) k nan) ≡ true → T (fits binary64 (getD logs k nan))
-        × (inLogRange n (getD logs k nan) ≡ true))
-        → Accepted (graphOf n (graphPointers (keptColumns m) n) (graphRows (keptColumns m) n) (graphCosts (keptColumns m) logs n))
+    pub match-accepts : ((k : ℕ) → k < length (m .pattern .rowIdx) → isKept (getD (m .values) k nan) ≡ true → T (fits binary64 (getD logs k nan))
+        × (inLogRange (m .pattern .n) (getD logs k nan) ≡ true))
+        → Accepted (graphOf (m .pattern .n) (graphPointers (keptColumns m) (m .pattern .n)) (graphRows (keptColumns m) (m .pattern .n))
+        (graphCosts (keptColumns m) logs (m .pattern .n)))
     match-accepts fine =
-        columns-match (keptColumns m) n row-inside row-rises few kept-few logs
+        columns-match (keptColumns m) (m .pattern .n) row-inside row-rises few kept-few logs
         (λ c i h l. let t = place-in c i h l in fine (getD (placesOf m c) i 0) (t .2) (t .3))
 
 -- ---- the call
 -- whatever it accepts, the match accepts the graph that it leaves
-pub graph-matched : (n : ℕ) (m : Matrix) (logs : List Float) (s : Slices) → inputFault n m logs (lengthsFit n m logs s) ≡ 0
+pub graph-matched : (m : Matrix) (logs : List Float) (s : Slices) → inputFault m logs (lengthsFit m logs s) ≡ 0
     → ((k : ℕ) → k < length logs → T (fits binary64 (getD logs k nan)))
-    → Accepted (graphOf n (graphPointers (keptColumns m) n) (graphRows (keptColumns m) n) (graphCosts (keptColumns m) logs n))
+    → Accepted (graphOf (m .pattern .n) (graphPointers (keptColumns m) (m .pattern .n)) (graphRows (keptColumns m) (m .pattern .n))
+    (graphCosts (keptColumns m) logs (m .pattern .n)))
 unfolding inputFault logsFault
-graph-matched n m logs s fine doubles =
-    let z = or-zero (sizeFault n maxGeneral (length (m .rows)) (lengthsFit n m logs s)) _ fine in
-    let f = lengths-fitting n (length (m .rows)) m logs s (sizes-accepted n maxGeneral (length (m .rows)) _ .0 (z .0) .2) in
-    let o = or-zero (generalFault n (m .colPtr) (m .rows) (m .values)) _ (z .1) in
-    let a = general-accepted n (m .colPtr) (m .rows) (m .values) .0 (o .0) in
-    let places = all-zero (logFault n (m .values) logs) (length (m .values)) .0 (o .1) in
-    match-accepts n m (a .1) (a .0 .columns) (a .0 .entries) logs
+graph-matched m logs s fine doubles =
+    let z = or-zero (sizeFault (m .pattern .n) maxGeneral (length (m .pattern .rowIdx)) (lengthsFit m logs s)) _ fine in
+    let f = lengths-fitting (length (m .pattern .rowIdx)) m logs s (sizes-accepted (m .pattern .n) maxGeneral (length (m .pattern .rowIdx)) _ .0 (z .0) .2) in
+    let o = or-zero (generalFault m) _ (z .1) in
+    let a = general-accepted m .0 (o .0) in
+    let places = all-zero (logFault (m .pattern .n) (m .values) logs) (length (m .values)) .0 (o .1) in
+    match-accepts m (a .1) (a .0 .columns) (a .0 .entries) logs
     (λ k h e. (doubles k (omega (arith, f .logged)), in-range k (places k (omega (arith, f .valued))) e))
   where
-    in-range : (k : ℕ) → logFault n (m .values) logs k ≡ 0 → isKept (getD (m .values) k nan) ≡ true → inLogRange n (getD logs k nan) ≡ true
-    in-range k e h = unless-holds (inLogRange n (getD logs k nan)) costRange (λ z. let y : ⊥ = omega arith in absurd y) (rw h at e)
+    in-range : (k : ℕ) → logFault (m .pattern .n) (m .values) logs k ≡ 0 → isKept (getD (m .values) k nan) ≡ true
+        → inLogRange (m .pattern .n) (getD logs k nan) ≡ true
+    in-range k e h = unless-holds (inLogRange (m .pattern .n) (getD logs k nan)) costRange (λ z. let y : ⊥ = omega arith in absurd y) (rw h at e)
 
 -- ---- refusals
-pub fault-listed : (n : ℕ) (m : Matrix) (logs : List Float) (s : Slices) → Listed graphNumbers (generalGraphFault n m logs s)
+pub fault-listed : (m : Matrix) (logs : List Float) (s : Slices) → Listed graphNumbers (generalGraphFault m logs s)
 unfolding listed within inputFault logsFault
-fault-listed n m logs s =
-    or-listed (part sizeNumbers (sizes-listed n maxGeneral (length (m .rows)) (lengthsFit n m logs s)) refl)
-    (or-listed (part generalNumbers (general-listed n (m .colPtr) (m .rows) (m .values)) refl)
-    (first-listed (length (m .values)) 0 refl (λ k. test (logFits n (getD (m .values) k nan) (getD logs k nan)) costRange refl refl)))
+fault-listed m logs s =
+    or-listed (part sizeNumbers (sizes-listed (m .pattern .n) maxGeneral (length (m .pattern .rowIdx)) (lengthsFit m logs s)) refl)
+    (or-listed (part generalNumbers (general-listed m) refl)
+    (first-listed (length (m .values)) 0 refl (λ k. test (logFits (m .pattern .n) (getD (m .values) k nan) (getD logs k nan)) costRange refl refl)))
 
 -- all that the call promises, of an outcome by its fault
-pub promised : (n : ℕ) (m : Matrix) (logs : List Float) (s : Slices) {r : Built} {after : Slices}
-    → (outcomeIs r after ≡ outcome (generalGraphFault n m logs s) n (keptColumns m) logs s)
-    × AnswersBy (generalGraphFault n m logs s) (keptBefore (keptColumns m) n) r
-    → Promises n m logs s r after
+pub promised : (m : Matrix) (logs : List Float) (s : Slices) {r : Built} {after : Slices}
+    → (outcomeIs r after ≡ outcome (generalGraphFault m logs s) (m .pattern .n) (keptColumns m) logs s)
+    × AnswersBy (generalGraphFault m logs s) (keptBefore (keptColumns m) (m .pattern .n)) r
+    → Promises m logs s r after
 unfolding generalGraph
-promised n m logs s p = record { outcome = p .0; answered = p .1; number = in-list (fault-listed n m logs s) (p .1) }
+promised m logs s p = record { outcome = p .0; answered = p .1; number = in-list (fault-listed m logs s) (p .1) }
 
-pub graph-listed : (n : ℕ) (m : Matrix) (logs : List Float) (s : Slices) → Listed graphNumbers (numberOf (generalGraph n m logs s .answer))
+pub graph-listed : (m : Matrix) (logs : List Float) (s : Slices) → Listed graphNumbers (numberOf (generalGraph m logs s .answer))
 unfolding generalGraph
-graph-listed n m logs s = outcome-listed n (keptColumns m) logs s (generalGraphFault n m logs s) (fault-listed n m logs s)
+graph-listed m logs s = outcome-listed (m .pattern .n) (keptColumns m) logs s (generalGraphFault m logs s) (fault-listed m logs s)
 
 -- ---- logs of dropped places
 -- whether the value at a place is kept
@@ -158,13 +165,13 @@ fits-alike : (n : ℕ) (b : Bool) (x y : Float) → (b ≡ true → x ≡ y) →
 fits-alike n true x y h = ap (inLogRange n) (h refl)
 fits-alike n false x y h = refl
 
-module _ (n : ℕ) (m : Matrix) (logs other : List Float) (s : Slices) (agree : Agree (keptAt m) logs other) where
-  fault-alike : logsFault n (m .values) logs ≡ logsFault n (m .values) other
+module _ (m : Matrix) (logs other : List Float) (s : Slices) (agree : Agree (keptAt m) logs other) where
+  fault-alike : logsFault (m .pattern .n) (m .values) logs ≡ logsFault (m .pattern .n) (m .values) other
   unfolding logsFault
   fault-alike =
       ap (λ (fault : ℕ → ℕ). firstOf (length (m .values)) fault 0)
       (fun-ext (λ k. ap (λ (fine : Bool). unless fine costRange)
-      (fits-alike n (keptAt m k) (getD logs k nan) (getD other k nan) (agree-at (keptAt m) logs other agree k))))
+      (fits-alike (m .pattern .n) (keptAt m k) (getD logs k nan) (getD other k nan) (agree-at (keptAt m) logs other agree k))))
 
   places-alike : (from count : ℕ) → logsAt logs (keptPlaces (m .values) from count) ≡ logsAt other (keptPlaces (m .values) from count)
   unfolding keptPlaces
@@ -173,14 +180,15 @@ module _ (n : ℕ) (m : Matrix) (logs other : List Float) (s : Slices) (agree : 
       keep-alike (keptPlaces (m .values) from count) (from + count) (λ k. getD logs k nan) (λ k. getD other k nan) (keptAt m (from + count))
       (places-alike from count) (agree-at (keptAt m) logs other agree (from + count))
 
-  number-alike : inputFault n m logs (lengthsFit n m logs s) ≡ inputFault n m other (lengthsFit n m other s)
+  number-alike : inputFault m logs (lengthsFit m logs s) ≡ inputFault m other (lengthsFit m other s)
   unfolding inputFault slicesFit
   number-alike = rw (fault-alike, agree .same)
 
   -- what the call answers and leaves is the same for logs that agree at the kept places
-  pub dropped-logs : generalGraph n m logs s ≡ generalGraph n m other s
+  pub dropped-logs : generalGraph m logs s ≡ generalGraph m other s
   unfolding generalGraph
   dropped-logs =
-      ap (λ (fault : ℕ). outcome fault n (keptColumns m) logs s) number-alike
-      ∙ outcome-alike n (keptColumns m) logs s other (λ c. places-alike (getD (m .colPtr) c 0) (getD (m .colPtr) (suc c) 0 - getD (m .colPtr) c 0))
-      (inputFault n m other (lengthsFit n m other s))
+      ap (λ (fault : ℕ). outcome fault (m .pattern .n) (keptColumns m) logs s) number-alike
+      ∙ outcome-alike (m .pattern .n) (keptColumns m) logs s other
+      (λ c. places-alike (getD (m .pattern .colPtr) c 0) (getD (m .pattern .colPtr) (suc c) 0 - getD (m .pattern .colPtr) c 0))
+      (inputFault m other (lengthsFit m other s))

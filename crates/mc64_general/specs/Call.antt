@@ -21,8 +21,8 @@ use Rattle.mc64_general.specs.Graph.{isKept, keptColumns}
 
 -- ---- refusals
 -- 3: whether every slice has its length for n columns
-abbrev pub lengthsFit : ℕ → Matrix → List Float → Slices → Bool
-lengthsFit n m logs s = slicesFit n (length (m .rows)) m logs s
+abbrev pub lengthsFit : Matrix → List Float → Slices → Bool
+lengthsFit m logs s = slicesFit (length (m .pattern .rowIdx)) m logs s
 
 -- a value is dropped, whatever its log is, or its log is in range for n columns
 abbrev pub logFits : ℕ → Float → Float → Bool
@@ -37,25 +37,25 @@ unfoldable pub logsFault : ℕ → List Float → List Float → ℕ
 logsFault n values logs = firstOf (length values) (logFault n values logs) 0
 
 -- the first thing wrong, or 0; `lengths` says whether every slice has its length
-unfoldable pub inputFault : ℕ → Matrix → List Float → Bool → ℕ
-inputFault n m logs lengths =
-    orElse (sizeFault n maxGeneral (length (m .rows)) lengths)
-    (orElse (generalFault n (m .colPtr) (m .rows) (m .values)) (logsFault n (m .values) logs))
+unfoldable pub inputFault : Matrix → List Float → Bool → ℕ
+inputFault m logs lengths =
+    orElse (sizeFault (m .pattern .n) maxGeneral (length (m .pattern .rowIdx)) lengths)
+    (orElse (generalFault m) (logsFault (m .pattern .n) (m .values) logs))
 
 -- the same of what is lent
-abbrev pub generalGraphFault : ℕ → Matrix → List Float → Slices → ℕ
-generalGraphFault n m logs s = inputFault n m logs (lengthsFit n m logs s)
+abbrev pub generalGraphFault : Matrix → List Float → Slices → ℕ
+generalGraphFault m logs s = inputFault m logs (lengthsFit m logs s)
 
 -- what `build_general_graph` does
-unfoldable pub generalGraph : ℕ → Matrix → List Float → Slices → Outcome Built Slices
-generalGraph n m logs s = outcome (generalGraphFault n m logs s) n (keptColumns m) logs s
+unfoldable pub generalGraph : Matrix → List Float → Slices → Outcome Built Slices
+generalGraph m logs s = outcome (generalGraphFault m logs s) (m .pattern .n) (keptColumns m) logs s
 
 -- ---- all that `build_general_graph` promises, of the matrix, its logs, what was lent, its answer r and what is left
-pub record Promises (n : ℕ) (m : Matrix) (logs : List Float) (before : Slices) (r : Built) (after : Slices)
+pub record Promises (m : Matrix) (logs : List Float) (before : Slices) (r : Built) (after : Slices)
     : Type 0 where
   -- the answer and every slice left are the definition's
-  pub outcome : outcomeIs r after ≡ generalGraph n m logs before
+  pub outcome : outcomeIs r after ≡ generalGraph m logs before
   -- the number is the first fault's, and an accepted call tells how many entries the graph has
-  pub answered : AnswersBy (generalGraphFault n m logs before) (keptBefore (keptColumns m) n) r
+  pub answered : AnswersBy (generalGraphFault m logs before) (keptBefore (keptColumns m) (m .pattern .n)) r
   -- the number is one of the call's list
   pub number : OneOf graphNumbers (numberOf r)

@@ -9,6 +9,7 @@ use lib.ListN.{getD}
 use Rattle.float64.specs.Constants as Constants
 use Rattle.slices.specs.Lists.{keep}
 use Rattle.mc64_columns.specs.Columns.{largest}
+use Rattle.sparse.specs.Pattern.{start, end}
 use Rattle.sparse.specs.Matrix.{Matrix}
 use Rattle.mc64_columns.specs.Graphs.{GraphColumns}
 
@@ -25,7 +26,7 @@ keptPlaces values from (suc count) =
 
 -- those of column c
 abbrev pub placesOf : Matrix → ℕ → List ℕ
-placesOf m c = keptPlaces (m .values) (getD (m .colPtr) c 0) (getD (m .colPtr) (suc c) 0 - getD (m .colPtr) c 0)
+placesOf m c = let p = m .pattern in keptPlaces (m .values) (start p c) (end p c - start p c)
 
 -- the largest log of a column; 0.0 for an empty one
 unfoldable pub largestLog : List Float → Float
@@ -34,4 +35,4 @@ largestLog (x ∷ l) = largest (x ∷ l)
 
 -- the columns of the graph
 abbrev pub keptColumns : Matrix → GraphColumns
-keptColumns m = record { places = placesOf m; row = λ c k. getD (m .rows) k 0; top = largestLog }
+keptColumns m = record { places = placesOf m; row = λ c k. getD (m .pattern .rowIdx) k 0; top = largestLog }

@@ -31,11 +31,11 @@ pub fn lengths_fit(
 ) -> bool
     requires { ⌜ n < 2 ^ 32 ⌝ }
     ensures { λ r.
-        let m = matrix (now («col_ptr» .entry)) (now («row_idx» .entry)) (now (values .entry)) in
+        let m = matrix n (now («col_ptr» .entry)) (now («row_idx» .entry)) (now (values .entry)) in
         let before = slices (now («graph_ptr» .entry)) (now («graph_rows» .entry)) (now (cost .entry))
         (now (cmax .entry))
         (now (work .entry)) in
-        ⌜ r ≡ lengthsFit n m (now (logs .entry)) before ⌝ }
+        ⌜ r ≡ lengthsFit m (now (logs .entry)) before ⌝ }
 {
     let count = row_idx.len();
     let room = (cmax.len() == n) & (work.len() == 2 * n + 2 + count);
@@ -87,8 +87,8 @@ fn input_fault(
 ) -> u32
     requires { ⌜ (lengths ≡ true → length (now logs) ≡ length (now values)) ⌝ }
     ensures { λ r.
-        let m = matrix (now («col_ptr» .entry)) (now («row_idx» .entry)) (now (values .entry)) in
-        ⌜ r ≡ inputFault n m (now (logs .entry)) lengths ⌝ }
+        let m = matrix n (now («col_ptr» .entry)) (now («row_idx» .entry)) (now (values .entry)) in
+        ⌜ r ≡ inputFault m (now (logs .entry)) lengths ⌝ }
 {
     let sizes = layout::size_fault(n, limits::MAX_GENERAL, row_idx.len(), lengths);
     if sizes != refusal::ACCEPTED {
@@ -159,11 +159,11 @@ pub fn build(
     cmax: &mut [f64],
     source: LogSource,
 ) -> u32
-    requires { ⌜ Accepted n (matrix (now «col_ptr») (now «row_idx») (now values)) (now logs) ⌝ }
+    requires { ⌜ Accepted (matrix n (now «col_ptr») (now «row_idx») (now values)) (now logs) ⌝ }
     requires { ⌜ Roomy n (now «row_idx») (now «graph_ptr») (now «graph_rows») (now cost) (now cmax) ⌝ }
     ensures { λ r.
-        let m = matrix (now («col_ptr» .entry)) (now («row_idx» .entry)) (now (values .entry)) in
-        ⌜ BuiltAll n m (entryLogs source (now (logs .entry))) (now («graph_rows» .entry)) (now (cost .entry))
+        let m = matrix n (now («col_ptr» .entry)) (now («row_idx» .entry)) (now (values .entry)) in
+        ⌜ BuiltAll m (entryLogs source (now (logs .entry))) (now («graph_rows» .entry)) (now (cost .entry))
         (now («graph_ptr» .exit)) (now («graph_rows» .exit)) (now (cost .exit)) (now (cmax .exit)) r ⌝ }
 {
     let mut next = 0;
@@ -203,13 +203,13 @@ pub fn build_general_graph(
     work: &mut [u32],
 ) -> Built
     ensures { λ r.
-        let m = matrix (now («col_ptr» .entry)) (now («row_idx» .entry)) (now (values .entry)) in
+        let m = matrix n (now («col_ptr» .entry)) (now («row_idx» .entry)) (now (values .entry)) in
         let before = slices (now («graph_ptr» .entry)) (now («graph_rows» .entry)) (now (cost .entry))
         (now (cmax .entry))
         (now (work .entry)) in
         let after = slices (now («graph_ptr» .exit)) (now («graph_rows» .exit)) (now (cost .exit)) (now (cmax .exit))
         (now (work .exit)) in
-        ⌜ Promises n m (now (logs .entry)) before r after ⌝ }
+        ⌜ Promises m (now (logs .entry)) before r after ⌝ }
 {
     let size = n as usize;
     let fit = lengths_fit(

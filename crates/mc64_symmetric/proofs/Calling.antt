@@ -1,12 +1,11 @@
 -- The call: what the tests leave is what the building asks for.
-use mathlib.Core.Path.{_≡_, subst}
+use mathlib.Core.Path.{_≡_}
 use mathlib.Core.List.{List}
 use Prim.Native.Nat.{ℕ, _+_, _*_}
 use native.Mathlib.Omega.{arith}
 use lib.Ieee.{Float}
 use lib.ListN.{length}
 use Rattle.limits.specs.Limits.{maxSymmetric}
-use Rattle.sparse.specs.Columns.{Columns, Lower}
 use Rattle.sparse.specs.Validate.{sizeFault, symmetricFault}
 use Rattle.sparse.proofs.First.{or-zero}
 use Rattle.sparse.proofs.Accepted.{sizes-accepted, symmetric-accepted}
@@ -14,36 +13,37 @@ use Rattle.sparse.specs.Matrix.{Matrix}
 use Rattle.mc64_columns.specs.Graphs.{Slices}
 use Rattle.mc64_columns.proofs.Calls.{Fitting, lengths-fitting}
 use Rattle.mc64_symmetric.specs.Call.{lengthsFit, inputFault}
-use Rattle.mc64_symmetric.specs.inner.Steps.{columnsOf, Triangle, Roomy}
+use Rattle.mc64_symmetric.specs.inner.Steps.{Triangle, Roomy}
 
-module _ (n : ℕ) (m : Matrix) (logs : List Float) (s : Slices) (fine : inputFault n m logs (lengthsFit n m logs s) ≡ 0) where
-  tests : (sizeFault n maxSymmetric (length (m .rows)) (lengthsFit n m logs s) ≡ 0) × (symmetricFault n (m .colPtr) (m .rows) (m .values) ≡ 0)
+pub triangle-of : (m : Matrix) → symmetricFault m ≡ 0 → Triangle m
+triangle-of m e =
+    let a = symmetric-accepted m .0 e in
+    record {
+      few = a .0 .columns;
+      entries = a .0 .entries;
+      colptrs = a .0 .colptrs;
+      stored = a .0 .stored;
+      columns = a .1 .0;
+      lower = a .1 .1;
+    }
+
+module _ (m : Matrix) (logs : List Float) (s : Slices) (fine : inputFault m logs (lengthsFit m logs s) ≡ 0) where
+  tests : (sizeFault (m .pattern .n) maxSymmetric (length (m .pattern .rowIdx)) (lengthsFit m logs s) ≡ 0) × (symmetricFault m ≡ 0)
   unfolding inputFault
   tests =
-      let z = or-zero (sizeFault n maxSymmetric (length (m .rows)) (lengthsFit n m logs s)) _ fine in
-      (z .0, or-zero (symmetricFault n (m .colPtr) (m .rows) (m .values)) _ (z .1) .0)
+      let z = or-zero (sizeFault (m .pattern .n) maxSymmetric (length (m .pattern .rowIdx)) (lengthsFit m logs s)) _ fine in
+      (z .0, or-zero (symmetricFault m) _ (z .1) .0)
 
-  fitting : Fitting n (2 * length (m .rows)) m logs s
-  fitting = lengths-fitting n (2 * length (m .rows)) m logs s (sizes-accepted n maxSymmetric (length (m .rows)) _ .0 (tests .0) .2)
-
-  triangle : Triangle m
-  triangle =
-      let a = symmetric-accepted n (m .colPtr) (m .rows) (m .values) .0 (tests .1) in
-      let e : n ≡ columnsOf m = omega (arith, fitting .colptrs) in
-      record {
-        few = omega (arith, a .0 .columns, e);
-        entries = a .0 .entries;
-        colptrs = omega (arith, fitting .colptrs);
-        stored = fitting .valued;
-        columns = subst (λ (i : ℕ). Columns i (m .colPtr) (m .rows)) e (a .1 .0);
-        lower = subst (λ (i : ℕ). Lower i (m .colPtr) (m .rows)) e (a .1 .1);
-      }
+  fitting : Fitting (2 * length (m .pattern .rowIdx)) m logs s
+  fitting = lengths-fitting (2 * length (m .pattern .rowIdx)) m logs s
+      (sizes-accepted (m .pattern .n) maxSymmetric (length (m .pattern .rowIdx)) _ .0 (tests .0) .2)
 
   pub ready : Triangle m
-      × (((length (m .colPtr) ≡ n + 1) × (length logs ≡ length (m .rows)))
-      × (((length (s .graphPtr) ≡ n + 1) × (length (s .cmax) ≡ n)) × Roomy (m .colPtr) (m .rows) (s .graphIdx) (s .cost) (s .work)))
+      × (((length (m .pattern .colPtr) ≡ m .pattern .n + 1) × (length logs ≡ length (m .pattern .rowIdx)))
+      × (((length (s .graphPtr) ≡ m .pattern .n + 1) × (length (s .cmax) ≡ m .pattern .n)) × Roomy (m .pattern .colPtr) (m .pattern .rowIdx) (s .graphIdx)
+      (s .cost) (s .work)))
   ready = (
-    triangle,
+    triangle-of m (tests .1),
     (
       (fitting .colptrs, fitting .logged),
       (

@@ -35,7 +35,7 @@ limit = ofBits binary64 0x4220_0000_0000_0000
 
 -- columns {0, 2}, {1 with value 0}, {2}; the zero's log is a NaN
 abbrev small : Matrix
-small = matrix (0 ∷ 2 ∷ 3 ∷ 4 ∷ []) (0 ∷ 2 ∷ 1 ∷ 2 ∷ []) (two ∷ three ∷ Constants.zero ∷ one ∷ [])
+small = matrix 3 (0 ∷ 2 ∷ 3 ∷ 4 ∷ []) (0 ∷ 2 ∷ 1 ∷ 2 ∷ []) (two ∷ three ∷ Constants.zero ∷ one ∷ [])
 
 abbrev logs : List Float
 logs = one ∷ five ∷ nan ∷ two ∷ []

@@ -31,7 +31,7 @@ use Rattle.slices.specs.Outcome.{outcomeIs}
 use Rattle.hungarian.specs.Accepted.{Accepted}
 use Rattle.hungarian.specs.Graph.{graphOf}
 use Rattle.cost_limit.specs.Range.{inLogRange}
-use Rattle.sparse.specs.Matrix.{Matrix}
+use Rattle.sparse.specs.Matrix.{Matrix, matrix}
 use Rattle.mc64_columns.specs.Graphs.{Slices, slicesFit, numberOf, AnswersBy, outcome, rowsOf, logsAt, keptBefore, graphPointers, graphRows, graphCosts}
 use Rattle.mc64_columns.specs.declared.Built.{Built}
 use Rattle.mc64_columns.proofs.Kept.{keep-all, keep-rises, keep-alike}
@@ -40,7 +40,7 @@ use Rattle.mc64_columns.proofs.Calls.{in-list, outcome-listed, outcome-alike}
 use Rattle.mc64_symmetric.specs.Graph.{placeRow, placeColumn, kept, touches, placesTo, placesOf, otherEnd, mirroredColumns}
 use Rattle.mc64_symmetric.specs.Call.{lengthsFit, valueFault, placeFault, valuesFault, inputFault, costGraphFault, costGraph, Promises}
 use Rattle.mc64_columns.proofs.Agree.{Agree, agree-at}
-use Rattle.mc64_symmetric.specs.inner.Steps.{columnsOf, Triangle}
+use Rattle.mc64_symmetric.specs.inner.Steps.{Triangle}
 use Rattle.mc64_symmetric.proofs.Places.{In, pointers-up, col-is, row-lower, pointer-few}
 use Rattle.mc64_symmetric.proofs.Building.{pointer-entries}
 use Rattle.mc64_symmetric.proofs.Calling.{ready}
@@ -48,9 +48,9 @@ use Rattle.mc64_symmetric.proofs.Calling.{ready}
 -- ---- stored places
 module _ (m : Matrix) (t : Triangle m) where
   -- every place stands in its column
-  pub stands : (k : ℕ) → k < length (m .rows) → In m (placeColumn m k) k
+  pub stands : (k : ℕ) → k < length (m .pattern .rowIdx) → In m (placeColumn m k) k
   stands k h =
-      let f = column-of (t .columns .pointers) k (columnsOf m) (le-refl (columnsOf m)) (rw (t .columns .pointers .last) h) in
+      let f = column-of (t .columns .pointers) k (m .pattern .n) (le-refl (m .pattern .n)) (rw (t .columns .pointers .last) h) in
       let i : In m (f .0) k = record { column = f .1; from = f .2; to = f .3 } in
       subst (λ (j : ℕ). In m j k) (sym (col-is m t i)) i
 
@@ -121,7 +121,7 @@ module _ (m : Matrix) (t : Triangle m) (c : ℕ) where
   stored p e = rw (ne-eqb (placeRow m p) c e)
 
   -- a later place has a higher row
-  higher : (p q : ℕ) → p < q → q < length (m .rows) → Takes m c p → Takes m c q → otherEnd m c p < otherEnd m c q
+  higher : (p q : ℕ) → p < q → q < length (m .pattern .rowIdx) → Takes m c p → Takes m c q → otherEnd m c p < otherEnd m c q
   higher p q l h a b = go (ℕ-discrete (placeRow m p) c) (ℕ-discrete (placeRow m q) c)
     where
       i : In m (placeColumn m p) p
@@ -157,115 +157,120 @@ module _ (m : Matrix) (t : Triangle m) (c : ℕ) where
       go (no e) (no f) = rw (stored p e, stored q f) (together (own p a e ∙ sym (own q b f)))
 
 -- ---- all columns
-module _ (n : ℕ) (m : Matrix) (t : Triangle m) (size : columnsOf m ≡ n) where
+module _ (m : Matrix) (t : Triangle m) where
   -- a row is a row or a column of the triangle
-  row-inside : (c i : ℕ) → c < n → i < length (rowsOf (mirroredColumns m) c) → getD (rowsOf (mirroredColumns m) c) i 0 < n
+  row-inside : (c i : ℕ) → c < m .pattern .n → i < length (rowsOf (mirroredColumns m) c) → getD (rowsOf (mirroredColumns m) c) i 0 < m .pattern .n
   row-inside c i h l =
       let u : i < length (placesOf m c) = rw length-map at l in
       let k = getD (placesOf m c) i 0 in
-      let b = taken m c (length (m .rows)) i u .0 in
+      let b = taken m c (length (m .pattern .rowIdx)) i u .0 in
       let r = t .columns .inside k b in
       let s = stands m t k b .column in
-      rw (row-at (mirroredColumns m) c i u) (go (eqb (placeRow m k) c) (omega (arith, r, size)) (omega (arith, s, size)))
+      rw (row-at (mirroredColumns m) c i u) (go (eqb (placeRow m k) c) r s)
     where
-      go : {x y : ℕ} (b : Bool) → x < n → y < n → cond b y x < n
+      go : {x y : ℕ} (b : Bool) → x < m .pattern .n → y < m .pattern .n → cond b y x < m .pattern .n
       go true h k = k
       go false h k = h
 
-  row-rises : (c i : ℕ) → c < n → suc i < length (rowsOf (mirroredColumns m) c) → getD (rowsOf (mirroredColumns m) c) i 0 < getD
+  row-rises : (c i : ℕ) → c < m .pattern .n → suc i < length (rowsOf (mirroredColumns m) c) → getD (rowsOf (mirroredColumns m) c) i 0 < getD
       (rowsOf (mirroredColumns m) c) (suc i) 0
   row-rises c i h l =
       let u : suc i < length (placesOf m c) = rw length-map at l in
-      let p = taken m c (length (m .rows)) i (omega arith) in
-      let q = taken m c (length (m .rows)) (suc i) u in
+      let p = taken m c (length (m .pattern .rowIdx)) i (omega arith) in
+      let q = taken m c (length (m .pattern .rowIdx)) (suc i) u in
       rw (row-at (mirroredColumns m) c i (omega arith), row-at (mirroredColumns m) c (suc i) u)
-      (higher m t c _ _ (in-order m c (length (m .rows)) i u) (q .0) (p .1) (q .1))
+      (higher m t c _ _ (in-order m c (length (m .pattern .rowIdx)) i u) (q .0) (p .1) (q .1))
 
-  pub graph-rises : Columns n (graphPointers (mirroredColumns m) n) (graphRows (mirroredColumns m) n)
-  graph-rises = columns-rise (mirroredColumns m) n row-inside row-rises
+  pub graph-rises : Columns (m .pattern .n) (graphPointers (mirroredColumns m) (m .pattern .n)) (graphRows (mirroredColumns m) (m .pattern .n))
+  graph-rises = columns-rise (mirroredColumns m) (m .pattern .n) row-inside row-rises
 
-  entries-few : keptBefore (mirroredColumns m) n ≤ 262144
-  entries-few = omega (arith, pointer-entries m n, pointer-few m n, t .entries)
+  entries-few : keptBefore (mirroredColumns m) (m .pattern .n) ≤ 262144
+  entries-few = omega (arith, pointer-entries m (m .pattern .n), pointer-few m (m .pattern .n), t .entries)
 
   module _ (logs : List Float) where
     -- the match's tests 1 to 7 find nothing wrong with the graph
-    pub graph-accepted : generalFault n (graphPointers (mirroredColumns m) n) (graphRows (mirroredColumns m) n) (graphCosts (mirroredColumns m) logs n) ≡ 0
-    graph-accepted = columns-accepted (mirroredColumns m) n row-inside row-rises (omega (arith, t .few, size)) entries-few logs
+    pub graph-accepted : generalFault (matrix (m .pattern .n) (graphPointers (mirroredColumns m) (m .pattern .n))
+        (graphRows (mirroredColumns m) (m .pattern .n)) (graphCosts (mirroredColumns m) logs (m .pattern .n))) ≡ 0
+    graph-accepted = columns-accepted (mirroredColumns m) (m .pattern .n) row-inside row-rises (t .few) entries-few logs
 
     -- and where the logs of kept places are doubles in range, its own test accepts the graph
-    pub match-accepts : ((k : ℕ) → k < length (m .rows) → kept m k ≡ true → T (fits binary64 (getD logs k nan)) × (inLogRange n (getD logs k nan) ≡ true))
-        → Accepted (graphOf n (graphPointers (mirroredColumns m) n) (graphRows (mirroredColumns m) n) (graphCosts (mirroredColumns m) logs n))
+    pub match-accepts : ((k : ℕ) → k < length (m .pattern .rowIdx) → kept m k ≡ true → T (fits binary64 (getD logs k nan)) ×
+        (inLogRange (m .pattern .n) (getD logs k nan) ≡ true))
+        → Accepted (graphOf (m .pattern .n) (graphPointers (mirroredColumns m) (m .pattern .n)) (graphRows (mirroredColumns m) (m .pattern .n))
+        (graphCosts (mirroredColumns m) logs (m .pattern .n)))
     match-accepts fine =
-        columns-match (mirroredColumns m) n row-inside row-rises (omega (arith, t .few, size)) entries-few logs
-        (λ c i h l. let p = taken m c (length (m .rows)) i l in fine (getD (placesOf m c) i 0) (p .0) (p .2))
+        columns-match (mirroredColumns m) (m .pattern .n) row-inside row-rises (t .few) entries-few logs
+        (λ c i h l. let p = taken m c (length (m .pattern .rowIdx)) i l in fine (getD (placesOf m c) i 0) (p .0) (p .2))
 
 -- a place of a column is stored, and kept
-pub place-in : (m : Matrix) (c i : ℕ) → i < length (placesOf m c) → let k = getD (placesOf m c) i 0 in (k < length (m .rows)) × (kept m k ≡ true)
-place-in m c i h = let p = taken m c (length (m .rows)) i h in (p .0, p .2)
+pub place-in : (m : Matrix) (c i : ℕ) → i < length (placesOf m c) → let k = getD (placesOf m c) i 0 in (k < length (m .pattern .rowIdx)) × (kept m k ≡ true)
+place-in m c i h = let p = taken m c (length (m .pattern .rowIdx)) i h in (p .0, p .2)
 
 -- ---- the call
-module _ (n : ℕ) (m : Matrix) (logs : List Float) (s : Slices) (fine : inputFault n m logs (lengthsFit n m logs s) ≡ 0) where
+module _ (m : Matrix) (logs : List Float) (s : Slices) (fine : inputFault m logs (lengthsFit m logs s) ≡ 0) where
   -- the log of a kept place is in range
-  pub kept-in-range : (k : ℕ) → k < length (m .rows) → kept m k ≡ true → inLogRange n (getD logs k nan) ≡ true
+  pub kept-in-range : (k : ℕ) → k < length (m .pattern .rowIdx) → kept m k ≡ true → inLogRange (m .pattern .n) (getD logs k nan) ≡ true
   unfolding inputFault valuesFault
   kept-in-range k h e =
-      let z = or-zero (sizeFault n maxSymmetric (length (m .rows)) (lengthsFit n m logs s)) _ fine in
-      let o = or-zero (symmetricFault n (m .colPtr) (m .rows) (m .values)) _ (z .1) in
-      let places = all-zero (placeFault n (m .values) logs) (length (m .values)) .0 (o .1) in
-      go (eq (getD (m .values) k nan) Constants.zero) (or-zero (valueFault (m .values) k) _ (places k (omega (arith, ready n m logs s fine .0 .stored))) .1) e
+      let z = or-zero (sizeFault (m .pattern .n) maxSymmetric (length (m .pattern .rowIdx)) (lengthsFit m logs s)) _ fine in
+      let o = or-zero (symmetricFault m) _ (z .1) in
+      let places = all-zero (placeFault (m .pattern .n) (m .values) logs) (length (m .values)) .0 (o .1) in
+      go (eq (getD (m .values) k nan) Constants.zero) (or-zero (valueFault (m .values) k) _ (places k (omega (arith, ready m logs s fine .0 .stored))) .1) e
     where
-      go : (b : Bool) → unless (b || inLogRange n (getD logs k nan)) costRange ≡ 0 → not b ≡ true → inLogRange n (getD logs k nan) ≡ true
+      go : (b : Bool) → unless (b || inLogRange (m .pattern .n) (getD logs k nan)) costRange ≡ 0 → not b ≡ true
+          → inLogRange (m .pattern .n) (getD logs k nan) ≡ true
       go true e h = absurd (false≢true h)
-      go false e h = unless-holds (inLogRange n (getD logs k nan)) costRange (λ z. let y : ⊥ = omega arith in absurd y) e
+      go false e h = unless-holds (inLogRange (m .pattern .n) (getD logs k nan)) costRange (λ z. let y : ⊥ = omega arith in absurd y) e
 
   -- whatever it accepts, the match accepts the graph that it leaves
   pub graph-matched : ((k : ℕ) → k < length logs → T (fits binary64 (getD logs k nan)))
-      → Accepted (graphOf n (graphPointers (mirroredColumns m) n) (graphRows (mirroredColumns m) n) (graphCosts (mirroredColumns m) logs n))
+      → Accepted (graphOf (m .pattern .n) (graphPointers (mirroredColumns m) (m .pattern .n)) (graphRows (mirroredColumns m) (m .pattern .n))
+      (graphCosts (mirroredColumns m) logs (m .pattern .n)))
   graph-matched doubles =
-      let r = ready n m logs s fine in
-      match-accepts n m (r .0) (omega (arith, r .1 .0 .0)) logs (λ k h e. (doubles k (omega (arith, r .1 .0 .1)), kept-in-range k h e))
+      let r = ready m logs s fine in
+      match-accepts m (r .0) logs (λ k h e. (doubles k (omega (arith, r .1 .0 .1)), kept-in-range k h e))
 
 -- ---- refusals
-pub input-listed : (n : ℕ) (m : Matrix) (logs : List Float) (lengths : Bool) → Listed symmetricGraphNumbers (inputFault n m logs lengths)
+pub input-listed : (m : Matrix) (logs : List Float) (lengths : Bool) → Listed symmetricGraphNumbers (inputFault m logs lengths)
 unfolding listed within inputFault valuesFault
-input-listed n m logs lengths =
-    or-listed (part sizeNumbers (sizes-listed n maxSymmetric (length (m .rows)) lengths) refl)
-    (or-listed (part symmetricNumbers (symmetric-listed n (m .colPtr) (m .rows) (m .values)) refl) (first-listed (length (m .values)) 0 refl place))
+input-listed m logs lengths =
+    or-listed (part sizeNumbers (sizes-listed (m .pattern .n) maxSymmetric (length (m .pattern .rowIdx)) lengths) refl)
+    (or-listed (part symmetricNumbers (symmetric-listed m) refl) (first-listed (length (m .values)) 0 refl place))
   where
-    place : (k : ℕ) → Listed symmetricGraphNumbers (placeFault n (m .values) logs k)
+    place : (k : ℕ) → Listed symmetricGraphNumbers (placeFault (m .pattern .n) (m .values) logs k)
     place k =
         or-listed (test (finite (getD (m .values) k nan)) valueNotFinite refl refl)
-        (test (eq (getD (m .values) k nan) Constants.zero || inLogRange n (getD logs k nan)) costRange refl refl)
+        (test (eq (getD (m .values) k nan) Constants.zero || inLogRange (m .pattern .n) (getD logs k nan)) costRange refl refl)
 
-pub fault-listed : (n : ℕ) (m : Matrix) (logs : List Float) (s : Slices) → Listed symmetricGraphNumbers (costGraphFault n m logs s)
-fault-listed n m logs s = input-listed n m logs (lengthsFit n m logs s)
+pub fault-listed : (m : Matrix) (logs : List Float) (s : Slices) → Listed symmetricGraphNumbers (costGraphFault m logs s)
+fault-listed m logs s = input-listed m logs (lengthsFit m logs s)
 
 -- all that the call promises, of an outcome by its fault
-pub promised : (n : ℕ) (m : Matrix) (logs : List Float) (s : Slices) {r : Built} {after : Slices}
-    → (outcomeIs r after ≡ outcome (costGraphFault n m logs s) n (mirroredColumns m) logs s)
-    × AnswersBy (costGraphFault n m logs s) (keptBefore (mirroredColumns m) n) r
-    → Promises n m logs s r after
+pub promised : (m : Matrix) (logs : List Float) (s : Slices) {r : Built} {after : Slices}
+    → (outcomeIs r after ≡ outcome (costGraphFault m logs s) (m .pattern .n) (mirroredColumns m) logs s)
+    × AnswersBy (costGraphFault m logs s) (keptBefore (mirroredColumns m) (m .pattern .n)) r
+    → Promises m logs s r after
 unfolding costGraph
-promised n m logs s p = record { outcome = p .0; answered = p .1; number = in-list (fault-listed n m logs s) (p .1) }
+promised m logs s p = record { outcome = p .0; answered = p .1; number = in-list (fault-listed m logs s) (p .1) }
 
-pub graph-listed : (n : ℕ) (m : Matrix) (logs : List Float) (s : Slices) → Listed symmetricGraphNumbers (numberOf (costGraph n m logs s .answer))
+pub graph-listed : (m : Matrix) (logs : List Float) (s : Slices) → Listed symmetricGraphNumbers (numberOf (costGraph m logs s .answer))
 unfolding costGraph
-graph-listed n m logs s = outcome-listed n (mirroredColumns m) logs s (costGraphFault n m logs s) (fault-listed n m logs s)
+graph-listed m logs s = outcome-listed (m .pattern .n) (mirroredColumns m) logs s (costGraphFault m logs s) (fault-listed m logs s)
 
 -- ---- logs of zeros
 fits-alike : (n : ℕ) (b : Bool) (x y : Float) → (not b ≡ true → x ≡ y) → (b || inLogRange n x) ≡ (b || inLogRange n y)
 fits-alike n true x y h = refl
 fits-alike n false x y h = ap (inLogRange n) (h refl)
 
-module _ (n : ℕ) (m : Matrix) (logs other : List Float) (s : Slices) (agree : Agree (kept m) logs other) where
-  fault-alike : valuesFault n (m .values) logs ≡ valuesFault n (m .values) other
+module _ (m : Matrix) (logs other : List Float) (s : Slices) (agree : Agree (kept m) logs other) where
+  fault-alike : valuesFault (m .pattern .n) (m .values) logs ≡ valuesFault (m .pattern .n) (m .values) other
   unfolding valuesFault
   fault-alike =
       ap (λ (fault : ℕ → ℕ). firstOf (length (m .values)) fault 0)
       (fun-ext
       (λ k.
       ap (λ (fine : Bool). orElse (valueFault (m .values) k) (unless fine costRange))
-      (fits-alike n (eq (getD (m .values) k nan) Constants.zero) (getD logs k nan) (getD other k nan) (agree-at (kept m) logs other agree k))))
+      (fits-alike (m .pattern .n) (eq (getD (m .values) k nan) Constants.zero) (getD logs k nan) (getD other k nan) (agree-at (kept m) logs other agree k))))
 
   places-alike : (c k : ℕ) → logsAt logs (placesTo m c k) ≡ logsAt other (placesTo m c k)
   unfolding placesTo
@@ -274,13 +279,14 @@ module _ (n : ℕ) (m : Matrix) (logs other : List Float) (s : Slices) (agree : 
       keep-alike (placesTo m c k) k (λ i. getD logs i nan) (λ i. getD other i nan) (touches m c k) (places-alike c k)
       (λ e. agree-at (kept m) logs other agree k (both (kept m k) _ e .0))
 
-  number-alike : inputFault n m logs (lengthsFit n m logs s) ≡ inputFault n m other (lengthsFit n m other s)
+  number-alike : inputFault m logs (lengthsFit m logs s) ≡ inputFault m other (lengthsFit m other s)
   unfolding inputFault slicesFit
   number-alike = rw (fault-alike, agree .same)
 
   -- what the call answers and leaves is the same for logs that agree where the value is not zero
-  pub dropped-logs : costGraph n m logs s ≡ costGraph n m other s
+  pub dropped-logs : costGraph m logs s ≡ costGraph m other s
   unfolding costGraph
   dropped-logs =
-      ap (λ (fault : ℕ). outcome fault n (mirroredColumns m) logs s) number-alike
-      ∙ outcome-alike n (mirroredColumns m) logs s other (λ c. places-alike c (length (m .rows))) (inputFault n m other (lengthsFit n m other s))
+      ap (λ (fault : ℕ). outcome fault (m .pattern .n) (mirroredColumns m) logs s) number-alike
+      ∙ outcome-alike (m .pattern .n) (mirroredColumns m) logs s other (λ c. places-alike c (length (m .pattern .rowIdx)))
+      (inputFault m other (lengthsFit m other s))

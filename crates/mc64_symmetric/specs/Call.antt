@@ -23,8 +23,8 @@ use Rattle.mc64_symmetric.specs.Graph.{mirroredColumns}
 
 -- ---- refusals
 -- 3: whether every slice has its length for n columns: an entry may be mirrored
-abbrev pub lengthsFit : ℕ → Matrix → List Float → Slices → Bool
-lengthsFit n m logs s = slicesFit n (2 * length (m .rows)) m logs s
+abbrev pub lengthsFit : Matrix → List Float → Slices → Bool
+lengthsFit m logs s = slicesFit (2 * length (m .pattern .rowIdx)) m logs s
 
 -- 9 and 8 of place k; a zero's log is not looked at
 abbrev pub valueFault : List Float → ℕ → ℕ
@@ -41,25 +41,25 @@ unfoldable pub valuesFault : ℕ → List Float → List Float → ℕ
 valuesFault n values logs = firstOf (length values) (placeFault n values logs) 0
 
 -- the first thing wrong, or 0; `lengths` says whether every slice has its length
-unfoldable pub inputFault : ℕ → Matrix → List Float → Bool → ℕ
-inputFault n m logs lengths =
-    orElse (sizeFault n maxSymmetric (length (m .rows)) lengths)
-    (orElse (symmetricFault n (m .colPtr) (m .rows) (m .values)) (valuesFault n (m .values) logs))
+unfoldable pub inputFault : Matrix → List Float → Bool → ℕ
+inputFault m logs lengths =
+    orElse (sizeFault (m .pattern .n) maxSymmetric (length (m .pattern .rowIdx)) lengths)
+    (orElse (symmetricFault m) (valuesFault (m .pattern .n) (m .values) logs))
 
 -- the same of what is lent
-abbrev pub costGraphFault : ℕ → Matrix → List Float → Slices → ℕ
-costGraphFault n m logs s = inputFault n m logs (lengthsFit n m logs s)
+abbrev pub costGraphFault : Matrix → List Float → Slices → ℕ
+costGraphFault m logs s = inputFault m logs (lengthsFit m logs s)
 
 -- what `build_cost_graph` does
-unfoldable pub costGraph : ℕ → Matrix → List Float → Slices → Outcome Built Slices
-costGraph n m logs s = outcome (costGraphFault n m logs s) n (mirroredColumns m) logs s
+unfoldable pub costGraph : Matrix → List Float → Slices → Outcome Built Slices
+costGraph m logs s = outcome (costGraphFault m logs s) (m .pattern .n) (mirroredColumns m) logs s
 
 -- ---- all that `build_cost_graph` promises, of the matrix, its logs, what was lent, its answer r and what is left
-pub record Promises (n : ℕ) (m : Matrix) (logs : List Float) (before : Slices) (r : Built) (after : Slices)
+pub record Promises (m : Matrix) (logs : List Float) (before : Slices) (r : Built) (after : Slices)
     : Type 0 where
   -- the answer and every slice left are the definition's
-  pub outcome : outcomeIs r after ≡ costGraph n m logs before
+  pub outcome : outcomeIs r after ≡ costGraph m logs before
   -- the number is the first fault's, and an accepted call tells how many entries the graph has
-  pub answered : AnswersBy (costGraphFault n m logs before) (keptBefore (mirroredColumns m) n) r
+  pub answered : AnswersBy (costGraphFault m logs before) (keptBefore (mirroredColumns m) (m .pattern .n)) r
   -- the number is one of the call's list
   pub number : OneOf symmetricGraphNumbers (numberOf r)

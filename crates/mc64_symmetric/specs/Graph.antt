@@ -19,10 +19,10 @@ atMost (p ∷ l) k = cond (leb p k) 1 0 + atMost l k
 
 -- the row of a place, and its column: as many columns end at or before it
 abbrev pub placeRow : Matrix → ℕ → ℕ
-placeRow m k = getD (m .rows) k 0
+placeRow m k = getD (m .pattern .rowIdx) k 0
 
 abbrev pub placeColumn : Matrix → ℕ → ℕ
-placeColumn m k = atMost (drop 1 (m .colPtr)) k
+placeColumn m k = atMost (drop 1 (m .pattern .colPtr)) k
 
 -- ---- one column of the graph
 -- a place whose value is not zero is kept
@@ -40,7 +40,7 @@ placesTo m c (suc k) = placesTo m c k ++ keep (touches m c k) k
 
 -- all of them
 abbrev pub placesOf : Matrix → ℕ → List ℕ
-placesOf m c = placesTo m c (length (m .rows))
+placesOf m c = placesTo m c (length (m .pattern .rowIdx))
 
 -- a place of row c is mirrored: there its column is the row
 abbrev pub otherEnd : Matrix → ℕ → ℕ → ℕ

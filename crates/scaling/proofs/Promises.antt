@@ -32,45 +32,46 @@ scaled-applied scaled.Applied e = refl
 scaled-applied (scaled.PartialSingular unmatched) e = let z : _≡_ {A = ℕ} 0 1 = cc in absurd (omega arith)
 scaled-applied (scaled.Refused number) e = let z : _≡_ {A = ℕ} 0 1 = cc in absurd (omega arith)
 
-module _ (n : ℕ) (m : Matrix) (external logs : List Float) (s : Slices) (doubles : (k : ℕ) → k < length logs → T (fits binary64 (getD logs k nan))) where
-  pub balances : (strategy : ScalingStrategy) {r : Scaling} {after : Slices} → outcomeIs r after ≡ computeScaling strategy n m external logs s
-      → Balances strategy n m logs r after
+module _ (m : Matrix) (external logs : List Float) (s : Slices) (doubles : (k : ℕ) → k < length logs → T (fits binary64 (getD logs k nan))) where
+  pub balances : (strategy : ScalingStrategy) {r : Scaling} {after : Slices} → outcomeIs r after ≡ computeScaling strategy m external logs s
+      → Balances strategy m logs r after
   balances strategy {r} {after} e q applied whole =
       let l = mc64Slices s in
-      let o = Mc64.symmetricScaling n m logs l in
-      let e' : outcomeIs r after ≡ by-mc64 n m external logs s o =
-      subst (λ (x : ScalingStrategy). outcomeIs r after ≡ computeScaling x n m external logs s) q e ∙ sym (mc64-is n m external logs s) in
+      let o = Mc64.symmetricScaling m logs l in
+      let e' : outcomeIs r after ≡ by-mc64 m external logs s o =
+      subst (λ (x : ScalingStrategy). outcomeIs r after ≡ computeScaling x m external logs s) q e ∙ sym (mc64-is m external logs s) in
       let left : after ≡ slices (o .after .scaled .factors) (s .maxima) (o .after .graph) (o .after .pairs) (o .after .scaled .work) =
       ap (λ (x : Outcome Scaling Slices). x .after) e' in
       let full : o .answer ≡ scaled.Applied = scaled-applied (o .answer) (sym (ap (λ (x : Outcome Scaling Slices). x .answer) e') ∙ applied) in
-      subst (λ (x : Slices). NoneHeld n (cacheOf x) (x .factors) → Balanced n m logs (x .pairs .perm) (x .factors)) (sym left)
-      (Calling.promised n m logs l doubles refl .balanced full whole)
+      subst (λ (x : Slices). NoneHeld (m .pattern .n) (cacheOf x) (x .factors) → Balanced m logs (x .pairs .perm) (x .factors)) (sym left)
+      (Calling.promised m logs l doubles refl .balanced full whole)
 
   -- where 0 is answered and the info begins with 0, every column is matched
-  pub mc64-applied : (old : List ℕ) → let a = computeScaling Mc64Symmetric n m external logs s .answer in
+  pub mc64-applied : (old : List ℕ) → let a = computeScaling Mc64Symmetric m external logs s .answer in
       numberOf a ≡ 0 → getD (infoOf a old) 0 0 ≡ 0 → a ≡ Applied
   unfolding computeScaling choiceFault chosen Mc64.scaled
-  mc64-applied old = by-fault (Mc64.scalingFault n m logs (mc64Slices s))
+  mc64-applied old = by-fault (Mc64.scalingFault m logs (mc64Slices s))
     where
       full : (b : Bool) (unmatched : ℕ) → getD (infoOf (ofScaled (cond b scaled.Applied (scaled.PartialSingular unmatched))) old) 0 0 ≡ 0
           → ofScaled (cond b scaled.Applied (scaled.PartialSingular unmatched)) ≡ Applied
       full true unmatched i = refl
       full false unmatched i = absurd (omega (arith, i))
 
-      by-fault : (fault : ℕ) → let a = refusing Refused fault (chosen Mc64Symmetric n m logs s) s .answer in
+      by-fault : (fault : ℕ) → let a = refusing Refused fault (chosen Mc64Symmetric m logs s) s .answer in
           numberOf a ≡ 0 → getD (infoOf a old) 0 0 ≡ 0 → a ≡ Applied
-      by-fault zero e i = full (eqb (hungarianMatch (Mc64.symmetricGraph n m logs) .matched) n) (n - hungarianMatch (Mc64.symmetricGraph n m logs) .matched) i
+      by-fault zero e i = full (eqb (hungarianMatch (Mc64.symmetricGraph m logs) .matched) (m .pattern .n))
+          (m .pattern .n - hungarianMatch (Mc64.symmetricGraph m logs) .matched) i
       by-fault (suc fault) e i = absurd (omega (arith, e))
 
   -- the fault, the number and the factors' bound
-  pub promised : (strategy : ScalingStrategy) {r : Scaling} {after : Slices} → outcomeIs r after ≡ computeScaling strategy n m external logs s
-      → Promises strategy n m external logs s r after
+  pub promised : (strategy : ScalingStrategy) {r : Scaling} {after : Slices} → outcomeIs r after ≡ computeScaling strategy m external logs s
+      → Promises strategy m external logs s r after
   promised strategy {r} {after} e =
-      let number : numberOf r ≡ numberOf (computeScaling strategy n m external logs s .answer) =
+      let number : numberOf r ≡ numberOf (computeScaling strategy m external logs s .answer) =
       ap (λ (o : Outcome Scaling Slices). numberOf (o .answer)) e in
       record {
         outcome = e;
-        answered = number ∙ choice-number n m external logs s strategy;
-        number = subst (OneOf chooserNumbers) (sym number) (scaling-listed n m external logs s strategy .is);
+        answered = number ∙ choice-number m external logs s strategy;
+        number = subst (OneOf chooserNumbers) (sym number) (scaling-listed m external logs s strategy .is);
         balanced = balances strategy e;
       }

@@ -43,31 +43,31 @@ external-listed n count = go (leb n maxColumns) (leb count maxSymmetric)
     go true false = record { is = refl }
     go false fits = record { is = refl }
 
-module _ (n : ℕ) (m : Matrix) (external logs : List Float) (s : Slices) where
-  fault-listed : (strategy : ScalingStrategy) → Listed (choiceNumbers strategy) (choiceFault strategy n m external logs s)
+module _ (m : Matrix) (external logs : List Float) (s : Slices) where
+  fault-listed : (strategy : ScalingStrategy) → Listed (choiceNumbers strategy) (choiceFault strategy m external logs s)
   unfolding choiceFault
-  fault-listed InfNorm = input-listed n m (lengthsFit n m (s .factors) && eqb (length (s .maxima)) n)
-  fault-listed OnePassInfNorm = input-listed n m (lengthsFit n m (s .factors))
+  fault-listed InfNorm = input-listed m (lengthsFit m (s .factors) && eqb (length (s .maxima)) (m .pattern .n))
+  fault-listed OnePassInfNorm = input-listed m (lengthsFit m (s .factors))
   fault-listed Mc64Symmetric =
       let l = scalingSlices (s .graph) (s .pairs) (Factors.slices (s .factors) (s .factorWork)) in
-      Numbers.input-listed n m logs (Building.lengthsFit n m logs (s .graph) && restFits n l)
-  fault-listed Identity = input-listed n m (lengthsFit n m (s .factors))
-  fault-listed External = external-listed n (length (m .rows))
+      Numbers.input-listed m logs (Building.lengthsFit m logs (s .graph) && restFits (m .pattern .n) l)
+  fault-listed Identity = input-listed m (lengthsFit m (s .factors))
+  fault-listed External = external-listed (m .pattern .n) (length (m .pattern .rowIdx))
 
-  pub choice-listed : (strategy : ScalingStrategy) → Listed (choiceNumbers strategy) (numberOf (computeScaling strategy n m external logs s .answer))
-  choice-listed strategy = subst (Listed (choiceNumbers strategy)) (sym (choice-number n m external logs s strategy)) (fault-listed strategy)
+  pub choice-listed : (strategy : ScalingStrategy) → Listed (choiceNumbers strategy) (numberOf (computeScaling strategy m external logs s .answer))
+  choice-listed strategy = subst (Listed (choiceNumbers strategy)) (sym (choice-number m external logs s strategy)) (fault-listed strategy)
 
 -- whatever the choice
-pub scaling-listed : (n : ℕ) (m : Matrix) (external logs : List Float) (s : Slices) (strategy : ScalingStrategy)
-    → Listed chooserNumbers (numberOf (computeScaling strategy n m external logs s .answer))
+pub scaling-listed : (m : Matrix) (external logs : List Float) (s : Slices) (strategy : ScalingStrategy)
+    → Listed chooserNumbers (numberOf (computeScaling strategy m external logs s .answer))
 unfolding listed within
-scaling-listed n m external logs s InfNorm = part symmetricNumbers (choice-listed n m external logs s InfNorm) refl
-scaling-listed n m external logs s OnePassInfNorm = part symmetricNumbers (choice-listed n m external logs s OnePassInfNorm) refl
-scaling-listed n m external logs s Mc64Symmetric = part symmetricGraphNumbers (choice-listed n m external logs s Mc64Symmetric) refl
-scaling-listed n m external logs s Identity = part symmetricNumbers (choice-listed n m external logs s Identity) refl
-scaling-listed n m external logs s External = part externalNumbers (choice-listed n m external logs s External) refl
+scaling-listed m external logs s InfNorm = part symmetricNumbers (choice-listed m external logs s InfNorm) refl
+scaling-listed m external logs s OnePassInfNorm = part symmetricNumbers (choice-listed m external logs s OnePassInfNorm) refl
+scaling-listed m external logs s Mc64Symmetric = part symmetricGraphNumbers (choice-listed m external logs s Mc64Symmetric) refl
+scaling-listed m external logs s Identity = part symmetricNumbers (choice-listed m external logs s Identity) refl
+scaling-listed m external logs s External = part externalNumbers (choice-listed m external logs s External) refl
 
 -- a number that is no choice: 5, or what is wrong before
-pub no-choice-listed : (n : ℕ) (m : Matrix) (factors : List Float) → Listed symmetricNumbers (noChoice n m factors)
+pub no-choice-listed : (m : Matrix) (factors : List Float) → Listed symmetricNumbers (noChoice m factors)
 unfolding listed noChoice
-no-choice-listed n m factors = or-listed (input-listed n m (lengthsFit n m factors)) (record { is = refl })
+no-choice-listed m factors = or-listed (input-listed m (lengthsFit m factors)) (record { is = refl })

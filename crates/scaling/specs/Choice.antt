@@ -64,43 +64,45 @@ unfoldable pub externalFault : ℕ → ℕ → ℕ
 externalFault n count = orElse (sizeFault n maxSymmetric count true) externalChoice
 
 -- the first thing wrong for a choice, or 0
-unfoldable pub choiceFault : ScalingStrategy → ℕ → Matrix → List Float → List Float → Slices → ℕ
-choiceFault InfNorm n m external logs s = inputFault n m (lengthsFit n m (s .factors) && eqb (length (s .maxima)) n)
-choiceFault OnePassInfNorm n m external logs s = inputFault n m (lengthsFit n m (s .factors))
-choiceFault Mc64Symmetric n m external logs s = Mc64.scalingFault n m logs (mc64Slices s)
-choiceFault Identity n m external logs s = inputFault n m (lengthsFit n m (s .factors))
-choiceFault External n m external logs s = externalFault n (length (m .rows))
+unfoldable pub choiceFault : ScalingStrategy → Matrix → List Float → List Float → Slices → ℕ
+choiceFault InfNorm m external logs s =
+    inputFault m (lengthsFit m (s .factors) && eqb (length (s .maxima)) (m .pattern .n))
+choiceFault OnePassInfNorm m external logs s = inputFault m (lengthsFit m (s .factors))
+choiceFault Mc64Symmetric m external logs s = Mc64.scalingFault m logs (mc64Slices s)
+choiceFault Identity m external logs s = inputFault m (lengthsFit m (s .factors))
+choiceFault External m external logs s = externalFault (m .pattern .n) (length (m .pattern .rowIdx))
 
 -- an accepted choice: what its own call leaves, and every other slice as it was. The external choice is never accepted
-unfoldable pub chosen : ScalingStrategy → ℕ → Matrix → List Float → Slices → Outcome Scaling Slices
-chosen InfNorm n m logs s =
-    let done = iterated n m .after in
+unfoldable pub chosen : ScalingStrategy → Matrix → List Float → Slices → Outcome Scaling Slices
+chosen InfNorm m logs s =
+    let done = iterated m .after in
     outcomeIs Applied (slices (done .factors) (done .work) (s .graph) (s .pairs) (s .factorWork))
-chosen OnePassInfNorm n m logs s = outcomeIs Applied (withFactors (onepassFactors n m) s)
-chosen Mc64Symmetric n m logs s =
-    let done = Mc64.scaled n m logs (mc64Slices s) in
+chosen OnePassInfNorm m logs s = outcomeIs Applied (withFactors (onepassFactors m) s)
+chosen Mc64Symmetric m logs s =
+    let done = Mc64.scaled m logs (mc64Slices s) in
     let left = done .after in
     outcomeIs (ofScaled (done .answer))
     (slices (left .scaled .factors) (s .maxima) (left .graph) (left .pairs) (left .scaled .work))
-chosen Identity n m logs s = outcomeIs NotApplied (withFactors (replicate n Constants.one) s)
-chosen External n m logs s = outcomeIs NotApplied s
+chosen Identity m logs s = outcomeIs NotApplied (withFactors (replicate (m .pattern .n) Constants.one) s)
+chosen External m logs s = outcomeIs NotApplied s
 
 -- what `compute_scaling` does
-unfoldable pub computeScaling : ScalingStrategy → ℕ → Matrix → List Float → List Float → Slices
+unfoldable pub computeScaling : ScalingStrategy → Matrix → List Float → List Float → Slices
     → Outcome Scaling Slices
 unfolding choiceFault chosen
-computeScaling strategy n m external logs s =
-    refusing Refused (choiceFault strategy n m external logs s) (chosen strategy n m logs s) s
+computeScaling strategy m external logs s =
+    refusing Refused (choiceFault strategy m external logs s) (chosen strategy m logs s) s
 
 -- what the factors of the MC64 choice are good for, as `compute_symmetric` says it: every column is matched, the logs
 -- that are read are whole and no factor is held
 abbrev pub cacheOf : Slices → Match Float
 cacheOf s = matchOf (s .pairs .perm) (s .pairs .u) (s .pairs .v) (s .graph .cmax)
 
-abbrev pub Balances : ScalingStrategy → ℕ → Matrix → List Float → Scaling → Slices → Type 0
-Balances strategy n m logs answer after =
-    strategy ≡ Mc64Symmetric → answer ≡ Applied → WholeLogs m logs → NoneHeld n (cacheOf after) (after .factors)
-    → Balanced n m logs (after .pairs .perm) (after .factors)
+abbrev pub Balances : ScalingStrategy → Matrix → List Float → Scaling → Slices → Type 0
+Balances strategy m logs answer after =
+    strategy ≡ Mc64Symmetric → answer ≡ Applied → WholeLogs m logs
+    → NoneHeld (m .pattern .n) (cacheOf after) (after .factors)
+    → Balanced m logs (after .pairs .perm) (after .factors)
 
 -- ---- as numbers
 -- the strategy of a number, in the Rust's order; above 4 there is none
@@ -115,8 +117,8 @@ strategyFor (suc (suc (suc zero))) = Identity
 strategyFor (suc (suc (suc (suc more)))) = External
 
 -- what a number that is no choice answers: the matrix is tested as for every choice, then the number
-unfoldable pub noChoice : ℕ → Matrix → List Float → ℕ
-noChoice n m factors = orElse (inputFault n m (lengthsFit n m factors)) indexRange
+unfoldable pub noChoice : Matrix → List Float → ℕ
+noChoice m factors = orElse (inputFault m (lengthsFit m factors)) indexRange
 
 -- the number answered, 0 for factors
 abbrev pub numberOf : Scaling → ℕ
@@ -133,13 +135,13 @@ infoOf NotApplied old = 2 ∷ 0 ∷ []
 infoOf (Refused number) old = old
 
 -- ---- all that `compute_scaling` promises, of the strategy, the matrix, what was lent, its answer r and what is left
-pub record Promises (strategy : ScalingStrategy) (n : ℕ) (m : Matrix) (external logs : List Float) (before : Slices)
+pub record Promises (strategy : ScalingStrategy) (m : Matrix) (external logs : List Float) (before : Slices)
     (r : Scaling) (after : Slices) : Type 0 where
   -- the answer and every slice left are the definition's
-  pub outcome : outcomeIs r after ≡ computeScaling strategy n m external logs before
+  pub outcome : outcomeIs r after ≡ computeScaling strategy m external logs before
   -- the number is that of the choice's first fault
-  pub answered : numberOf r ≡ choiceFault strategy n m external logs before
+  pub answered : numberOf r ≡ choiceFault strategy m external logs before
   -- the number is one of the call's list
   pub number : OneOf chooserNumbers (numberOf r)
   -- the MC64 factors of whole logs balance the entries, where every column is matched
-  pub balanced : Balances strategy n m logs r after
+  pub balanced : Balances strategy m logs r after

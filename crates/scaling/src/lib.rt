@@ -98,7 +98,7 @@ pub fn compute_scaling(
     factor_work: &mut [u32],
 ) -> Scaling
     ensures { λ r.
-        let m = matrix (now («col_ptr» .entry)) (now («row_idx» .entry)) (now (values .entry)) in
+        let m = matrix n (now («col_ptr» .entry)) (now («row_idx» .entry)) (now (values .entry)) in
         let graph =
         Graphs.slices (now («graph_ptr» .entry)) (now («graph_rows» .entry)) (now (cost .entry)) (now (cmax .entry))
         (now («graph_work» .entry)) in
@@ -112,7 +112,7 @@ pub fn compute_scaling(
         (now (distances .exit)) in
         let after = slices (now (factors .exit)) (now (maxima .exit)) graphAfter pairsAfter
         (now («factor_work» .exit)) in
-        ⌜ Promises strategy n m (now (external .entry)) (now (logs .entry)) before r after ⌝ }
+        ⌜ Promises strategy m (now (external .entry)) (now (logs .entry)) before r after ⌝ }
 {
     match strategy {
         ScalingStrategy::InfNorm => {
@@ -170,8 +170,8 @@ pub fn strategy_for(choice: u32) -> ScalingStrategy
 // (SPECIFICATION 10.2).
 pub fn no_choice(n: u32, col_ptr: &[u32], row_idx: &[u32], values: &[f64], factors: &[f64]) -> u32
     ensures { λ r.
-        let m = matrix (now («col_ptr» .entry)) (now («row_idx» .entry)) (now (values .entry)) in
-        ⌜ r ≡ noChoice n m (now (factors .entry)) ⌝ }
+        let m = matrix n (now («col_ptr» .entry)) (now («row_idx» .entry)) (now (values .entry)) in
+        ⌜ r ≡ noChoice m (now (factors .entry)) ⌝ }
 {
     let lengths = infnorm::lengths_fit(n as usize, col_ptr, row_idx, values, factors);
     let fault = infnorm::input_fault(n, col_ptr, row_idx, values, lengths);

@@ -10,11 +10,11 @@ use native.Mathlib.Omega.{arith}
 use native.Mathlib.Decide.{decLt}
 use borrow.Author.Tests.{ltb-true, leb-true, eqb-true, lt-ltb, lt-leb, le-leb, eq-eqb}
 use lib.Dec.{leb, ltb, eqb}
-use lib.Ieee.{Float}
 use lib.ListN.{length, getD}
 use Rattle.limits.specs.Limits.{maxColumns, maxGeneral, maxSymmetric}
 use Rattle.slices.proofs.Bools.{both}
 use Rattle.sparse.specs.Fault.{unless}
+use Rattle.sparse.specs.Matrix.{Matrix}
 use Rattle.sparse.specs.Validate
 use Rattle.sparse.specs.Columns.{Pointers, Sizes, Columns, Lower}
 use Rattle.refusal.specs.Refusal.{tooManyColumns, tooManyEntries, sliceLength, columnPointers, indexRange, upperTriangle, rowsNotRising}
@@ -73,23 +73,26 @@ sizes-accepted n limit count lengths = (
   λ h. rw (le-leb n maxColumns (h .0), le-leb count limit (h .1), h .2),
 )
 
-pub frame-accepted : (limit n : ℕ) (colPtr rows : List ℕ) (values : List Float)
-    → (Validate.frameFault limit n colPtr rows values ≡ 0) ↔ (Sizes limit n colPtr rows values × Pointers n colPtr (length rows))
+pub frame-accepted : (limit : ℕ) (m : Matrix) → let p = m .pattern in
+    (Validate.frameFault limit m ≡ 0) ↔ (Sizes limit m × Pointers (p .n) (p .colPtr) (length (p .rowIdx)))
 unfolding Validate.frameFault
-frame-accepted limit n colPtr rows values = (
-  λ e.
-      let z = or-zero (Validate.sizeFault n limit (length rows) (Validate.matrixLengths n colPtr rows values)) _ e in
-      let s = sizes-accepted n limit (length rows) _ .0 (z .0) in
-      let l = both _ _ (s .2) in (
-        record { columns = s .0; entries = s .1; colptrs = eqb-true _ _ (l .0); stored = eqb-true _ _ (l .1) },
-        pointers-accepted n colPtr
-            (length rows) .0 (z .1),
-      ),
-  λ h.
-      let l : Validate.matrixLengths n colPtr rows values ≡ true =
-      rw (eq-eqb (length colPtr) (n + 1) (h .0 .colptrs), eq-eqb (length values) (length rows) (h .0 .stored)) in
-      or-none (sizes-accepted n limit (length rows) _ .1 (h .0 .columns, h .0 .entries, l)) ∙ pointers-accepted n colPtr (length rows) .1 (h .1),
-)
+frame-accepted limit m =
+    let n = m .pattern .n in
+    let colPtr = m .pattern .colPtr in
+    let rows = m .pattern .rowIdx in (
+      λ e.
+          let z = or-zero (Validate.sizeFault n limit (length rows) (Validate.matrixLengths n colPtr rows (m .values))) _ e in
+          let s = sizes-accepted n limit (length rows) _ .0 (z .0) in
+          let l = both _ _ (s .2) in (
+            record { columns = s .0; entries = s .1; colptrs = eqb-true _ _ (l .0); stored = eqb-true _ _ (l .1) },
+            pointers-accepted n colPtr
+                (length rows) .0 (z .1),
+          ),
+      λ h.
+          let l : Validate.matrixLengths n colPtr rows (m .values) ≡ true =
+          rw (eq-eqb (length colPtr) (n + 1) (h .0 .colptrs), eq-eqb (length (m .values)) (length rows) (h .0 .stored)) in
+          or-none (sizes-accepted n limit (length rows) _ .1 (h .0 .columns, h .0 .entries, l)) ∙ pointers-accepted n colPtr (length rows) .1 (h .1),
+    )
 
 -- ---- one entry
 either : (a b : Bool) → a ≡ false → (a || b) ≡ true → b ≡ true
@@ -171,24 +174,24 @@ module _ {n : ℕ} {colPtr rows : List ℕ} (p : Pointers n colPtr (length rows)
   )
 
 -- ---- `validate`
-pub general-accepted : (n : ℕ) (colPtr rows : List ℕ) (values : List Float)
-    → (Validate.generalFault n colPtr rows values ≡ 0) ↔ (Sizes maxGeneral n colPtr rows values × Columns n colPtr rows)
+pub general-accepted : (m : Matrix) → let p = m .pattern in
+    (Validate.generalFault m ≡ 0) ↔ (Sizes maxGeneral m × Columns (p .n) (p .colPtr) (p .rowIdx))
 unfolding Validate.generalFault
-general-accepted n colPtr rows values = (
+general-accepted m = (
   λ e.
       let z = or-zero _ _ e in
-      let f = frame-accepted maxGeneral n colPtr rows values .0 (z .0) in
+      let f = frame-accepted maxGeneral m .0 (z .0) in
       (f .0, general-columns (f .1) .0 (z .1)),
-  λ h. or-none (frame-accepted maxGeneral n colPtr rows values .1 (h .0, h .1 .pointers)) ∙ general-columns (h .1 .pointers) .1 (h .1),
+  λ h. or-none (frame-accepted maxGeneral m .1 (h .0, h .1 .pointers)) ∙ general-columns (h .1 .pointers) .1 (h .1),
 )
 
-pub symmetric-accepted : (n : ℕ) (colPtr rows : List ℕ) (values : List Float)
-    → (Validate.symmetricFault n colPtr rows values ≡ 0) ↔ (Sizes maxSymmetric n colPtr rows values × (Columns n colPtr rows × Lower n colPtr rows))
+pub symmetric-accepted : (m : Matrix) → let p = m .pattern in
+    (Validate.symmetricFault m ≡ 0) ↔ (Sizes maxSymmetric m × (Columns (p .n) (p .colPtr) (p .rowIdx) × Lower (p .n) (p .colPtr) (p .rowIdx)))
 unfolding Validate.symmetricFault
-symmetric-accepted n colPtr rows values = (
+symmetric-accepted m = (
   λ e.
       let z = or-zero _ _ e in
-      let f = frame-accepted maxSymmetric n colPtr rows values .0 (z .0) in
+      let f = frame-accepted maxSymmetric m .0 (z .0) in
       (f .0, symmetric-columns (f .1) .0 (z .1)),
-  λ h. or-none (frame-accepted maxSymmetric n colPtr rows values .1 (h .0, h .1 .0 .pointers)) ∙ symmetric-columns (h .1 .0 .pointers) .1 (h .1),
+  λ h. or-none (frame-accepted maxSymmetric m .1 (h .0, h .1 .0 .pointers)) ∙ symmetric-columns (h .1 .0 .pointers) .1 (h .1),
 )

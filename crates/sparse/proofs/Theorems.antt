@@ -4,12 +4,12 @@ use mathlib.Core.Bool.{Bool, true, _||_, _&&_}
 use mathlib.Core.List.{List, [], _∷_}
 use Prim.Native.Nat.{ℕ, zero, suc, pred, _-_}
 use lib.Dec.{leb, ltb, eqb}
-use lib.Ieee.{Float}
 use lib.ListN.{length, getD}
 use Rattle.limits.specs.Limits.{maxColumns, maxGeneral, maxSymmetric}
 use Rattle.refusal.specs.Refusal.{accepted, tooManyColumns, tooManyEntries, sliceLength, columnPointers, indexRange, upperTriangle, rowsNotRising}
 use Rattle.refusal.specs.Listed.{listed, generalNumbers, symmetricNumbers, generalTripletNumbers, symmetricTripletNumbers}
 use Rattle.triplets.specs.Built.{Triplets, Slices}
+use Rattle.sparse.specs.Matrix.{Matrix}
 use Rattle.sparse.specs.Validate
 use Rattle.sparse.specs.Assemble.{numberOf, outcome, generalTriplet, tripletFault, generalTripletFault, symmetricTripletFault, generalAssembly}
 use Rattle.sparse.specs.Assemble.{symmetricAssembly}
@@ -63,20 +63,29 @@ symmetric-columns-listed n colPtr rows = first-listed n 0 refl (λ j. column j (
         (first-listed (pred to - from) from refl (λ k. test (ltb (getD rows k 0) (getD rows (suc k) 0)) rowsNotRising refl refl))
 
 -- ---- `validate`
-module _ (n : ℕ) (colPtr rows : List ℕ) (values : List Float) where
-  pub general-listed : Listed generalNumbers (Validate.generalFault n colPtr rows values)
+module _ (m : Matrix) where
+  abbrev n : ℕ
+  n = m .pattern .n
+
+  abbrev colPtr : List ℕ
+  colPtr = m .pattern .colPtr
+
+  abbrev rows : List ℕ
+  rows = m .pattern .rowIdx
+
+  pub general-listed : Listed generalNumbers (Validate.generalFault m)
   unfolding listed within Validate.generalFault Validate.frameFault
   general-listed =
       or-listed
-      (or-listed (part sizeNumbers (sizes-listed n maxGeneral (length rows) (Validate.matrixLengths n colPtr rows values)) refl)
+      (or-listed (part sizeNumbers (sizes-listed n maxGeneral (length rows) (Validate.matrixLengths n colPtr rows (m .values))) refl)
       (part pointerNumbers (pointers-listed n colPtr (length rows)) refl))
       (part columnNumbers (general-columns-listed n colPtr rows) refl)
 
-  pub symmetric-listed : Listed symmetricNumbers (Validate.symmetricFault n colPtr rows values)
+  pub symmetric-listed : Listed symmetricNumbers (Validate.symmetricFault m)
   unfolding listed within Validate.symmetricFault Validate.frameFault
   symmetric-listed =
       or-listed
-      (or-listed (part sizeNumbers (sizes-listed n maxSymmetric (length rows) (Validate.matrixLengths n colPtr rows values)) refl)
+      (or-listed (part sizeNumbers (sizes-listed n maxSymmetric (length rows) (Validate.matrixLengths n colPtr rows (m .values))) refl)
       (part pointerNumbers (pointers-listed n colPtr (length rows)) refl))
       (part lowerNumbers (symmetric-columns-listed n colPtr rows) refl)
 

@@ -3,16 +3,16 @@
 use mathlib.Core.Path.{_≡_}
 use mathlib.Core.List.{List}
 use Prim.Native.Nat.{ℕ, suc, _+_, _≤_, _<_}
-use lib.Ieee.{Float}
 use lib.ListN.{length, getD}
 use Rattle.limits.specs.Limits.{maxColumns}
+use Rattle.sparse.specs.Matrix.{Matrix}
 
 -- within the limits, and every slice as long as it should be
-pub record Sizes (limit n : ℕ) (colPtr rows : List ℕ) (values : List Float) : Type 0 where
-  pub columns : n ≤ maxColumns
-  pub entries : length rows ≤ limit
-  pub colptrs : length colPtr ≡ n + 1
-  pub stored : length values ≡ length rows
+pub record Sizes (limit : ℕ) (m : Matrix) : Type 0 where
+  pub columns : m .pattern .n ≤ maxColumns
+  pub entries : length (m .pattern .rowIdx) ≤ limit
+  pub colptrs : length (m .pattern .colPtr) ≡ m .pattern .n + 1
+  pub stored : length (m .values) ≡ length (m .pattern .rowIdx)
 
 -- the pointers of n columns over `count` entries
 pub record Pointers (n : ℕ) (colPtr : List ℕ) (count : ℕ) : Type 0 where

@@ -11,6 +11,8 @@ use Rattle.limits.specs.Limits.{maxColumns, maxGeneral, maxSymmetric}
 use Rattle.refusal.specs.Refusal.{accepted, tooManyColumns, tooManyEntries, sliceLength, columnPointers, indexRange}
 use Rattle.refusal.specs.Refusal.{upperTriangle, rowsNotRising}
 use Rattle.sparse.specs.Fault.{unless, orElse, firstOf}
+use Rattle.sparse.specs.Pattern.{entries}
+use Rattle.sparse.specs.Matrix.{Matrix}
 use Rattle.sparse.specs.declared.layout.Validity.{Validity}
 use Rattle.sparse.specs.declared.layout.Validity.the-variants.{Accepted, Refused}
 
@@ -79,15 +81,20 @@ abbrev pub matrixLengths : ℕ → List ℕ → List ℕ → List Float → Bool
 matrixLengths n colPtr rows values = eqb (length colPtr) (n + 1) && eqb (length values) (length rows)
 
 -- sizes and pointers, before the columns
-unfoldable pub frameFault : ℕ → ℕ → List ℕ → List ℕ → List Float → ℕ
-frameFault limit n colPtr rows values =
-    orElse (sizeFault n limit (length rows) (matrixLengths n colPtr rows values)) (pointerFault n colPtr (length rows))
+unfoldable pub frameFault : ℕ → Matrix → ℕ
+frameFault limit m =
+    let p = m .pattern in
+    orElse (sizeFault (p .n) limit (entries p) (matrixLengths (p .n) (p .colPtr) (p .rowIdx) (m .values)))
+    (pointerFault (p .n) (p .colPtr) (entries p))
 
 -- the first thing wrong with a general matrix, or 0: `general::validate` answers its `validityOf`
-unfoldable pub generalFault : ℕ → List ℕ → List ℕ → List Float → ℕ
-generalFault n colPtr rows values = orElse (frameFault maxGeneral n colPtr rows values) (generalColumns n colPtr rows)
+unfoldable pub generalFault : Matrix → ℕ
+generalFault m =
+    let p = m .pattern in
+    orElse (frameFault maxGeneral m) (generalColumns (p .n) (p .colPtr) (p .rowIdx))
 
 -- the first thing wrong with a symmetric matrix, or 0: `csc::validate` answers its `validityOf`
-unfoldable pub symmetricFault : ℕ → List ℕ → List ℕ → List Float → ℕ
-symmetricFault n colPtr rows values =
-    orElse (frameFault maxSymmetric n colPtr rows values) (symmetricColumns n colPtr rows)
+unfoldable pub symmetricFault : Matrix → ℕ
+symmetricFault m =
+    let p = m .pattern in
+    orElse (frameFault maxSymmetric m) (symmetricColumns (p .n) (p .colPtr) (p .rowIdx))

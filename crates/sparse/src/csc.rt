@@ -9,6 +9,7 @@ ghost use Prim.Native.Nat.{_+_, _≤_};
 ghost use lib.ListN.{length};
 ghost use Rattle.refusal.specs.Listed.{OneOf, symmetricNumbers, symmetricTripletNumbers};
 ghost use Rattle.slices.specs.Outcome.{outcomeIs};
+ghost use Rattle.sparse.specs.Matrix.{matrix};
 ghost use Rattle.sparse.specs.Validate.{lowerColumn, risingColumn, symmetricColumn, symmetricColumns};
 ghost use Rattle.sparse.specs.Validate.{symmetricFault, numberOf, validityOf};
 ghost use Rattle.sparse.specs.Columns.{Pointers};
@@ -101,7 +102,7 @@ pub fn columns_fault(n: usize, col_ptr: &[u32], row_idx: &[u32]) -> u32
 // Whether it is a matrix within the limits: the first thing that is wrong refuses it.
 pub fn validate(n: u32, col_ptr: &[u32], row_idx: &[u32], values: &[f64]) -> Validity
     ensures answer { λ r.
-        let fault = symmetricFault n (now («col_ptr» .entry)) (now («row_idx» .entry)) (now (values .entry)) in
+        let fault = symmetricFault (matrix n (now («col_ptr» .entry)) (now («row_idx» .entry)) (now (values .entry))) in
         ⌜ r ≡ validityOf fault ⌝ }
     ensures number { λ r. ⌜ OneOf symmetricNumbers (numberOf r) ⌝ }
 {

@@ -8,6 +8,7 @@ ghost use lib.Dec.{eqb};
 ghost use lib.ListN.{length};
 ghost use Rattle.refusal.specs.Listed.{OneOf, generalNumbers, generalTripletNumbers};
 ghost use Rattle.slices.specs.Outcome.{outcomeIs};
+ghost use Rattle.sparse.specs.Matrix.{matrix};
 ghost use Rattle.sparse.specs.Validate.{generalColumn, generalColumns, generalFault, numberOf, validityOf};
 ghost use Rattle.sparse.specs.Columns.{Pointers};
 ghost use Rattle.sparse.specs.Fault.{firstOf};
@@ -85,7 +86,7 @@ pub fn columns_fault(n: usize, col_ptr: &[u32], row_idx: &[u32]) -> u32
 // Whether it is a matrix within the limits: the first thing that is wrong refuses it.
 pub fn validate(n: u32, col_ptr: &[u32], row_idx: &[u32], values: &[f64]) -> Validity
     ensures answer { λ r.
-        let fault = generalFault n (now («col_ptr» .entry)) (now («row_idx» .entry)) (now (values .entry)) in
+        let fault = generalFault (matrix n (now («col_ptr» .entry)) (now («row_idx» .entry)) (now (values .entry))) in
         ⌜ r ≡ validityOf fault ⌝ }
     ensures number { λ r. ⌜ OneOf generalNumbers (numberOf r) ⌝ }
 {

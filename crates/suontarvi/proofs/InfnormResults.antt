@@ -15,11 +15,11 @@ use Rattle.suontarvi.specs.Infnorm.{InfnormPromises, OnepassPromises}
 in-list : (r : Validity) {number : ℕ} → number ≡ numberOf r → OneOf symmetricNumbers (numberOf r) → OneOf symmetricNumbers number
 in-list r e l = subst (OneOf symmetricNumbers) (sym e) l
 
-module _ (n : ℕ) (m : Matrix) (r : Validity) {number : ℕ} (e : number ≡ numberOf r) where
-  pub iterated-number : {factors work left cleared : List Float} → native.InfnormPromises n m factors work r left cleared
-      → InfnormPromises n m factors work number left cleared
+module _ (m : Matrix) (r : Validity) {number : ℕ} (e : number ≡ numberOf r) where
+  pub iterated-number : {factors work left cleared : List Float} → native.InfnormPromises m factors work r left cleared
+      → InfnormPromises m factors work number left cleared
   iterated-number {left = left} {cleared = cleared} p =
       record { outcome = ap (λ (k : ℕ). outcomeIs k (slices left cleared)) e ∙ p .outcome; number = in-list r e (p .number) }
 
-  pub onepass-number : {factors left : List Float} → native.OnepassPromises n m factors r left → OnepassPromises n m factors number left
+  pub onepass-number : {factors left : List Float} → native.OnepassPromises m factors r left → OnepassPromises m factors number left
   onepass-number {left = left} p = record { outcome = ap (λ (k : ℕ). outcomeIs k left) e ∙ p .outcome; number = in-list r e (p .number) }

@@ -40,30 +40,30 @@ factors-listed n matched c s old = subst (Listed logFactorNumbers) (sym (number-
     fault false = part unsymmetricNumbers (sizes-listed n false) refl
 
 -- `suontarvi_scaling`
-pub scaling-listed : (choice n : ℕ) (m : Matrix) (external logs : List Float) (s : Choice.Slices) (old : List ℕ)
-    → Listed chooserNumbers (scalingByNumber choice n m external logs s old .answer)
+pub scaling-listed : (choice : ℕ) (m : Matrix) (external logs : List Float) (s : Choice.Slices) (old : List ℕ)
+    → Listed chooserNumbers (scalingByNumber choice m external logs s old .answer)
 unfolding listed within scalingByNumber numberFault
-scaling-listed choice n m external logs s old =
-    subst (Listed chooserNumbers) (sym (number-is (numberFault choice n m external logs s old)))
+scaling-listed choice m external logs s old =
+    subst (Listed chooserNumbers) (sym (number-is (numberFault choice m external logs s old)))
     (fault (eqb choice Choice.lastChoice || eqb (length old) 2) (leb choice Choice.lastChoice))
   where
-    number-is : (f : ℕ) → refusing asNumber f (scalingResultOf (Choice.chosen (Choice.strategyFor choice) n m logs s) old) (Scaling.lent s old) .answer ≡ f
-    number-is zero = chosen-number n m external logs s (Choice.strategyFor choice)
+    number-is : (f : ℕ) → refusing asNumber f (scalingResultOf (Choice.chosen (Choice.strategyFor choice) m logs s) old) (Scaling.lent s old) .answer ≡ f
+    number-is zero = chosen-number m external logs s (Choice.strategyFor choice)
     number-is (suc f) = refl
 
     fault : (t known : Bool)
         → Listed chooserNumbers
-        (cond t (cond known (Choice.choiceFault (Choice.strategyFor choice) n m external logs s) (Choice.noChoice n m (s .factors)))
-        (sizeFault n maxSymmetric (length (m .rows)) false))
-    fault true true = subst (Listed chooserNumbers) (choice-number n m external logs s (Choice.strategyFor choice))
-        (Choices.scaling-listed n m external logs s (Choice.strategyFor choice))
-    fault true false = part symmetricNumbers (Choices.no-choice-listed n m (s .factors)) refl
-    fault false known = part Sizes.sizeNumbers (Sizes.sizes-listed n maxSymmetric (length (m .rows)) false) refl
+        (cond t (cond known (Choice.choiceFault (Choice.strategyFor choice) m external logs s) (Choice.noChoice m (s .factors)))
+        (sizeFault (m .pattern .n) maxSymmetric (length (m .pattern .rowIdx)) false))
+    fault true true = subst (Listed chooserNumbers) (choice-number m external logs s (Choice.strategyFor choice))
+        (Choices.scaling-listed m external logs s (Choice.strategyFor choice))
+    fault true false = part symmetricNumbers (Choices.no-choice-listed m (s .factors)) refl
+    fault false known = part Sizes.sizeNumbers (Sizes.sizes-listed (m .pattern .n) maxSymmetric (length (m .pattern .rowIdx)) false) refl
 
 -- the external choice: 1, 2 or 12, with slices of any lengths, which stay as they were
-pub external-refused : (n : ℕ) (m : Matrix) (external logs : List Float) (s : Choice.Slices) (old : List ℕ)
-    → scalingByNumber 4 n m external logs s old ≡ outcomeIs (Choice.externalFault n (length (m .rows))) (Scaling.lent s old)
+pub external-refused : (m : Matrix) (external logs : List Float) (s : Choice.Slices) (old : List ℕ)
+    → scalingByNumber 4 m external logs s old ≡ outcomeIs (Choice.externalFault (m .pattern .n) (length (m .pattern .rowIdx))) (Scaling.lent s old)
 unfolding scalingByNumber numberFault Choice.choiceFault Choice.strategyFor
-external-refused n m external logs s old =
-    sym (refused-is asNumber (scalingResultOf (Choice.chosen (Choice.strategyFor 4) n m logs s) old) (Scaling.lent s old) refl
-    (external-some n (length (m .rows))))
+external-refused m external logs s old =
+    sym (refused-is asNumber (scalingResultOf (Choice.chosen (Choice.strategyFor 4) m logs s) old) (Scaling.lent s old) refl
+    (external-some (m .pattern .n) (length (m .pattern .rowIdx))))

@@ -32,33 +32,33 @@ scalingResultOf o old = outcomeIs (numberOf (o .answer)) (lent (o .after) (infoO
 
 -- the first thing wrong, or 0. A wrong length of `info` is a wrong length: 1 and 2 come before it. The external choice,
 -- the last one, looks at no length
-unfoldable pub numberFault : ℕ → ℕ → Matrix → List Float → List Float → Slices → List ℕ → ℕ
-numberFault choice n m external logs s old =
+unfoldable pub numberFault : ℕ → Matrix → List Float → List Float → Slices → List ℕ → ℕ
+numberFault choice m external logs s old =
     cond (eqb choice lastChoice || eqb (length old) 2)
-    (cond (leb choice lastChoice) (choiceFault (strategyFor choice) n m external logs s) (noChoice n m (s .factors)))
-    (sizeFault n maxSymmetric (length (m .rows)) false)
+    (cond (leb choice lastChoice) (choiceFault (strategyFor choice) m external logs s) (noChoice m (s .factors)))
+    (sizeFault (m .pattern .n) maxSymmetric (length (m .pattern .rowIdx)) false)
 
 -- what `suontarvi_scaling` does
-unfoldable pub scalingByNumber : ℕ → ℕ → Matrix → List Float → List Float → Slices → List ℕ → Outcome ℕ Lent
+unfoldable pub scalingByNumber : ℕ → Matrix → List Float → List Float → Slices → List ℕ → Outcome ℕ Lent
 unfolding numberFault
-scalingByNumber choice n m external logs s old =
-    refusing asNumber (numberFault choice n m external logs s old)
-    (scalingResultOf (chosen (strategyFor choice) n m logs s) old) (lent s old)
+scalingByNumber choice m external logs s old =
+    refusing asNumber (numberFault choice m external logs s old)
+    (scalingResultOf (chosen (strategyFor choice) m logs s) old) (lent s old)
 
 -- what the factors of the MC64 choice, 2, are good for: where 0 is answered and `info` says that every column is
 -- matched, the logs that are read are whole and no factor is held
-abbrev pub Balances : ℕ → ℕ → Matrix → List Float → Outcome ℕ Lent → Type 0
-Balances choice n m logs t =
+abbrev pub Balances : ℕ → Matrix → List Float → Outcome ℕ Lent → Type 0
+Balances choice m logs t =
     let after = t .after .slices in
     choice ≡ 2 → t .answer ≡ accepted → getD (t .after .info) 0 0 ≡ 0 → WholeLogs m logs
-    → NoneHeld n (cacheOf after) (after .factors) → Balanced n m logs (after .pairs .perm) (after .factors)
+    → NoneHeld (m .pattern .n) (cacheOf after) (after .factors) → Balanced m logs (after .pairs .perm) (after .factors)
 
 -- ---- all that `suontarvi_scaling` promises, of the choice, the matrix, what was lent and the result t
-pub record ScalingPromises (choice n : ℕ) (m : Matrix) (external logs : List Float) (before : Slices) (old : List ℕ)
+pub record ScalingPromises (choice : ℕ) (m : Matrix) (external logs : List Float) (before : Slices) (old : List ℕ)
     (t : Outcome ℕ Lent) : Type 0 where
   -- the number and every slice left are the definition's
-  pub outcome : t ≡ scalingByNumber choice n m external logs before old
+  pub outcome : t ≡ scalingByNumber choice m external logs before old
   -- the number is one of the call's list
   pub number : OneOf chooserNumbers (t .answer)
   -- the MC64 factors of whole logs balance the entries, where every column is matched
-  pub balanced : Balances choice n m logs t
+  pub balanced : Balances choice m logs t

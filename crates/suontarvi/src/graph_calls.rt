@@ -24,13 +24,13 @@ pub extern "C" fn suontarvi_symmetric_graph(
     work: &mut [u32],
 ) -> u32
     ensures { λ r.
-        let m = matrix (now («col_ptr» .entry)) (now («row_idx» .entry)) (now (values .entry)) in
+        let m = matrix n (now («col_ptr» .entry)) (now («row_idx» .entry)) (now (values .entry)) in
         let before = slices (now («graph_ptr» .entry)) (now («graph_rows» .entry)) (now (cost .entry))
         (now (cmax .entry))
         (now (work .entry)) in
         let after = slices (now («graph_ptr» .exit)) (now («graph_rows» .exit)) (now (cost .exit)) (now (cmax .exit))
         (now (work .exit)) in
-        ⌜ GraphPromises symmetricGraphNumbers (costGraph n m (now (logs .entry)) before) r after ⌝ }
+        ⌜ GraphPromises symmetricGraphNumbers (costGraph m (now (logs .entry)) before) r after ⌝ }
 {
     let answer = mc64_symmetric::build_cost_graph(
         n,
@@ -65,13 +65,13 @@ pub extern "C" fn suontarvi_general_graph(
     work: &mut [u32],
 ) -> u32
     ensures { λ r.
-        let m = matrix (now («col_ptr» .entry)) (now («row_idx» .entry)) (now (values .entry)) in
+        let m = matrix n (now («col_ptr» .entry)) (now («row_idx» .entry)) (now (values .entry)) in
         let before = slices (now («graph_ptr» .entry)) (now («graph_rows» .entry)) (now (cost .entry))
         (now (cmax .entry))
         (now (work .entry)) in
         let after = slices (now («graph_ptr» .exit)) (now («graph_rows» .exit)) (now (cost .exit)) (now (cmax .exit))
         (now (work .exit)) in
-        ⌜ GraphPromises graphNumbers (generalGraph n m (now (logs .entry)) before) r after ⌝ }
+        ⌜ GraphPromises graphNumbers (generalGraph m (now (logs .entry)) before) r after ⌝ }
 {
     let answer = mc64_general::build_general_graph(
         n,

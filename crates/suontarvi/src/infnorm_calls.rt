@@ -15,8 +15,8 @@ pub extern "C" fn suontarvi_infnorm(
     work: &mut [f64],
 ) -> u32
     ensures { λ r.
-        let m = matrix (now («col_ptr» .entry)) (now («row_idx» .entry)) (now (values .entry)) in
-        ⌜ InfnormPromises n m (now (factors .entry)) (now (work .entry)) r (now (factors .exit)) (now (work .exit)) ⌝ }
+        let m = matrix n (now («col_ptr» .entry)) (now («row_idx» .entry)) (now (values .entry)) in
+        ⌜ InfnormPromises m (now (factors .entry)) (now (work .entry)) r (now (factors .exit)) (now (work .exit)) ⌝ }
 {
     let answer = infnorm::compute_infnorm(n, col_ptr, row_idx, values, factors, work);
     layout::number_of(answer)
@@ -32,8 +32,8 @@ pub extern "C" fn suontarvi_onepass(
     factors: &mut [f64],
 ) -> u32
     ensures { λ r.
-        let m = matrix (now («col_ptr» .entry)) (now («row_idx» .entry)) (now (values .entry)) in
-        ⌜ OnepassPromises n m (now (factors .entry)) r (now (factors .exit)) ⌝ }
+        let m = matrix n (now («col_ptr» .entry)) (now («row_idx» .entry)) (now (values .entry)) in
+        ⌜ OnepassPromises m (now (factors .entry)) r (now (factors .exit)) ⌝ }
 {
     let answer = infnorm::compute_onepass(n, col_ptr, row_idx, values, factors);
     layout::number_of(answer)

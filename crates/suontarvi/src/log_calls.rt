@@ -35,13 +35,13 @@ pub extern "C" fn suontarvi_whole_symmetric_graph(
     work: &mut [u32],
 ) -> u32
     ensures { λ r.
-        let m = matrix (now («col_ptr» .entry)) (now («row_idx» .entry)) (now (values .entry)) in
+        let m = matrix n (now («col_ptr» .entry)) (now («row_idx» .entry)) (now (values .entry)) in
         let before = slices (now («graph_ptr» .entry)) (now («graph_rows» .entry)) (now (cost .entry))
         (now (cmax .entry))
         (now (work .entry)) in
         let after = slices (now («graph_ptr» .exit)) (now («graph_rows» .exit)) (now (cost .exit)) (now (cmax .exit))
         (now (work .exit)) in
-        ⌜ WholeGraphPromises wholeSymmetricNumbers n (wholeSymmetricGraph n m before) r after ⌝ }
+        ⌜ WholeGraphPromises wholeSymmetricNumbers n (wholeSymmetricGraph m before) r after ⌝ }
 {
     let answer = whole_graphs::whole_symmetric_graph(
         n,
@@ -74,13 +74,13 @@ pub extern "C" fn suontarvi_whole_general_graph(
     work: &mut [u32],
 ) -> u32
     ensures { λ r.
-        let m = matrix (now («col_ptr» .entry)) (now («row_idx» .entry)) (now (values .entry)) in
+        let m = matrix n (now («col_ptr» .entry)) (now («row_idx» .entry)) (now (values .entry)) in
         let before = slices (now («graph_ptr» .entry)) (now («graph_rows» .entry)) (now (cost .entry))
         (now (cmax .entry))
         (now (work .entry)) in
         let after = slices (now («graph_ptr» .exit)) (now («graph_rows» .exit)) (now (cost .exit)) (now (cmax .exit))
         (now (work .exit)) in
-        ⌜ WholeGraphPromises wholeGeneralNumbers n (wholeGeneralGraph n m before) r after ⌝ }
+        ⌜ WholeGraphPromises wholeGeneralNumbers n (wholeGeneralGraph m before) r after ⌝ }
 {
     let answer = whole_graphs::whole_general_graph(
         n,

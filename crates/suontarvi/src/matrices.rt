@@ -3,6 +3,7 @@ use sparse::layout;
 use sparse::layout::Assembled;
 ghost use Rattle.refusal.specs.Listed.{symmetricNumbers, generalNumbers};
 ghost use Rattle.refusal.specs.Listed.{symmetricTripletNumbers, generalTripletNumbers};
+ghost use Rattle.sparse.specs.Matrix.{matrix};
 ghost use Rattle.sparse.specs.Validate.{symmetricFault, generalFault};
 ghost use Rattle.triplets.specs.Built.{triplets, slices};
 ghost use Rattle.sparse.specs.Assemble.{symmetricAssembly, generalAssembly};
@@ -18,7 +19,7 @@ pub extern "C" fn suontarvi_validate_symmetric(
 ) -> u32
     ensures { λ r.
         ⌜ ValidatePromises symmetricNumbers
-        (symmetricFault n (now («col_ptr» .entry)) (now («row_idx» .entry)) (now (values .entry))) r ⌝ }
+        (symmetricFault (matrix n (now («col_ptr» .entry)) (now («row_idx» .entry)) (now (values .entry)))) r ⌝ }
 {
     layout::number_of(sparse::csc::validate(n, col_ptr, row_idx, values))
 }
@@ -33,7 +34,7 @@ pub extern "C" fn suontarvi_validate_general(
 ) -> u32
     ensures { λ r.
         ⌜ ValidatePromises generalNumbers
-        (generalFault n (now («col_ptr» .entry)) (now («row_idx» .entry)) (now (values .entry))) r ⌝ }
+        (generalFault (matrix n (now («col_ptr» .entry)) (now («row_idx» .entry)) (now (values .entry)))) r ⌝ }
 {
     layout::number_of(sparse::general::validate(n, col_ptr, row_idx, values))
 }

@@ -26,8 +26,8 @@ pub extern "C" fn suontarvi_log_factors_by_rule(
 ) -> u32
     ensures { λ r.
         let c = matchOf (now (perm .entry)) (now (u .entry)) (now (v .entry)) (now (cmax .entry)) in
-        let m = matrix (now («col_ptr» .entry)) (now («row_idx» .entry)) (now (values .entry)) in
-        let g = input n c m (now (logs .entry)) in
+        let m = matrix n (now («col_ptr» .entry)) (now («row_idx» .entry)) (now (values .entry)) in
+        let g = input c m (now (logs .entry)) in
         let before = slices (now (factors .entry)) (now (work .entry)) in
         let after = slices (now (factors .exit)) (now (work .exit)) in
         ⌜ NumberPromises rule matched g before (now (unmatched .entry)) r after (now (unmatched .exit)) ⌝ }

@@ -32,7 +32,7 @@ pub extern "C" fn suontarvi_scaling(
     info: &mut [u32],
 ) -> u32
     ensures { λ r.
-        let m = matrix (now («col_ptr» .entry)) (now («row_idx» .entry)) (now (values .entry)) in
+        let m = matrix n (now («col_ptr» .entry)) (now («row_idx» .entry)) (now (values .entry)) in
         let graph =
         Graphs.slices (now («graph_ptr» .entry)) (now («graph_rows» .entry)) (now (cost .entry)) (now (cmax .entry))
         (now («graph_work» .entry)) in
@@ -46,7 +46,7 @@ pub extern "C" fn suontarvi_scaling(
         (now (distances .exit)) in
         let after = slices (now (factors .exit)) (now (maxima .exit)) graphAfter pairsAfter
         (now («factor_work» .exit)) in
-        ⌜ ScalingPromises choice n m (now (external .entry)) (now (logs .entry)) before (now (info .entry))
+        ⌜ ScalingPromises choice m (now (external .entry)) (now (logs .entry)) before (now (info .entry))
         (outcomeIs r (lent after (now (info .exit)))) ⌝ }
 {
     // refused before any length is looked at

@@ -60,7 +60,7 @@ module _ {n : ℕ} {rows cols : List ℕ} {values : List Float} (S : SymmetricVa
 
       -- what is assembled
       abbrev stored : Matrix
-      stored = matrix (after .colPtr) (after .rowIdx) (after .values)
+      stored = matrix n (after .colPtr) (after .rowIdx) (after .values)
 
       matrix-is : stored ≡ tripletMatrix n t
       unfolding Triplets.built
@@ -77,8 +77,8 @@ module _ {n : ℕ} {rows cols : List ℕ} {values : List Float} (S : SymmetricVa
 
       module _ (s : Slices) (room : GraphRoom n (length rows) (s .graphPtr) (s .graphIdx) (s .cost)) (cmaxRoom : length (s .cmax) ≡ n)
           (workRoom : length (s .work) ≡ 2 * n + 2 + length rows) where
-        pub fine : wholeSymmetricFault n stored s ≡ 0
-        fine = subst (λ (x : Matrix). wholeSymmetricFault n x s ≡ 0) (sym matrix-is)
+        pub fine : wholeSymmetricFault stored s ≡ 0
+        fine = subst (λ (x : Matrix). wholeSymmetricFault x s ≡ 0) (sym matrix-is)
             (nothing-wrong S none-repeated s (room .pointerRoom) (room .rowRoom) (room .costRoom) cmaxRoom workRoom)
 
         pub holds : (left : Slices) (count : ℕ) → GraphBuilt n (mirroredColumns stored) (valueLogs (stored .values)) s left count
@@ -87,11 +87,11 @@ module _ {n : ℕ} {rows cols : List ℕ} {values : List Float} (S : SymmetricVa
         holds left count x =
             let last : getD (left .graphPtr) n 0 ≡ count =
             ap (λ (l : Slices). getD (l .graphPtr) n 0) (x .slices) ∙ ones-at (keptBefore (mirroredColumns stored)) _ n (omega arith) ∙ sym (x .count) in
-            let long : length (after .rowIdx) ≡ length rows = ap (λ (l : Matrix). length (l .rows)) matrix-is ∙ kept-all S none-repeated in
+            let long : length (after .rowIdx) ≡ length rows = ap (λ (l : Matrix). length (l .pattern .rowIdx)) matrix-is ∙ kept-all S none-repeated in
             record {
               once = none-repeated;
               graph = subst (λ (k : ℕ). graphOf n (left .graphPtr) (take k (left .graphIdx)) (take k (left .cost)) ≡ tripletGraph n t) last
-                  (left-is n (mirroredColumns stored) stored s left (x .slices) ∙ ap (mirroredGraph n) matrix-is);
+                  (left-is (mirroredColumns stored) stored s left (x .slices) ∙ ap mirroredGraph matrix-is);
               fits = omega (arith, x .count, pointer-entries stored n, pointer-few stored n, long);
             }
 
@@ -105,5 +105,5 @@ module _ {n : ℕ} {rows cols : List ℕ} {values : List Float} (S : SymmetricVa
           where
             laid : Matrix → ℕ → GraphSlices
             laid m k =
-                let g = mirroredGraph n m in
+                let g = mirroredGraph m in
                 graphSlices (g .pattern .colPtr) (g .pattern .rowIdx ++ drop k (s .graphIdx)) (g .cost ++ drop k (s .cost))

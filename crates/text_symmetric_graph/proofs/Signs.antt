@@ -124,16 +124,16 @@ sized-alike x y z p q =
     }
 
 -- ---- the graphs of such values
-module _ (colPtr rows : List ℕ) (values other : List Float) (alike : (k : ℕ) → k < length rows → Alike (getD values k nan) (getD other k nan)) where
-  touched : (c k : ℕ) → k < length rows → touches (matrix colPtr rows values) c k ≡ touches (matrix colPtr rows other) c k
+module _ (n : ℕ) (colPtr rows : List ℕ) (values other : List Float) (alike : (k : ℕ) → k < length rows → Alike (getD values k nan) (getD other k nan)) where
+  touched : (c k : ℕ) → k < length rows → touches (matrix n colPtr rows values) c k ≡ touches (matrix n colPtr rows other) c k
   touched c k h = rw (alike k h .zeros) refl
 
-  places-to : (c k : ℕ) → k ≤ length rows → placesTo (matrix colPtr rows values) c k ≡ placesTo (matrix colPtr rows other) c k
+  places-to : (c k : ℕ) → k ≤ length rows → placesTo (matrix n colPtr rows values) c k ≡ placesTo (matrix n colPtr rows other) c k
   unfolding placesTo
   places-to c zero h = refl
   places-to c (suc k) h = ap₂ (λ (l : List ℕ) (b : Bool). l ++ keep b k) (places-to c k (omega arith)) (touched c k h)
 
-  places-same : placesOf (matrix colPtr rows values) ≡ placesOf (matrix colPtr rows other)
+  places-same : placesOf (matrix n colPtr rows values) ≡ placesOf (matrix n colPtr rows other)
   places-same = fun-ext (λ c. places-to c (length rows) (le-refl (length rows)))
 
   logs-same : length values ≡ length rows → length other ≡ length rows → valueLogs values ≡ valueLogs other
@@ -143,22 +143,22 @@ module _ (colPtr rows : List ℕ) (values other : List Float) (alike : (k : ℕ)
       ext-getD nan (valueLogs values) (valueLogs other) (l ∙ sym r)
       (λ k h. value-log-at values k ∙ ap doubleOf (alike k (omega (arith, l)) .logs) ∙ sym (value-log-at other k))
 
-  graph-with : ℕ → (ℕ → List ℕ) → List Float → CostGraph
-  graph-with n places logs =
-      let g : GraphColumns = record { places = places; row = otherEnd (matrix colPtr rows values); top = largest } in
+  graph-with : (ℕ → List ℕ) → List Float → CostGraph
+  graph-with places logs =
+      let g : GraphColumns = record { places = places; row = otherEnd (matrix n colPtr rows values); top = largest } in
       graphOf n (graphPointers g n) (graphRows g n) (graphCosts g logs n)
 
-  graphs-same : (n : ℕ) → length values ≡ length rows → length other ≡ length rows → mirroredGraph n (matrix colPtr rows values) ≡ mirroredGraph n
-      (matrix colPtr rows other)
+  graphs-same : length values ≡ length rows → length other ≡ length rows → mirroredGraph (matrix n colPtr rows values) ≡ mirroredGraph
+      (matrix n colPtr rows other)
   unfolding graph-with
-  graphs-same n e f = ap₂ (graph-with n) places-same (logs-same e f)
+  graphs-same e f = ap₂ graph-with places-same (logs-same e f)
 
 -- ---- the graph of a file's values, with their signs, is that of the sizes
 pub signs-free : (n : ℕ) (rows cols weights : List ℕ) (values : List Float) → SymmetricEntries n rows cols weights → repeats rows cols ≡ false
     → Signed weights values
     → tripletGraph n (triplets rows cols values) ≡ symmetricGraph n rows cols weights
 signs-free n rows cols weights values held once signed =
-    graphs-same _ (rowsBefore rows cols n n) _ _ stored n (values-length (triplets rows cols values) n n)
+    graphs-same n _ (rowsBefore rows cols n n) _ _ stored (values-length (triplets rows cols values) n n)
     (values-length (triplets rows cols (costValues weights)) n n)
   where
     own : (k : ℕ) → k < length rows → Alike (add binary64 Constants.zero (getD values k nan)) (add binary64 Constants.zero (getD (costValues weights) k nan))

@@ -45,7 +45,7 @@ pub zero-plus : (x : Float) (z : ℤ) → natAbs z < 2 ^ 53 → Whole x z → Wh
 zero-plus x z h w = subst (Whole (add binary64 Constants.zero x)) (+ℤ-idl z) (whole-add Constants.zero x (pos 0) z zero-whole w (rw (+ℤ-idl z) (omega arith)))
 
 -- ---- slices that have their lengths
-fits-lent : {n room : ℕ} {m : Matrix} {logs : List Float} {s : Slices} → Fitting n room m logs s → slicesFit n room m logs s ≡ true
+fits-lent : {room : ℕ} {m : Matrix} {logs : List Float} {s : Slices} → Fitting room m logs s → slicesFit room m logs s ≡ true
 unfolding slicesFit
 fits-lent f =
     rw (
@@ -68,7 +68,7 @@ module _ {n : ℕ} {rows cols : List ℕ} {values : List Float} (S : SymmetricVa
   pub kept-all : keptCount n (triplets rows cols values) ≡ length rows
   kept-all = eqb-true _ _ (kept-count n (triplets rows cols values) (S .held .inside) ∙ ap not once)
 
-  stored-whole : (k : ℕ) → k < length (m .rows) → IsWhole (getD (m .values) k nan)
+  stored-whole : (k : ℕ) → k < length (m .pattern .rowIdx) → IsWhole (getD (m .values) k nan)
   stored-whole k h = values-hold (λ x y. IsWhole x) rows cols values values (S .held .inside .pairs) once (pos 0, zero-whole) own n k h
     where
       own : (i : ℕ) → i < length rows → IsWhole (add binary64 Constants.zero (getD values i nan))
@@ -80,7 +80,7 @@ module _ {n : ℕ} {rows cols : List ℕ} {values : List Float} (S : SymmetricVa
           let b : w < 2 ^ 53 = S .held .weightsIn i c in
           rw e (pos w, zero-plus (ofInt binary64 (pos w)) (pos w) b (natural-whole w (omega arith)))
 
-  as-many : length (m .values) ≡ length (m .rows)
+  as-many : length (m .values) ≡ length (m .pattern .rowIdx)
   as-many = values-length (triplets rows cols values) n n
 
   pub stored-doubles : Doubles (m .values)
@@ -92,7 +92,7 @@ module _ {n : ℕ} {rows cols : List ℕ} {values : List Float} (S : SymmetricVa
       all-zero (λ k. unless (finite (getD (m .values) k nan)) valueNotFinite) (length (m .values)) .1
       (λ k h. ap (λ (b : Bool). unless b valueNotFinite) (is-true (finite (getD (m .values) k nan)) (stored-whole k (omega (arith, as-many)) .1 .isFinite)))
 
-  matrix-sizes : Sizes maxSymmetric n (m .colPtr) (m .rows) (m .values)
+  matrix-sizes : Sizes maxSymmetric m
   matrix-sizes =
       record {
         columns = omega (arith, S .held .few);
@@ -105,7 +105,7 @@ module _ {n : ℕ} {rows cols : List ℕ} {values : List Float} (S : SymmetricVa
   module _ (s : Slices) (pointers : length (s .graphPtr) ≡ n + 1) (rowRoom : length (s .graphIdx) ≡ 2 * length rows)
       (costRoom : length (s .cost) ≡ 2 * length rows)
       (cmaxRoom : length (s .cmax) ≡ n) (workRoom : length (s .work) ≡ 2 * n + 2 + length rows) where
-    fitting : Fitting n (2 * length (m .rows)) m (m .values) s
+    fitting : Fitting (2 * length (m .pattern .rowIdx)) m (m .values) s
     fitting =
         record {
           colptrs = matrix-sizes .colptrs;
@@ -118,25 +118,25 @@ module _ {n : ℕ} {rows cols : List ℕ} {values : List Float} (S : SymmetricVa
           workRoom = omega (arith, kept-all);
         }
 
-    pub nothing-wrong : wholeSymmetricFault n m s ≡ 0
+    pub nothing-wrong : wholeSymmetricFault m s ≡ 0
     unfolding symmetricInputFault
     nothing-wrong =
-        or-none (sizes-accepted n maxSymmetric (length (m .rows)) _ .1 (matrix-sizes .columns, matrix-sizes .entries, fits-lent fitting))
-        ∙ or-none (symmetric-accepted n (m .colPtr) (m .rows) (m .values) .1
+        or-none (sizes-accepted n maxSymmetric (length (m .pattern .rowIdx)) _ .1 (matrix-sizes .columns, matrix-sizes .entries, fits-lent fitting))
+        ∙ or-none (symmetric-accepted m .1
         (matrix-sizes, (graph-columns n rows cols (S .weights), matrix-lower rows cols (S .held .lower) n)))
         ∙ all-finite
 
     -- the whole-number call accepts the matrix and leaves its graph
-    pub call-leaves : graphLeft n (wholeSymmetricGraph n m s .after) ≡ mirroredGraph n m
+    pub call-leaves : graphLeft n (wholeSymmetricGraph m s .after) ≡ mirroredGraph m
     unfolding wholeSymmetricGraph
-    call-leaves = left-is n (mirroredColumns m) m s _ (ap (λ (f : ℕ). outcome f n (mirroredColumns m) (valueLogs (m .values)) s .after) nothing-wrong)
+    call-leaves = left-is (mirroredColumns m) m s _ (ap (λ (f : ℕ). outcome f n (mirroredColumns m) (valueLogs (m .values)) s .after) nothing-wrong)
 
 -- ---- the graph
 pub symmetric-whole : (n : ℕ) (rows cols weights : List ℕ) → SymmetricEntries n rows cols weights → repeats rows cols ≡ false
     → WholeGraph (symmetricGraph n rows cols weights)
 symmetric-whole n rows cols weights held once =
-    subst WholeGraph (left-is n (mirroredColumns M) M lent _ refl)
-    (symmetric-optimal n M lent
+    subst WholeGraph (left-is (mirroredColumns M) M lent _ refl)
+    (symmetric-optimal M lent
     (nothing-wrong S once lent (length-replicate (n + 1) 0) (length-replicate (2 * length rows) 0) (length-replicate (2 * length rows) nan)
     (length-replicate n nan) (length-replicate (2 * n + 2 + length rows) 0))
     (stored-doubles S once) _ refl)

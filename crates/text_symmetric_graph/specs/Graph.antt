@@ -32,17 +32,18 @@ pub record SymmetricEntries (n : ℕ) (rows cols weights : List ℕ) : Type 0 wh
 -- what `from_triplets` leaves of triplets: by column, then row
 abbrev pub tripletMatrix : ℕ → Triplets → Matrix
 tripletMatrix n t =
-    matrix (tabulate (suc n) (λ j. length (rowsBefore (t .rows) (t .cols) n j))) (rowsBefore (t .rows) (t .cols) n n)
+    matrix n (tabulate (suc n) (λ j. length (rowsBefore (t .rows) (t .cols) n j))) (rowsBefore (t .rows) (t .cols) n n)
     (valuesBefore t n n)
 
 -- what `whole_symmetric_graph` leaves of a matrix: without zeros, each other entry on both sides of the diagonal
-abbrev pub mirroredGraph : ℕ → Matrix → CostGraph
-mirroredGraph n m =
+abbrev pub mirroredGraph : Matrix → CostGraph
+mirroredGraph m =
+    let n = m .pattern .n in
     let g = mirroredColumns m in
     graphOf n (graphPointers g n) (graphRows g n) (graphCosts g (valueLogs (m .values)) n)
 
 abbrev pub tripletGraph : ℕ → Triplets → CostGraph
-tripletGraph n t = mirroredGraph n (tripletMatrix n t)
+tripletGraph n t = mirroredGraph (tripletMatrix n t)
 
 abbrev pub symmetricGraph : ℕ → List ℕ → List ℕ → List ℕ → CostGraph
 symmetricGraph n rows cols weights = tripletGraph n (fileTriplets rows cols weights)

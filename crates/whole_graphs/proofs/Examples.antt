@@ -16,7 +16,7 @@ use Rattle.whole_graphs.specs.Graphs.{finiteFault}
 
 -- -8, 3 and 1024
 abbrev small : Matrix
-small = matrix (0 ∷ 2 ∷ 3 ∷ 3 ∷ []) (1 ∷ 2 ∷ 2 ∷ []) (fin true 1 (pos 3) ∷ fin false 3 (pos 0) ∷ fin false 1 (pos 10) ∷ [])
+small = matrix 3 (0 ∷ 2 ∷ 3 ∷ 3 ∷ []) (1 ∷ 2 ∷ 2 ∷ []) (fin true 1 (pos 3) ∷ fin false 3 (pos 0) ∷ fin false 1 (pos 10) ∷ [])
 
 logs : valueLogs (small .values) ≡ ofInt binary64 (pos 196608) ∷ ofInt binary64 (pos 103872) ∷ ofInt binary64 (pos 655360) ∷ []
 unfolding wholeLog magnitude unitsPerOne

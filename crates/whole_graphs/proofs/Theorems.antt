@@ -62,13 +62,15 @@ abbrev pub Doubles : List Float → Type 0
 Doubles values = (k : ℕ) → k < length values → T (fits binary64 (getD values k nan))
 
 -- the graph of these columns
-abbrev pub graphBy : ℕ → GraphColumns → Matrix → CostGraph
-graphBy n g m = graphOf n (graphPointers g n) (graphRows g n) (graphCosts g (valueLogs (m .values)) n)
+abbrev pub graphBy : GraphColumns → Matrix → CostGraph
+graphBy g m = let n = m .pattern .n in graphOf n (graphPointers g n) (graphRows g n) (graphCosts g (valueLogs (m .values)) n)
 
 -- is the one that is left
-pub left-is : (n : ℕ) (g : GraphColumns) (m : Matrix) (s after : Slices) → after ≡ built n g (valueLogs (m .values)) s → graphLeft n after ≡ graphBy n g m
+pub left-is : (g : GraphColumns) (m : Matrix) (s after : Slices) → let n = m .pattern .n in
+    after ≡ built n g (valueLogs (m .values)) s → graphLeft n after ≡ graphBy g m
 unfolding built
-left-is n g m s after e =
+left-is g m s after e =
+    let n = m .pattern .n in
     let last : getD (graphPointers g n) n 0 ≡ keptBefore g n = ones-at (keptBefore g) _ n (omega arith) in
     let rows = take-at (graphRows g n) (drop (keptBefore g n) (s .graphIdx)) (keptBefore g n) refl in
     let costs = take-at (graphCosts g (valueLogs (m .values)) n) (drop (keptBefore g n) (s .cost)) (keptBefore g n)
@@ -109,104 +111,110 @@ module _ (n : ℕ) (few : n ≤ 4096) (values : List Float) (doubles : Doubles v
   logs-double : (k : ℕ) → k < length (valueLogs values) → T (fits binary64 (getD (valueLogs values) k nan))
   logs-double k h = rw (value-log-at values k) (log-double (getD values k nan) (doubles k (rw length-map at h)))
 
-fits-alike : (n room : ℕ) (m : Matrix) (s : Slices) → slicesFit n room m (valueLogs (m .values)) s ≡ slicesFit n room m (m .values) s
+fits-alike : (room : ℕ) (m : Matrix) (s : Slices) → slicesFit room m (valueLogs (m .values)) s ≡ slicesFit room m (m .values) s
 unfolding slicesFit
-fits-alike n room m s = rw (length-map (m .values) (λ x. doubleOf (wholeLog x))) refl
+fits-alike room m s = rw (length-map (m .values) (λ x. doubleOf (wholeLog x))) refl
 
 -- whole costs, where the value at every place of a column does not equal zero
-costs-whole : (n : ℕ) → n ≤ 4096 → (g : GraphColumns) (m : Matrix) → Doubles (m .values) → finiteFault (m .values) ≡ 0
-    → ((c i : ℕ) → c < n → i < length (g .places c) → (getD (g .places c) i 0 < length (m .values))
+costs-whole : (g : GraphColumns) (m : Matrix) → m .pattern .n ≤ 4096 → Doubles (m .values) → finiteFault (m .values) ≡ 0
+    → ((c i : ℕ) → c < m .pattern .n → i < length (g .places c) → (getD (g .places c) i 0 < length (m .values))
     × (eq (getD (m .values) (getD (g .places c) i 0) nan) Constants.zero ≡ false))
-    → WholeCosts (graphBy n g m)
-costs-whole n few g m doubles e places k h =
-    columns-whole g n (valueLogs (m .values)) (λ c i l u. let p = places c i l u in
-    log-at n few (m .values) doubles e (getD (g .places c) i 0) (p .0) (p .1) .0) k
-    (rw (costs-length g (valueLogs (m .values)) n) h)
+    → WholeCosts (graphBy g m)
+costs-whole g m few doubles e places k h =
+    columns-whole g (m .pattern .n) (valueLogs (m .values)) (λ c i l u. let p = places c i l u in
+    log-at (m .pattern .n) few (m .values) doubles e (getD (g .places c) i 0) (p .0) (p .1) .0) k
+    (rw (costs-length g (valueLogs (m .values)) (m .pattern .n)) h)
 
 whole-graph : (g : CostGraph) → Accepted g → WholeCosts g → WholeGraph g
 whole-graph g a w = record { matched = a; whole = w; optimal = match-optimal g a w }
 
 -- ---- symmetric
-module _ (n : ℕ) (m : Matrix) (s : Slices) (fine : wholeSymmetricFault n m s ≡ 0) (doubles : Doubles (m .values)) where
-  pub parts : (sizeFault n maxSymmetric (length (m .rows)) (slicesFit n (2 * length (m .rows)) m (m .values) s) ≡ 0)
-      × ((symmetricFault n (m .colPtr) (m .rows) (m .values) ≡ 0) × (finiteFault (m .values) ≡ 0))
+module _ (m : Matrix) (s : Slices) (fine : wholeSymmetricFault m s ≡ 0) (doubles : Doubles (m .values)) where
+  pub parts : (sizeFault (m .pattern .n) maxSymmetric (length (m .pattern .rowIdx)) (slicesFit (2 * length (m .pattern .rowIdx)) m (m .values) s) ≡ 0)
+      × ((symmetricFault m ≡ 0) × (finiteFault (m .values) ≡ 0))
   unfolding symmetricInputFault
   parts =
-      let z = or-zero (sizeFault n maxSymmetric (length (m .rows)) (slicesFit n (2 * length (m .rows)) m (m .values) s)) _ fine in
-      (z .0, or-zero (symmetricFault n (m .colPtr) (m .rows) (m .values)) _ (z .1))
+      let z = or-zero (sizeFault (m .pattern .n) maxSymmetric (length (m .pattern .rowIdx))
+      (slicesFit (2 * length (m .pattern .rowIdx)) m (m .values) s)) _ fine in
+      (z .0, or-zero (symmetricFault m) _ (z .1))
 
-  columns-few : n ≤ 4096
-  columns-few = sizes-accepted n maxSymmetric (length (m .rows)) _ .0 (parts .0) .0
+  columns-few : m .pattern .n ≤ 4096
+  columns-few = sizes-accepted (m .pattern .n) maxSymmetric (length (m .pattern .rowIdx)) _ .0 (parts .0) .0
 
   -- with these logs lent, `build_cost_graph` finds nothing wrong either
-  pub symmetric-fine : Symmetric.costGraphFault n m (valueLogs (m .values)) s ≡ 0
+  pub symmetric-fine : Symmetric.costGraphFault m (valueLogs (m .values)) s ≡ 0
   unfolding Symmetric.inputFault Symmetric.valuesFault
   symmetric-fine =
-      ap (λ (b : Bool). orElse (sizeFault n maxSymmetric (length (m .rows)) b)
-      (orElse (symmetricFault n (m .colPtr) (m .rows) (m .values)) (Symmetric.valuesFault n (m .values) (valueLogs (m .values)))))
-      (fits-alike n (2 * length (m .rows)) m s)
+      ap (λ (b : Bool). orElse (sizeFault (m .pattern .n) maxSymmetric (length (m .pattern .rowIdx)) b)
+      (orElse (symmetricFault m) (Symmetric.valuesFault (m .pattern .n) (m .values) (valueLogs (m .values)))))
+      (fits-alike (2 * length (m .pattern .rowIdx)) m s)
       ∙ or-none (parts .0)
       ∙ or-none (parts .1 .0)
-      ∙ all-zero (Symmetric.placeFault n (m .values) (valueLogs (m .values))) (length (m .values)) .1
+      ∙ all-zero (Symmetric.placeFault (m .pattern .n) (m .values) (valueLogs (m .values))) (length (m .values)) .1
       (λ k h.
       or-none (ap (λ (b : Bool). unless b valueNotFinite) (all-finite (m .values) (parts .1 .1) k h))
-      ∙ ap (λ (b : Bool). unless b costRange) (zero-or-fits n columns-few (m .values) doubles (parts .1 .1) k h))
+      ∙ ap (λ (b : Bool). unless b costRange) (zero-or-fits (m .pattern .n) columns-few (m .values) doubles (parts .1 .1) k h))
 
-  symmetric-matched : Accepted (graphBy n (mirroredColumns m) m)
-  symmetric-matched = SymmetricLaws.graph-matched n m (valueLogs (m .values)) s symmetric-fine (logs-double n columns-few (m .values) doubles (parts .1 .1))
+  symmetric-matched : Accepted (graphBy (mirroredColumns m) m)
+  symmetric-matched = SymmetricLaws.graph-matched m (valueLogs (m .values)) s symmetric-fine
+      (logs-double (m .pattern .n) columns-few (m .values) doubles (parts .1 .1))
 
-  symmetric-stored : length (m .values) ≡ length (m .rows)
-  symmetric-stored = lengths-fitting n (2 * length (m .rows)) m (m .values) s (sizes-accepted n maxSymmetric (length (m .rows)) _ .0 (parts .0) .2) .valued
+  symmetric-stored : length (m .values) ≡ length (m .pattern .rowIdx)
+  symmetric-stored = lengths-fitting (2 * length (m .pattern .rowIdx)) m (m .values) s
+      (sizes-accepted (m .pattern .n) maxSymmetric (length (m .pattern .rowIdx)) _ .0 (parts .0) .2) .valued
 
   -- what the building asks for, of the values in the place of logs
   pub symmetric-ready : Triangle m
-      × (((length (m .colPtr) ≡ n + 1) × (length (m .values) ≡ length (m .rows)))
-      × (((length (s .graphPtr) ≡ n + 1) × (length (s .cmax) ≡ n)) × SymmetricSteps.Roomy (m .colPtr) (m .rows) (s .graphIdx) (s .cost) (s .work)))
+      × (((length (m .pattern .colPtr) ≡ m .pattern .n + 1) × (length (m .values) ≡ length (m .pattern .rowIdx)))
+      × (((length (s .graphPtr) ≡ m .pattern .n + 1) × (length (s .cmax) ≡ m .pattern .n)) × SymmetricSteps.Roomy (m .pattern .colPtr) (m .pattern .rowIdx)
+      (s .graphIdx) (s .cost) (s .work)))
   symmetric-ready =
-      let r = SymmetricCalling.ready n m (valueLogs (m .values)) s symmetric-fine in
+      let r = SymmetricCalling.ready m (valueLogs (m .values)) s symmetric-fine in
       (r .0, ((r .1 .0 .0, symmetric-stored), r .1 .1))
 
-  symmetric-whole : WholeCosts (graphBy n (mirroredColumns m) m)
+  symmetric-whole : WholeCosts (graphBy (mirroredColumns m) m)
   symmetric-whole =
-      costs-whole n columns-few (mirroredColumns m) m doubles (parts .1 .1)
+      costs-whole (mirroredColumns m) m columns-few doubles (parts .1 .1)
       (λ c i l u. let p = SymmetricLaws.place-in m c i u in (omega (arith, symmetric-stored, p .0), not-true _ (p .1)))
 
-  pub symmetric-optimal : (after : Slices) → after ≡ built n (mirroredColumns m) (valueLogs (m .values)) s → WholeGraph (graphLeft n after)
+  pub symmetric-optimal : (after : Slices) → after ≡ built (m .pattern .n) (mirroredColumns m) (valueLogs (m .values)) s
+      → WholeGraph (graphLeft (m .pattern .n) after)
   symmetric-optimal after e =
-      subst WholeGraph (sym (left-is n (mirroredColumns m) m s after e)) (whole-graph (graphBy n (mirroredColumns m) m) symmetric-matched symmetric-whole)
+      subst WholeGraph (sym (left-is (mirroredColumns m) m s after e)) (whole-graph (graphBy (mirroredColumns m) m) symmetric-matched symmetric-whole)
 
-  balanced-by : let M = hungarianMatch (graphBy n (mirroredColumns m) m) in
-      let c = matchOf (M .perm) (M .u) (M .v) (graphLargest (mirroredColumns m) (valueLogs (m .values)) n) in
-      let factors = symmetricFactors n c in
-      M .matched ≡ n → NoneHeld n c factors → Balanced n m (valueLogs (m .values)) (M .perm) factors
+  balanced-by : let M = hungarianMatch (graphBy (mirroredColumns m) m) in
+      let c = matchOf (M .perm) (M .u) (M .v) (graphLargest (mirroredColumns m) (valueLogs (m .values)) (m .pattern .n)) in
+      let factors = symmetricFactors (m .pattern .n) c in
+      M .matched ≡ m .pattern .n → NoneHeld (m .pattern .n) c factors → Balanced m (valueLogs (m .values)) (M .perm) factors
   balanced-by =
-      symmetric-balanced n m (valueLogs (m .values)) s symmetric-fine (logs-double n columns-few (m .values) doubles (parts .1 .1))
+      symmetric-balanced m (valueLogs (m .values)) s symmetric-fine (logs-double (m .pattern .n) columns-few (m .values) doubles (parts .1 .1))
       (λ k K.
-      let w = log-at n columns-few (m .values) doubles (parts .1 .1) k (omega (arith, symmetric-stored, K .stored)) (not-true _ (K .isKept)) .0 in
+      let w = log-at (m .pattern .n) columns-few (m .values) doubles (parts .1 .1) k (omega (arith, symmetric-stored, K .stored)) (not-true _ (K .isKept)) .0 in
       (w .number, w .whole))
 
   -- and the log factors of the match of the graph that is left balance
-  pub own-logs-balanced : (after : Slices) → after ≡ built n (mirroredColumns m) (valueLogs (m .values)) s
-      → let M = hungarianMatch (graphLeft n after) in
+  pub own-logs-balanced : (after : Slices) → after ≡ built (m .pattern .n) (mirroredColumns m) (valueLogs (m .values)) s
+      → let M = hungarianMatch (graphLeft (m .pattern .n) after) in
       let c = matchOf (M .perm) (M .u) (M .v) (after .cmax) in
-      let factors = symmetricFactors n c in
-      M .matched ≡ n → NoneHeld n c factors → Balanced n m (valueLogs (m .values)) (M .perm) factors
+      let factors = symmetricFactors (m .pattern .n) c in
+      M .matched ≡ m .pattern .n → NoneHeld (m .pattern .n) c factors → Balanced m (valueLogs (m .values)) (M .perm) factors
   unfolding built
   own-logs-balanced after e =
-      let largest : after .cmax ≡ graphLargest (mirroredColumns m) (valueLogs (m .values)) n = ap (λ (x : Slices). x .cmax) e in
-      rw (left-is n (mirroredColumns m) m s after e, largest) balanced-by
+      let largest : after .cmax ≡ graphLargest (mirroredColumns m) (valueLogs (m .values)) (m .pattern .n) = ap (λ (x : Slices). x .cmax) e in
+      rw (left-is (mirroredColumns m) m s after e, largest) balanced-by
 
-pub symmetric-fault-listed : (n : ℕ) (m : Matrix) (s : Slices) → Listed wholeSymmetricNumbers (wholeSymmetricFault n m s)
+pub symmetric-fault-listed : (m : Matrix) (s : Slices) → Listed wholeSymmetricNumbers (wholeSymmetricFault m s)
 unfolding listed within symmetricInputFault finiteFault
-symmetric-fault-listed n m s =
-    or-listed (part sizeNumbers (sizes-listed n maxSymmetric (length (m .rows)) (slicesFit n (2 * length (m .rows)) m (m .values) s)) refl)
-    (or-listed (part symmetricNumbers (symmetric-listed n (m .colPtr) (m .rows) (m .values)) refl)
+symmetric-fault-listed m s =
+    or-listed (part sizeNumbers (sizes-listed (m .pattern .n) maxSymmetric (length (m .pattern .rowIdx))
+    (slicesFit (2 * length (m .pattern .rowIdx)) m (m .values) s)) refl)
+    (or-listed (part symmetricNumbers (symmetric-listed m) refl)
     (first-listed (length (m .values)) 0 refl (λ k. test (finite (getD (m .values) k nan)) valueNotFinite refl refl)))
 
-pub symmetric-numbers : (n : ℕ) (m : Matrix) (s : Slices) → Listed wholeSymmetricNumbers (numberOf (wholeSymmetricGraph n m s .answer))
+pub symmetric-numbers : (m : Matrix) (s : Slices) → Listed wholeSymmetricNumbers (numberOf (wholeSymmetricGraph m s .answer))
 unfolding wholeSymmetricGraph
-symmetric-numbers n m s =
-    outcome-listed n (mirroredColumns m) (valueLogs (m .values)) s (wholeSymmetricFault n m s) (symmetric-fault-listed n m s)
+symmetric-numbers m s =
+    outcome-listed (m .pattern .n) (mirroredColumns m) (valueLogs (m .values)) s (wholeSymmetricFault m s) (symmetric-fault-listed m s)
 
 -- ---- general
 kept-or-fits : (n : ℕ) (x log : Float) → (eq x Constants.zero || inLogRange n log) ≡ true → General.logFits n x log ≡ true
@@ -218,61 +226,65 @@ kept-or-fits n x log h = go (finite x) (eq x Constants.zero) h
     go true false h = h
     go false z h = refl
 
-module _ (n : ℕ) (m : Matrix) (s : Slices) (fine : wholeGeneralFault n m s ≡ 0) (doubles : Doubles (m .values)) where
-  pub tests : (sizeFault n maxGeneral (length (m .rows)) (slicesFit n (length (m .rows)) m (m .values) s) ≡ 0)
-      × ((generalFault n (m .colPtr) (m .rows) (m .values) ≡ 0) × (finiteFault (m .values) ≡ 0))
+module _ (m : Matrix) (s : Slices) (fine : wholeGeneralFault m s ≡ 0) (doubles : Doubles (m .values)) where
+  pub tests : (sizeFault (m .pattern .n) maxGeneral (length (m .pattern .rowIdx)) (slicesFit (length (m .pattern .rowIdx)) m (m .values) s) ≡ 0)
+      × ((generalFault m ≡ 0) × (finiteFault (m .values) ≡ 0))
   unfolding generalInputFault
   tests =
-      let z = or-zero (sizeFault n maxGeneral (length (m .rows)) (slicesFit n (length (m .rows)) m (m .values) s)) _ fine in
-      (z .0, or-zero (generalFault n (m .colPtr) (m .rows) (m .values)) _ (z .1))
+      let z = or-zero (sizeFault (m .pattern .n) maxGeneral (length (m .pattern .rowIdx)) (slicesFit (length (m .pattern .rowIdx)) m (m .values) s)) _ fine in
+      (z .0, or-zero (generalFault m) _ (z .1))
 
-  few : n ≤ 4096
-  few = sizes-accepted n maxGeneral (length (m .rows)) _ .0 (tests .0) .0
+  few : m .pattern .n ≤ 4096
+  few = sizes-accepted (m .pattern .n) maxGeneral (length (m .pattern .rowIdx)) _ .0 (tests .0) .0
 
   -- with these logs lent, `build_general_graph` finds nothing wrong either
-  pub general-fine : General.generalGraphFault n m (valueLogs (m .values)) s ≡ 0
+  pub general-fine : General.generalGraphFault m (valueLogs (m .values)) s ≡ 0
   unfolding General.inputFault General.logsFault
   general-fine =
-      ap (λ (b : Bool). orElse (sizeFault n maxGeneral (length (m .rows)) b)
-      (orElse (generalFault n (m .colPtr) (m .rows) (m .values)) (General.logsFault n (m .values) (valueLogs (m .values)))))
-      (fits-alike n (length (m .rows)) m s)
+      ap (λ (b : Bool). orElse (sizeFault (m .pattern .n) maxGeneral (length (m .pattern .rowIdx)) b)
+      (orElse (generalFault m) (General.logsFault (m .pattern .n) (m .values) (valueLogs (m .values)))))
+      (fits-alike (length (m .pattern .rowIdx)) m s)
       ∙ or-none (tests .0)
       ∙ or-none (tests .1 .0)
-      ∙ all-zero (General.logFault n (m .values) (valueLogs (m .values))) (length (m .values)) .1
+      ∙ all-zero (General.logFault (m .pattern .n) (m .values) (valueLogs (m .values))) (length (m .values)) .1
       (λ k h.
       ap (λ (b : Bool). unless b costRange)
-      (kept-or-fits n (getD (m .values) k nan) (getD (valueLogs (m .values)) k nan) (zero-or-fits n few (m .values) doubles (tests .1 .1) k h)))
+      (kept-or-fits (m .pattern .n) (getD (m .values) k nan) (getD (valueLogs (m .values)) k nan)
+      (zero-or-fits (m .pattern .n) few (m .values) doubles (tests .1 .1) k h)))
 
-  general-matched : Accepted (graphBy n (keptColumns m) m)
-  general-matched = GeneralLaws.graph-matched n m (valueLogs (m .values)) s general-fine (logs-double n few (m .values) doubles (tests .1 .1))
+  general-matched : Accepted (graphBy (keptColumns m) m)
+  general-matched = GeneralLaws.graph-matched m (valueLogs (m .values)) s general-fine (logs-double (m .pattern .n) few (m .values) doubles (tests .1 .1))
 
   -- what the building asks for, of the values in the place of logs
-  pub general-ready : GeneralSteps.Accepted n m (m .values) × GeneralSteps.Roomy n (m .rows) (s .graphPtr) (s .graphIdx) (s .cost) (s .cmax)
+  pub general-ready : GeneralSteps.Accepted m (m .values) × GeneralSteps.Roomy (m .pattern .n) (m .pattern .rowIdx) (s .graphPtr) (s .graphIdx) (s .cost)
+      (s .cmax)
   general-ready =
-      let r = GeneralCalling.ready n m (valueLogs (m .values)) s general-fine in
+      let r = GeneralCalling.ready m (valueLogs (m .values)) s general-fine in
       (record { sizes = r .0 .sizes; pointers = r .0 .pointers; logged = r .0 .sizes .stored }, r .1)
 
-  general-whole : WholeCosts (graphBy n (keptColumns m) m)
+  general-whole : WholeCosts (graphBy (keptColumns m) m)
   unfolding isKept ne
   general-whole =
-      let a = general-accepted n (m .colPtr) (m .rows) (m .values) .0 (tests .1 .0) in
-      costs-whole n few (keptColumns m) m doubles (tests .1 .1)
+      let a = general-accepted m .0 (tests .1 .0) in
+      costs-whole (keptColumns m) m few doubles (tests .1 .1)
       (λ c i l u.
-      let p = GeneralLaws.place-in n m (a .1) c i l u in
+      let p = GeneralLaws.place-in m (a .1) c i l u in
       let k = getD (keptColumns m .places c) i 0 in
       (omega (arith, a .0 .stored, p .2), not-true (eq (getD (m .values) k nan) Constants.zero) (both (finite (getD (m .values) k nan)) _ (p .3) .1)))
 
-  pub general-optimal : (after : Slices) → after ≡ built n (keptColumns m) (valueLogs (m .values)) s → WholeGraph (graphLeft n after)
+  pub general-optimal : (after : Slices) → after ≡ built (m .pattern .n) (keptColumns m) (valueLogs (m .values)) s
+      → WholeGraph (graphLeft (m .pattern .n) after)
   general-optimal after e =
-      subst WholeGraph (sym (left-is n (keptColumns m) m s after e)) (whole-graph (graphBy n (keptColumns m) m) general-matched general-whole)
+      subst WholeGraph (sym (left-is (keptColumns m) m s after e)) (whole-graph (graphBy (keptColumns m) m) general-matched general-whole)
 
-pub general-fault-listed : (n : ℕ) (m : Matrix) (s : Slices) → Listed wholeGeneralNumbers (wholeGeneralFault n m s)
+pub general-fault-listed : (m : Matrix) (s : Slices) → Listed wholeGeneralNumbers (wholeGeneralFault m s)
 unfolding listed within generalInputFault finiteFault
-general-fault-listed n m s =
-    or-listed (part sizeNumbers (sizes-listed n maxGeneral (length (m .rows)) (slicesFit n (length (m .rows)) m (m .values) s)) refl)
-    (or-listed (part generalNumbers (general-listed n (m .colPtr) (m .rows) (m .values)) refl)
+general-fault-listed m s =
+    or-listed (part sizeNumbers (sizes-listed (m .pattern .n) maxGeneral (length (m .pattern .rowIdx))
+    (slicesFit (length (m .pattern .rowIdx)) m (m .values) s)) refl)
+    (or-listed (part generalNumbers (general-listed m) refl)
     (first-listed (length (m .values)) 0 refl (λ k. test (finite (getD (m .values) k nan)) valueNotFinite refl refl)))
 
-pub general-numbers : (n : ℕ) (m : Matrix) (s : Slices) → Listed wholeGeneralNumbers (numberOf (wholeGeneralGraph n m s .answer))
+pub general-numbers : (m : Matrix) (s : Slices) → Listed wholeGeneralNumbers (numberOf (wholeGeneralGraph m s .answer))
 unfolding wholeGeneralGraph
-general-numbers n m s = outcome-listed n (keptColumns m) (valueLogs (m .values)) s (wholeGeneralFault n m s) (general-fault-listed n m s)
+general-numbers m s = outcome-listed (m .pattern .n) (keptColumns m) (valueLogs (m .values)) s (wholeGeneralFault m s) (general-fault-listed m s)

@@ -31,37 +31,39 @@ unfoldable pub finiteFault : List Float → ℕ
 finiteFault values = firstOf (length values) (λ k. unless (finite (getD values k nan)) valueNotFinite) 0
 
 -- 3: whether every slice has its length. No logs are lent: the values stand in their place
-abbrev pub symmetricLengths : ℕ → Matrix → Slices → Bool
-symmetricLengths n m s = slicesFit n (2 * length (m .rows)) m (m .values) s
+abbrev pub symmetricLengths : Matrix → Slices → Bool
+symmetricLengths m s = slicesFit (2 * length (m .pattern .rowIdx)) m (m .values) s
 
-abbrev pub generalLengths : ℕ → Matrix → Slices → Bool
-generalLengths n m s = slicesFit n (length (m .rows)) m (m .values) s
+abbrev pub generalLengths : Matrix → Slices → Bool
+generalLengths m s = slicesFit (length (m .pattern .rowIdx)) m (m .values) s
 
 -- the first thing wrong, or 0; `lengths` says whether every slice has its length
-unfoldable pub symmetricInputFault : ℕ → Matrix → Bool → ℕ
-symmetricInputFault n m lengths =
-    orElse (sizeFault n maxSymmetric (length (m .rows)) lengths)
-    (orElse (symmetricFault n (m .colPtr) (m .rows) (m .values)) (finiteFault (m .values)))
+unfoldable pub symmetricInputFault : Matrix → Bool → ℕ
+symmetricInputFault m lengths =
+    orElse (sizeFault (m .pattern .n) maxSymmetric (length (m .pattern .rowIdx)) lengths)
+    (orElse (symmetricFault m) (finiteFault (m .values)))
 
-unfoldable pub generalInputFault : ℕ → Matrix → Bool → ℕ
-generalInputFault n m lengths =
-    orElse (sizeFault n maxGeneral (length (m .rows)) lengths)
-    (orElse (generalFault n (m .colPtr) (m .rows) (m .values)) (finiteFault (m .values)))
+unfoldable pub generalInputFault : Matrix → Bool → ℕ
+generalInputFault m lengths =
+    orElse (sizeFault (m .pattern .n) maxGeneral (length (m .pattern .rowIdx)) lengths)
+    (orElse (generalFault m) (finiteFault (m .values)))
 
 -- the same of what is lent
-abbrev pub wholeSymmetricFault : ℕ → Matrix → Slices → ℕ
-wholeSymmetricFault n m s = symmetricInputFault n m (symmetricLengths n m s)
+abbrev pub wholeSymmetricFault : Matrix → Slices → ℕ
+wholeSymmetricFault m s = symmetricInputFault m (symmetricLengths m s)
 
-abbrev pub wholeGeneralFault : ℕ → Matrix → Slices → ℕ
-wholeGeneralFault n m s = generalInputFault n m (generalLengths n m s)
+abbrev pub wholeGeneralFault : Matrix → Slices → ℕ
+wholeGeneralFault m s = generalInputFault m (generalLengths m s)
 
 -- ---- graphs
 -- what the building of each kind does
-unfoldable pub wholeSymmetricGraph : ℕ → Matrix → Slices → Outcome Built Slices
-wholeSymmetricGraph n m s = outcome (wholeSymmetricFault n m s) n (mirroredColumns m) (valueLogs (m .values)) s
+unfoldable pub wholeSymmetricGraph : Matrix → Slices → Outcome Built Slices
+wholeSymmetricGraph m s =
+    outcome (wholeSymmetricFault m s) (m .pattern .n) (mirroredColumns m) (valueLogs (m .values)) s
 
-unfoldable pub wholeGeneralGraph : ℕ → Matrix → Slices → Outcome Built Slices
-wholeGeneralGraph n m s = outcome (wholeGeneralFault n m s) n (keptColumns m) (valueLogs (m .values)) s
+unfoldable pub wholeGeneralGraph : Matrix → Slices → Outcome Built Slices
+wholeGeneralGraph m s =
+    outcome (wholeGeneralFault m s) (m .pattern .n) (keptColumns m) (valueLogs (m .values)) s
 
 -- ---- what is promised of the graph
 -- the graph that is left: its pointers, and rows and costs up to the last pointer
@@ -82,23 +84,23 @@ LeavesWhole number n after = number ≡ accepted → WholeGraph (graphLeft n aft
 
 -- ---- all that each call promises, of the matrix, what was lent, its answer r and what is left
 -- `whole_symmetric_graph`
-pub record SymmetricPromises (n : ℕ) (m : Matrix) (before : Slices) (r : Built) (after : Slices) : Type 0 where
+pub record SymmetricPromises (m : Matrix) (before : Slices) (r : Built) (after : Slices) : Type 0 where
   -- the answer and every slice left are the definition's
-  pub outcome : outcomeIs r after ≡ wholeSymmetricGraph n m before
+  pub outcome : outcomeIs r after ≡ wholeSymmetricGraph m before
   -- the number is the first fault's, and an accepted call tells how many entries the graph has
-  pub answered : AnswersBy (wholeSymmetricFault n m before) (keptBefore (mirroredColumns m) n) r
+  pub answered : AnswersBy (wholeSymmetricFault m before) (keptBefore (mirroredColumns m) (m .pattern .n)) r
   -- the match accepts the graph of an accepted call, and is optimal
-  pub optimal : LeavesWhole (numberOf r) n after
+  pub optimal : LeavesWhole (numberOf r) (m .pattern .n) after
   -- the number is one of the call's list
   pub number : OneOf wholeSymmetricNumbers (numberOf r)
 
 -- `whole_general_graph`
-pub record GeneralPromises (n : ℕ) (m : Matrix) (before : Slices) (r : Built) (after : Slices) : Type 0 where
+pub record GeneralPromises (m : Matrix) (before : Slices) (r : Built) (after : Slices) : Type 0 where
   -- the answer and every slice left are the definition's
-  pub outcome : outcomeIs r after ≡ wholeGeneralGraph n m before
+  pub outcome : outcomeIs r after ≡ wholeGeneralGraph m before
   -- the number is the first fault's, and an accepted call tells how many entries the graph has
-  pub answered : AnswersBy (wholeGeneralFault n m before) (keptBefore (keptColumns m) n) r
+  pub answered : AnswersBy (wholeGeneralFault m before) (keptBefore (keptColumns m) (m .pattern .n)) r
   -- the match accepts the graph of an accepted call, and is optimal
-  pub optimal : LeavesWhole (numberOf r) n after
+  pub optimal : LeavesWhole (numberOf r) (m .pattern .n) after
   -- the number is one of the call's list
   pub number : OneOf wholeGeneralNumbers (numberOf r)

@@ -28,8 +28,8 @@ fn values_fault(values: &[f64]) -> u32
 // The number of the first thing wrong with a symmetric matrix, or 0; `lengths` says whether every slice has its length.
 fn symmetric_fault(n: u32, col_ptr: &[u32], row_idx: &[u32], values: &[f64], lengths: bool) -> u32
     ensures { λ r.
-        let m = matrix (now («col_ptr» .entry)) (now («row_idx» .entry)) (now (values .entry)) in
-        ⌜ r ≡ symmetricInputFault n m lengths ⌝ }
+        let m = matrix n (now («col_ptr» .entry)) (now («row_idx» .entry)) (now (values .entry)) in
+        ⌜ r ≡ symmetricInputFault m lengths ⌝ }
 {
     let sizes = layout::size_fault(n, limits::MAX_SYMMETRIC, row_idx.len(), lengths);
     if sizes != refusal::ACCEPTED {
@@ -45,8 +45,8 @@ fn symmetric_fault(n: u32, col_ptr: &[u32], row_idx: &[u32], values: &[f64], len
 // The same of a general matrix.
 fn general_fault(n: u32, col_ptr: &[u32], row_idx: &[u32], values: &[f64], lengths: bool) -> u32
     ensures { λ r.
-        let m = matrix (now («col_ptr» .entry)) (now («row_idx» .entry)) (now (values .entry)) in
-        ⌜ r ≡ generalInputFault n m lengths ⌝ }
+        let m = matrix n (now («col_ptr» .entry)) (now («row_idx» .entry)) (now (values .entry)) in
+        ⌜ r ≡ generalInputFault m lengths ⌝ }
 {
     let sizes = layout::size_fault(n, limits::MAX_GENERAL, row_idx.len(), lengths);
     if sizes != refusal::ACCEPTED {
@@ -72,13 +72,13 @@ pub fn whole_symmetric_graph(
     work: &mut [u32],
 ) -> Built
     ensures { λ r.
-        let m = matrix (now («col_ptr» .entry)) (now («row_idx» .entry)) (now (values .entry)) in
+        let m = matrix n (now («col_ptr» .entry)) (now («row_idx» .entry)) (now (values .entry)) in
         let before = slices (now («graph_ptr» .entry)) (now («graph_rows» .entry)) (now (cost .entry))
         (now (cmax .entry))
         (now (work .entry)) in
         let after = slices (now («graph_ptr» .exit)) (now («graph_rows» .exit)) (now (cost .exit)) (now (cmax .exit))
         (now (work .exit)) in
-        ⌜ SymmetricPromises n m before r after ⌝ }
+        ⌜ SymmetricPromises m before r after ⌝ }
 {
     let size = n as usize;
     let fit = mc64_symmetric::lengths_fit(
@@ -126,13 +126,13 @@ pub fn whole_general_graph(
     work: &mut [u32],
 ) -> Built
     ensures { λ r.
-        let m = matrix (now («col_ptr» .entry)) (now («row_idx» .entry)) (now (values .entry)) in
+        let m = matrix n (now («col_ptr» .entry)) (now («row_idx» .entry)) (now (values .entry)) in
         let before = slices (now («graph_ptr» .entry)) (now («graph_rows» .entry)) (now (cost .entry))
         (now (cmax .entry))
         (now (work .entry)) in
         let after = slices (now («graph_ptr» .exit)) (now («graph_rows» .exit)) (now (cost .exit)) (now (cmax .exit))
         (now (work .exit)) in
-        ⌜ GeneralPromises n m before r after ⌝ }
+        ⌜ GeneralPromises m before r after ⌝ }
 {
     let size = n as usize;
     let fit = mc64_general::lengths_fit(

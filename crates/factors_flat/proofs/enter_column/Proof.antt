@@ -17,7 +17,7 @@ use Rattle.factors_flat.proofs.enter_column.Tie as tie
 abbrev Inv-loop : tie.InvT-loop
 Inv-loop j col-ptr row-idx values logs factors₀ work₀ k₀ k-end factors work k =
     (getD col-ptr j 0 ≤ k) × (k ≤ getD col-ptr (j + 1) 0) × (length factors ≡ length factors₀) × (length work ≡ length work₀)
-    × Enters (length factors₀) (matrix col-ptr row-idx values) logs (getD col-ptr j 0) k (slices factors₀ work₀) (slices factors work)
+    × Enters (matrix (length factors₀) col-ptr row-idx values) logs (getD col-ptr j 0) k (slices factors₀ work₀) (slices factors work)
 
 abbrev μ-loop : tie.MeasureT-loop
 μ-loop j col-ptr row-idx values logs factors₀ work₀ k₀ k-end factors work k = getD col-ptr (j + 1) 0 - k
@@ -58,9 +58,9 @@ entry-of-slice-known4 c = entry-of-in-loop (in-loop-of-slice-known4 c)
 
 -- the place k stands in column j
 in-column : (c : tie.In-loop Inv-loop μ-loop) → let a = entry-of-in-loop c .args in
-    In (matrix (a .col-ptr .now) (a .row-idx .now) (a .values .now)) (a .j) (c .before .loop .k)
+    In (matrix (length (a .factors .now)) (a .col-ptr .now) (a .row-idx .now) (a .values .now)) (a .j) (c .before .loop .k)
 in-column c = record {
-  column = omega (arith, entry-of-in-loop c .pre .0, entry-of-in-loop c .pre .1 .pointers);
+  column = entry-of-in-loop c .pre .0 .0;
   from = c .before .loop .inv .0;
   to =
       rw add-one at (c .loop-test .taken);
@@ -81,17 +81,17 @@ facts : (c : tie.In-loop Inv-loop μ-loop) → let a = entry-of-in-loop c .args 
 facts c =
     let a = entry-of-in-loop c .args in
     let p = entry-of-in-loop c .pre in
-    let m = matrix (a .col-ptr .now) (a .row-idx .now) (a .values .now) in
+    let m = matrix (length (a .factors .now)) (a .col-ptr .now) (a .row-idx .now) (a .values .now) in
     let l = c .before .loop in
     record {
       place = place-below m (p .1 .triangle) (in-column c);
-      row = omega (arith, row-below m (p .1 .triangle) (in-column c), p .1 .pointers, l .inv .2);
+      row = omega (arith, row-below m (p .1 .triangle) (in-column c), l .inv .2);
       few = p .1 .triangle .entries;
       same = omega (arith, p .0 .1, l .inv .2, l .inv .3);
       column = omega (arith, p .0 .0, l .inv .2);
       valued = p .1 .triangle .stored;
       logged = p .1 .logged;
-      small = omega (arith, p .1 .triangle .few, p .1 .pointers, l .inv .2);
+      small = omega (arith, p .1 .triangle .few, p .1 .triangle .colptrs, l .inv .2);
     }
 
 mul-k : tie.Need-mul-k Inv-loop μ-loop
@@ -121,8 +121,8 @@ loop-holds c =
     let p = entry-of-shared-slice-known6 c .pre in (
       omega arith,
       subst (λ (i : ℕ). getD (a .col-ptr .now) (a .j) 0 ≤ getD (a .col-ptr .now) i 0) (omega arith)
-          (pointers-up (matrix (a .col-ptr .now) (a .row-idx .now) (a .values .now)) (p .1 .triangle) (a .j) (a .j + 1) (omega arith)
-          (omega (arith, p .1 .pointers))),
+          (pointers-up (matrix (length (a .factors .now)) (a .col-ptr .now) (a .row-idx .now) (a .values .now)) (p .1 .triangle) (a .j) (a .j + 1) (omega arith)
+          (omega (arith, p .0 .0))),
       refl,
       refl,
       enters-none _ _,
@@ -200,7 +200,7 @@ loop-again-2 c =
       omega (arith, in-loop-of-slice-known4 c .loop-test .taken),
       enter-of-slice-known4 c .enter .kept .1 .1 .1 .0 ∙ loop-of-slice-known4 c .loop .inv .2,
       enter-of-slice-known4 c .enter .kept .1 .1 .1 .1 .0 ∙ loop-of-slice-known4 c .loop .inv .3,
-      enters-more (p .1 .triangle) (omega (arith, p .1 .pointers)) (in-column
+      enters-more (p .1 .triangle) (in-column
           (in-loop-of-slice-known4 c)) (else1-of-slice-known4 c .if1 .left) (enter-of-slice-known4 c .enter .ensures)
           (loop-of-slice-known4 c .loop .inv .4),
     )
@@ -215,7 +215,7 @@ returns : tie.Need-returns Inv-loop μ-loop
 returns c =
     let a = entry-of-shared-slice-known6 (c .before .before) .args in
     let e : c .before .loop .k ≡ getD (a .col-ptr .now) (a .j + 1) 0 = omega arith in
-    subst (λ (k : ℕ). Enters (length (a .factors .now)) (matrix (a .col-ptr .now) (a .row-idx .now) (a .values .now)) (a .logs .now)
+    subst (λ (k : ℕ). Enters (matrix (length (a .factors .now)) (a .col-ptr .now) (a .row-idx .now) (a .values .now)) (a .logs .now)
     (getD (a .col-ptr .now) (a .j) 0) k (slices (a .factors .now) (a .work .now))
     (slices (c .before .loop .factors) (c .before .loop .work))) e (c .before .loop .inv .4)
 

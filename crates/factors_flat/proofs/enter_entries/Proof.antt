@@ -12,7 +12,7 @@ use Rattle.factors_flat.proofs.enter_entries.Tie as tie
 
 abbrev Inv-loop : tie.InvT-loop
 Inv-loop n col-ptr row-idx values logs factors₀ work₀ j₀ factors work j = (j ≤ n) × (length factors ≡ n) × (length work ≡ n)
-    × Enters n (matrix col-ptr row-idx values) logs 0 (getD col-ptr j 0) (slices factors₀ work₀) (slices factors work)
+    × Enters (matrix n col-ptr row-idx values) logs 0 (getD col-ptr j 0) (slices factors₀ work₀) (slices factors work)
 
 abbrev μ-loop : tie.MeasureT-loop
 μ-loop n col-ptr row-idx values logs factors₀ work₀ j₀ factors work j = n - j
@@ -49,7 +49,7 @@ loop-holds c =
       omega arith,
       p .0 .0,
       p .0 .1,
-      subst (λ (k : ℕ). Enters (a .n) (matrix (a .col-ptr .now) (a .row-idx .now) (a .values .now)) (a .logs .now) 0 k
+      subst (λ (k : ℕ). Enters (matrix (a .n) (a .col-ptr .now) (a .row-idx .now) (a .values .now)) (a .logs .now) 0 k
           (slices (a .factors .now) (a .work .now)) (slices (a .factors .now) (a .work .now))) (sym (p .1 .triangle .columns .pointers .first))
           (enters-none 0 _),
     )
@@ -62,14 +62,14 @@ enter-column-requires c κs =
         loop-of-enter-column-arg2 c .loop .inv .2
             ∙ sym (loop-of-enter-column-arg2 c .loop .inv .1),
       ),
-      subst (λ (i : ℕ). Ready i (matrix (a .col-ptr .now) (a .row-idx .now) (a .values .now)) (a .logs .now)) (sym
+      subst (λ (i : ℕ). Ready (matrix i (a .col-ptr .now) (a .row-idx .now) (a .values .now)) (a .logs .now)) (sym
           (loop-of-enter-column-arg2 c .loop .inv .1)) (entry-of-enter-column-arg2 c .pre .1),
     )
 
 add-j : tie.Need-add-j Inv-loop μ-loop
 add-j c =
     let p = entry-of-slice-known4 c .pre in
-    omega (arith, in-loop-of-slice-known4 c .loop-test .taken, p .1 .triangle .few, p .1 .pointers)
+    omega (arith, in-loop-of-slice-known4 c .loop-test .taken, p .1 .triangle .few)
 
 loop-less : tie.Need-loop-less Inv-loop μ-loop
 loop-less c = omega (arith, in-loop-of-slice-known4 c .loop-test .taken)
@@ -93,8 +93,8 @@ returns : tie.Need-returns Inv-loop μ-loop
 returns c =
     let a = entry-of-after-loop c .args in
     let p = entry-of-after-loop c .pre in
-    let e : c .before .loop .j ≡ length (a .col-ptr .now) - 1 = omega (arith, p .1 .pointers, c .before .loop .inv .0, c .loop-test .left) in
-    subst (λ (k : ℕ). Enters (a .n) (matrix (a .col-ptr .now) (a .row-idx .now) (a .values .now)) (a .logs .now) 0 k
+    let e : c .before .loop .j ≡ a .n = omega (arith, c .before .loop .inv .0, c .loop-test .left) in
+    subst (λ (k : ℕ). Enters (matrix (a .n) (a .col-ptr .now) (a .row-idx .now) (a .values .now)) (a .logs .now) 0 k
     (slices (a .factors .now) (a .work .now))
     (slices (c .before .loop .factors) (c .before .loop .work)))
     (ap (λ (i : ℕ). getD (a .col-ptr .now) i 0) e ∙ p .1 .triangle .columns .pointers .last) (c .before .loop .inv .3)

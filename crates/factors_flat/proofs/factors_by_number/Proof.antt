@@ -35,7 +35,7 @@ low c = omega (arith, c .if1 .left)
 returns : tie.Need-returns
 returns c =
     let a = (entry-of-Then1 c) .args in
-    let g = input (a .n) (matchOf (a .perm .now) (a .u .now) (a .v .now) (a .cmax .now)) (matrix (a .col-ptr .now) (a .row-idx .now) (a .values .now))
+    let g = input (matchOf (a .perm .now) (a .u .now) (a .v .now) (a .cmax .now)) (matrix (a .n) (a .col-ptr .now) (a .row-idx .now) (a .values .now))
     (a .logs .now) in
     let s = slices (a .factors .now) (a .work .now) in
     no-rule (a .number) (a .matched) g s (a .unmatched .now) (c .if1 .taken)
@@ -46,7 +46,7 @@ unfit-fault-requires c κs = search needs
 returns-2 : tie.Need-returns-2
 returns-2 c =
     let a = (entry-of-Else1 (c .before .before)) .args in
-    let g = input (a .n) (matchOf (a .perm .now) (a .u .now) (a .v .now) (a .cmax .now)) (matrix (a .col-ptr .now) (a .row-idx .now) (a .values .now))
+    let g = input (matchOf (a .perm .now) (a .u .now) (a .v .now) (a .cmax .now)) (matrix (a .n) (a .col-ptr .now) (a .row-idx .now) (a .values .now))
     (a .logs .now) in
     let s = slices (a .factors .now) (a .work .now) in
     unfit (a .number) (a .matched) g s (a .unmatched .now) (low (c .before .before)) (c .before .if2 .taken) (c .unfit-fault .ensures)
@@ -84,7 +84,7 @@ same-length-3 c = search needs
 returns-3 : tie.Need-returns-3
 returns-3 c =
     let a = (entry-of-called (c .before .before .before .before .before .before)) .args in
-    let g = input (a .n) (matchOf (a .perm .now) (a .u .now) (a .v .now) (a .cmax .now)) (matrix (a .col-ptr .now) (a .row-idx .now) (a .values .now))
+    let g = input (matchOf (a .perm .now) (a .u .now) (a .v .now) (a .cmax .now)) (matrix (a .n) (a .col-ptr .now) (a .row-idx .now) (a .values .now))
     (a .logs .now) in
     let s = slices (a .factors .now) (a .work .now) in
     applied (a .number) (a .matched) g s (a .unmatched .now) (low (Else1-of-called (c .before .before .before .before .before .before)))
@@ -104,7 +104,7 @@ same-length-6 c = search needs
 returns-4 : tie.Need-returns-4
 returns-4 c =
     let a = (entry-of-called (c .before .before .before .before .before .before .before)) .args in
-    let g = input (a .n) (matchOf (a .perm .now) (a .u .now) (a .v .now) (a .cmax .now)) (matrix (a .col-ptr .now) (a .row-idx .now) (a .values .now))
+    let g = input (matchOf (a .perm .now) (a .u .now) (a .v .now) (a .cmax .now)) (matrix (a .n) (a .col-ptr .now) (a .row-idx .now) (a .values .now))
     (a .logs .now) in
     let s = slices (a .factors .now) (a .work .now) in
     partial (a .number) (a .matched) g s (a .unmatched .now) (low (Else1-of-called (c .before .before .before .before .before .before .before)))
@@ -121,7 +121,7 @@ same-length-8 c = search needs
 returns-5 : tie.Need-returns-5
 returns-5 c =
     let a = (entry-of-called (c .before .before .before .before .before .before .before)) .args in
-    let g = input (a .n) (matchOf (a .perm .now) (a .u .now) (a .v .now) (a .cmax .now)) (matrix (a .col-ptr .now) (a .row-idx .now) (a .values .now))
+    let g = input (matchOf (a .perm .now) (a .u .now) (a .v .now) (a .cmax .now)) (matrix (a .n) (a .col-ptr .now) (a .row-idx .now) (a .values .now))
     (a .logs .now) in
     let s = slices (a .factors .now) (a .work .now) in
     refused (a .number) (a .matched) g s (a .unmatched .now) (low (Else1-of-called (c .before .before .before .before .before .before .before)))

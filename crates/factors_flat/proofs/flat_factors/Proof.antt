@@ -33,7 +33,7 @@ else1-of-slice-known4 c = else1-of-write-flat (c .before .before .before .before
 abbrev given : tie.Start → Input
 given c =
     let a = c .args in
-    input (a .n) (matchOf (a .perm .now) (a .u .now) (a .v .now) (a .cmax .now)) (matrix (a .col-ptr .now) (a .row-idx .now) (a .values .now)) (a .logs .now)
+    input (matchOf (a .perm .now) (a .u .now) (a .v .now) (a .cmax .now)) (matrix (a .n) (a .col-ptr .now) (a .row-idx .now) (a .values .now)) (a .logs .now)
 
 abbrev lent : tie.Start → Slices
 lent c = slices (c .args .factors .now) (c .args .work .now)

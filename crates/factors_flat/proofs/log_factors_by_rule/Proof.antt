@@ -34,8 +34,8 @@ same-length-2 c = search needs
 returns : tie.Need-returns
 returns c =
     let a = entry-of-slice-known2 (c .before .before .before .before .before .before .before .before .before) .args in
-    promised (a .matched) (input (a .n) (matchOf (a .perm .now) (a .u .now) (a .v .now) (a .cmax .now))
-    (matrix (a .col-ptr .now) (a .row-idx .now) (a .values .now)) (a .logs .now)) (slices (a .factors .now) (a .work .now)) (a .rule) Identity
+    promised (a .matched) (input (matchOf (a .perm .now) (a .u .now) (a .v .now) (a .cmax .now))
+    (matrix (a .n) (a .col-ptr .now) (a .row-idx .now) (a .values .now)) (a .logs .now)) (slices (a .factors .now) (a .work .now)) (a .rule) Identity
     (c .before .before .before .before .before .before .before .enum-told .given .1) (c .before .before .before .before .log-factors .ensures .outcome)
 
 same-length-3 : tie.Need-same-length-3
@@ -47,8 +47,8 @@ same-length-4 c = search needs
 returns-2 : tie.Need-returns-2
 returns-2 c =
     let a = entry-of-slice-known2 (c .before .before .before .before .before .before .before .before .before) .args in
-    promised (a .matched) (input (a .n) (matchOf (a .perm .now) (a .u .now) (a .v .now) (a .cmax .now))
-    (matrix (a .col-ptr .now) (a .row-idx .now) (a .values .now)) (a .logs .now)) (slices (a .factors .now) (a .work .now)) (a .rule) Flat
+    promised (a .matched) (input (matchOf (a .perm .now) (a .u .now) (a .v .now) (a .cmax .now))
+    (matrix (a .n) (a .col-ptr .now) (a .row-idx .now) (a .values .now)) (a .logs .now)) (slices (a .factors .now) (a .work .now)) (a .rule) Flat
     (c .before .before .before .before .before .before .before .enum-told2 .given .1) (c .before .before .before .before .flat-factors .ensures)
 
 pub log-factors-by-rule-spec : {M : Type 1} → statement M

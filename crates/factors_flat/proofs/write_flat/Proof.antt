@@ -71,7 +71,7 @@ same-length-2 c = search needs
 returns : tie.Need-returns
 returns c =
     let a = entry-of-slice-known8 c .args in
-    flat-written (a .n) (matchOf (a .perm .now) (a .u .now) (a .v .now) (a .cmax .now)) (matrix (a .col-ptr .now) (a .row-idx .now) (a .values .now))
+    flat-written (matchOf (a .perm .now) (a .u .now) (a .v .now) (a .cmax .now)) (matrix (a .n) (a .col-ptr .now) (a .row-idx .now) (a .values .now))
     (a .logs .now)
     (fill-matched-of-slice-known8 c .fill-matched .ensures)
     (enter-entries-of-slice-known8 c .enter-entries .ensures) (turn-sums-of-slice-known8 c .turn-sums .ensures) (c .before .before .clear .ensures)

@@ -50,19 +50,18 @@ pub record MarkedTo (n : ℕ) (perm : List ℕ) (cmax : List Float) (k : ℕ) (w
 
 -- ---- the stored entries
 -- a matrix that was accepted
-pub record Ready (n : ℕ) (m : Matrix) (logs : List Float) : Type 0 where
+pub record Ready (m : Matrix) (logs : List Float) : Type 0 where
   pub triangle : Triangle m
-  pub pointers : length (m .colPtr) ≡ n + 1
-  pub logged : length logs ≡ length (m .rows)
+  pub logged : length logs ≡ length (m .pattern .rowIdx)
 
 -- the sums over the first k stored places
 abbrev pub sumsTo : Input → ℕ → ℕ → List Float
 sumsTo g k i = sumsOver g i (placesTo (g .stored) i k)
 
 -- from the sums over the first k places to those over the first l, for any match
-pub record Enters (n : ℕ) (m : Matrix) (logs : List Float) (k l : ℕ) (before after : Slices) : Type 0 where
-  pub levels : (c : Match Float) → Levelled n c (sumsTo (input n c m logs) k) before
-      → Levelled n c (sumsTo (input n c m logs) l) after
+pub record Enters (m : Matrix) (logs : List Float) (k l : ℕ) (before after : Slices) : Type 0 where
+  pub levels : (c : Match Float) → Levelled (m .pattern .n) c (sumsTo (input c m logs) k) before
+      → Levelled (m .pattern .n) c (sumsTo (input c m logs) l) after
 
 -- ---- one entry
 -- the larger of what is held and a sum, which counts if it is the first or strictly larger

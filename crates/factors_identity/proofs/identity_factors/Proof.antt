@@ -38,7 +38,7 @@ unfolding identityFactors
 returns c =
     let args = entry-of-lengths-fit (c .before .before) .args in
     filled-refused (replicate (args .n) Constants.one) (args .factors .now)
-    (onepass-fault (args .n) (matrix (args .col-ptr .now) (args .row-idx .now) (args .values .now)) (args .factors .now)
+    (onepass-fault (matrix (args .n) (args .col-ptr .now) (args .row-idx .now) (args .values .now)) (args .factors .now)
     (c .before .input-fault .ensures) (c .before .before .lengths-fit .ensures)) (c .if1 .taken)
 
 fill-requires : tie.Need-fill-requires
@@ -51,13 +51,13 @@ returns-2 : tie.Need-returns-2
 unfolding identityFactors
 returns-2 c =
     let args = entry-of-slice-known2 c .args in
-    let fine = sym (onepass-fault (args .n) (matrix (args .col-ptr .now) (args .row-idx .now) (args .values .now))
+    let fine = sym (onepass-fault (matrix (args .n) (args .col-ptr .now) (args .row-idx .now) (args .values .now))
     (args .factors .now) (else1-of-slice-known2 c .before .input-fault .ensures)
     (lengths-fit-of-slice-known2 c .lengths-fit .ensures)) ∙
     else1-of-slice-known2 c .if1 .left in
     filled-done (replicate (args .n) Constants.one) (args .factors .now) fine
     (c .before .before .fill .ensures ∙ ap (λ (k : ℕ). replicate k Constants.one)
-    (onepass-room (args .n) (matrix (args .col-ptr .now) (args .row-idx .now) (args .values .now)) (args .factors .now) fine))
+    (onepass-room (matrix (args .n) (args .col-ptr .now) (args .row-idx .now) (args .values .now)) (args .factors .now) fine))
 
 pub identity-factors-spec : {M : Type 1} → statement M
 identity-factors-spec =

@@ -84,10 +84,10 @@ same-length c = search needs
 returns : tie.Need-returns
 returns c =
     let args = (entry-of-input-fault (c .before)) .args in
-    infnorm-promised (args .n) (matrix (args .col-ptr .now) (args .row-idx .now) (args .values .now)) (args .factors .now) (args .work .now)
+    infnorm-promised (matrix (args .n) (args .col-ptr .now) (args .row-idx .now) (args .values .now)) (args .factors .now) (args .work .now)
     (refused-is (c .if1 .taken))
-    (infnorm-refused (args .n) (matrix (args .col-ptr .now) (args .row-idx .now) (args .values .now)) (args .factors .now)
-    (args .work .now) (infnorm-fault (args .n) (matrix (args .col-ptr .now) (args .row-idx .now) (args .values .now))
+    (infnorm-refused (matrix (args .n) (args .col-ptr .now) (args .row-idx .now) (args .values .now)) (args .factors .now)
+    (args .work .now) (infnorm-fault (matrix (args .n) (args .col-ptr .now) (args .row-idx .now) (args .values .now))
     (args .factors .now) (args .work .now) (c .before .input-fault .ensures) (c .before .before .lengths-fit .ensures))
     (c .if1 .taken))
 
@@ -100,18 +100,18 @@ iterate-requires c κs =
     let input-fault = input-fault-of-fill (c .before .before .before .before) in
     let lengths-fit = lengths-fit-of-fill (c .before .before .before .before) in
     let Else1 = Else1-of-fill (c .before .before .before .before) in (
-      matrix-accepted (args .n) (matrix (args .col-ptr .now) (args .row-idx .now) (args .values .now))
-          (infnormLengths (args .n) (matrix (args .col-ptr .now) (args .row-idx .now) (args .values .now)) (args .factors .now)
-          (args .work .now)) (sym (infnorm-fault (args .n) (matrix (args .col-ptr .now) (args .row-idx .now) (args .values .now))
+      matrix-accepted (matrix (args .n) (args .col-ptr .now) (args .row-idx .now) (args .values .now))
+          (infnormLengths (matrix (args .n) (args .col-ptr .now) (args .row-idx .now) (args .values .now)) (args .factors .now)
+          (args .work .now)) (sym (infnorm-fault (matrix (args .n) (args .col-ptr .now) (args .row-idx .now) (args .values .now))
           (args .factors .now) (args .work .now) (input-fault .input-fault .ensures) (lengths-fit .lengths-fit .ensures)) ∙
           Else1 .if1 .left),
       (
-        c .before .before .before .before .fill .kept .0 ∙ infnorm-room (args .n)
-            (matrix (args .col-ptr .now) (args .row-idx .now) (args .values .now)) (args .factors .now) (args .work .now)
-            (sym (infnorm-fault (args .n) (matrix (args .col-ptr .now) (args .row-idx .now) (args .values .now)) (args .factors .now)
+        c .before .before .before .before .fill .kept .0 ∙ infnorm-room
+            (matrix (args .n) (args .col-ptr .now) (args .row-idx .now) (args .values .now)) (args .factors .now) (args .work .now)
+            (sym (infnorm-fault (matrix (args .n) (args .col-ptr .now) (args .row-idx .now) (args .values .now)) (args .factors .now)
             (args .work .now) (input-fault .input-fault .ensures) (lengths-fit .lengths-fit .ensures)) ∙ Else1 .if1 .left) .0,
-        infnorm-room (args .n) (matrix (args .col-ptr .now) (args .row-idx .now) (args .values .now)) (args .factors .now)
-            (args .work .now) (sym (infnorm-fault (args .n) (matrix (args .col-ptr .now) (args .row-idx .now) (args .values .now))
+        infnorm-room (matrix (args .n) (args .col-ptr .now) (args .row-idx .now) (args .values .now)) (args .factors .now)
+            (args .work .now) (sym (infnorm-fault (matrix (args .n) (args .col-ptr .now) (args .row-idx .now) (args .values .now))
             (args .factors .now) (args .work .now) (input-fault .input-fault .ensures) (lengths-fit .lengths-fit .ensures)) ∙
             Else1 .if1 .left) .1,
       ),
@@ -130,9 +130,9 @@ returns-2 : tie.Need-returns-2
 returns-2 c =
     let args = (entry-of-slice-known6 c) .args in
     let iterate = iterate-of-slice-known6 c in
-    infnorm-promised (args .n) (matrix (args .col-ptr .now) (args .row-idx .now) (args .values .now)) (args .factors .now) (args .work .now) (accepted-is refl)
-    (infnorm-done (args .n) (matrix (args .col-ptr .now) (args .row-idx .now) (args .values .now)) (args .factors .now)
-    (args .work .now) (sym (infnorm-fault (args .n) (matrix (args .col-ptr .now) (args .row-idx .now) (args .values .now))
+    infnorm-promised (matrix (args .n) (args .col-ptr .now) (args .row-idx .now) (args .values .now)) (args .factors .now) (args .work .now) (accepted-is refl)
+    (infnorm-done (matrix (args .n) (args .col-ptr .now) (args .row-idx .now) (args .values .now)) (args .factors .now)
+    (args .work .now) (sym (infnorm-fault (matrix (args .n) (args .col-ptr .now) (args .row-idx .now) (args .values .now))
     (args .factors .now) (args .work .now) ((input-fault-of-slice-known6 c) .input-fault .ensures)
     ((lengths-fit-of-slice-known6 c) .lengths-fit .ensures)) ∙ (Else1-of-slice-known6 c) .if1 .left)
     ((fill-of-slice-known6 c) .fill .ensures) (iterate .iterate .ensures) (iterate .iterate .kept .1 .1 .1 .1 .1 .0)

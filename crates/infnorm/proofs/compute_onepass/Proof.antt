@@ -40,22 +40,22 @@ same-length c = search needs
 returns : tie.Need-returns
 returns c =
     let args = entry-of-lengths-fit (c .before .before) .args in
-    onepass-promised (args .n) (matrix (args .col-ptr .now) (args .row-idx .now) (args .values .now)) (args .factors .now) (refused-is (c .if1 .taken))
-    (onepass-refused (args .n) (matrix (args .col-ptr .now) (args .row-idx .now) (args .values .now)) (args .factors .now)
-    (onepass-fault (args .n) (matrix (args .col-ptr .now) (args .row-idx .now) (args .values .now)) (args .factors .now)
+    onepass-promised (matrix (args .n) (args .col-ptr .now) (args .row-idx .now) (args .values .now)) (args .factors .now) (refused-is (c .if1 .taken))
+    (onepass-refused (matrix (args .n) (args .col-ptr .now) (args .row-idx .now) (args .values .now)) (args .factors .now)
+    (onepass-fault (matrix (args .n) (args .col-ptr .now) (args .row-idx .now) (args .values .now)) (args .factors .now)
     (c .before .input-fault .ensures) (c .before .before .lengths-fit .ensures)) (c .if1 .taken))
 
 value-maxima-requires : tie.Need-value-maxima-requires
 value-maxima-requires c κs =
     let args = entry-of-value-maxima-arg c .args in
     let lengths-fit = c .before .before .before in (
-      matrix-accepted (args .n) (matrix (args .col-ptr .now) (args .row-idx .now) (args .values .now))
-          (lengthsFit (args .n) (matrix (args .col-ptr .now) (args .row-idx .now) (args .values .now)) (args .factors .now))
-          (sym (onepass-fault (args .n) (matrix (args .col-ptr .now) (args .row-idx .now) (args .values .now)) (args .factors .now)
+      matrix-accepted (matrix (args .n) (args .col-ptr .now) (args .row-idx .now) (args .values .now))
+          (lengthsFit (matrix (args .n) (args .col-ptr .now) (args .row-idx .now) (args .values .now)) (args .factors .now))
+          (sym (onepass-fault (matrix (args .n) (args .col-ptr .now) (args .row-idx .now) (args .values .now)) (args .factors .now)
           (c .before .before .input-fault .ensures) (lengths-fit .lengths-fit .ensures)) ∙ c .before .if1 .left),
       onepass-room
-          (args .n) (matrix (args .col-ptr .now) (args .row-idx .now) (args .values .now)) (args .factors .now)
-          (sym (onepass-fault (args .n) (matrix (args .col-ptr .now) (args .row-idx .now) (args .values .now)) (args .factors .now)
+          (matrix (args .n) (args .col-ptr .now) (args .row-idx .now) (args .values .now)) (args .factors .now)
+          (sym (onepass-fault (matrix (args .n) (args .col-ptr .now) (args .row-idx .now) (args .values .now)) (args .factors .now)
           (c .before .before .input-fault .ensures) (lengths-fit .lengths-fit .ensures)) ∙ c .before .if1 .left),
     )
 
@@ -68,9 +68,9 @@ same-length-2 c = search needs
 returns-2 : tie.Need-returns-2
 returns-2 c =
     let args = entry-of-slice-known3 c .args in
-    onepass-promised (args .n) (matrix (args .col-ptr .now) (args .row-idx .now) (args .values .now)) (args .factors .now) (accepted-is refl)
-    (onepass-done (args .n) (matrix (args .col-ptr .now) (args .row-idx .now) (args .values .now)) (args .factors .now)
-    (sym (onepass-fault (args .n) (matrix (args .col-ptr .now) (args .row-idx .now) (args .values .now)) (args .factors .now)
+    onepass-promised (matrix (args .n) (args .col-ptr .now) (args .row-idx .now) (args .values .now)) (args .factors .now) (accepted-is refl)
+    (onepass-done (matrix (args .n) (args .col-ptr .now) (args .row-idx .now) (args .values .now)) (args .factors .now)
+    (sym (onepass-fault (matrix (args .n) (args .col-ptr .now) (args .row-idx .now) (args .values .now)) (args .factors .now)
     (else1-of-slice-known3 c .before .input-fault .ensures)
     (lengths-fit-of-slice-known3 c .lengths-fit .ensures)) ∙
     else1-of-slice-known3 c .if1 .left)

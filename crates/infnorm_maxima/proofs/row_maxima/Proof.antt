@@ -13,8 +13,8 @@ use Rattle.infnorm_maxima.proofs.row_maxima.Tie as tie
 
 abbrev Inv-loop : tie.InvT-loop
 Inv-loop n colPtr rows values factors work₀ j₀ work j =
-    (j ≤ n) × (length work ≡ n) × Walked (scaledSizes rows values factors) (matrix colPtr rows values)
-    (rowMaxima (scaledSizes rows values factors) (matrix colPtr rows values) n) n j work
+    (j ≤ n) × (length work ≡ n) × Walked (scaledSizes rows values factors) (matrix n colPtr rows values)
+    (rowMaxima (scaledSizes rows values factors) (matrix n colPtr rows values)) n j work
 
 abbrev μ-loop : tie.MeasureT-loop
 μ-loop n colPtr rows values factors work₀ j₀ work j = n - j
@@ -52,7 +52,7 @@ loop-holds c =
       c .before .before .fill .kept .0 ∙ (pre .1 .1),
       maxima-start
           (scaledSizes (args .row-idx .now) (args .values .now) (args .factors .now))
-          (matrix (args .col-ptr .now) (args .row-idx .now) (args .values .now)) (args .n)
+          (matrix (args .n) (args .col-ptr .now) (args .row-idx .now) (args .values .now))
           (c .before .before .fill .ensures ∙ ap (λ (k : ℕ). replicate k Constants.zero) (pre .1 .1)),
     )
 
@@ -61,7 +61,7 @@ mul-from c =
     let args = entry-of-in-loop c .args in
     omega (
       arith,
-      pointers-fit (args .n) (c .before .loop .j) (matrix (args .col-ptr .now) (args .row-idx .now) (args .values .now))
+      pointers-fit (c .before .loop .j) (matrix (args .n) (args .col-ptr .now) (args .row-idx .now) (args .values .now))
           (entry-of-in-loop c .pre .0) (c .loop-test .taken),
     )
 
@@ -70,7 +70,7 @@ shared-slice-read-from c =
     let args = entry-of-shared-slice-known5 c .args in
     omega (
       arith,
-      pointers-fit (args .n) (c .before .before .loop .j) (matrix (args .col-ptr .now) (args .row-idx .now) (args .values .now))
+      pointers-fit (c .before .before .loop .j) (matrix (args .n) (args .col-ptr .now) (args .row-idx .now) (args .values .now))
           (entry-of-shared-slice-known5 c .pre .0) (c .before .loop-test .taken),
     )
 
@@ -79,7 +79,7 @@ cast-from c =
     let args = entry-of-shared-slice-known5 c .args in
     omega (
       arith,
-      pointers-fit (args .n) (c .before .before .loop .j) (matrix (args .col-ptr .now) (args .row-idx .now) (args .values .now))
+      pointers-fit (c .before .before .loop .j) (matrix (args .n) (args .col-ptr .now) (args .row-idx .now) (args .values .now))
           (entry-of-shared-slice-known5 c .pre .0) (c .before .loop-test .taken),
     )
 
@@ -88,7 +88,7 @@ add-to c =
     let args = entry-of-shared-slice-known5 c .args in
     omega (
       arith,
-      pointers-fit (args .n) (c .before .before .loop .j) (matrix (args .col-ptr .now) (args .row-idx .now) (args .values .now))
+      pointers-fit (c .before .before .loop .j) (matrix (args .n) (args .col-ptr .now) (args .row-idx .now) (args .values .now))
           (entry-of-shared-slice-known5 c .pre .0) (c .before .loop-test .taken),
     )
 
@@ -97,7 +97,7 @@ mul-to c =
     let args = entry-of-shared-slice-known5 c .args in
     omega (
       arith,
-      pointers-fit (args .n) (c .before .before .loop .j) (matrix (args .col-ptr .now) (args .row-idx .now) (args .values .now))
+      pointers-fit (c .before .before .loop .j) (matrix (args .n) (args .col-ptr .now) (args .row-idx .now) (args .values .now))
           (entry-of-shared-slice-known5 c .pre .0) (c .before .loop-test .taken),
     )
 
@@ -106,8 +106,8 @@ shared-slice-read-to c =
     let args = entry-of-shared-slice-known6 c .args in
     omega (
       arith,
-      pointers-fit (args .n) (c .before .before .before .loop .j)
-          (matrix (args .col-ptr .now) (args .row-idx .now) (args .values .now)) (entry-of-shared-slice-known6 c .pre .0)
+      pointers-fit (c .before .before .before .loop .j)
+          (matrix (args .n) (args .col-ptr .now) (args .row-idx .now) (args .values .now)) (entry-of-shared-slice-known6 c .pre .0)
           (c .before .before .loop-test .taken),
     )
 
@@ -116,8 +116,8 @@ cast-to c =
     let args = entry-of-shared-slice-known6 c .args in
     omega (
       arith,
-      pointers-fit (args .n) (c .before .before .before .loop .j)
-          (matrix (args .col-ptr .now) (args .row-idx .now) (args .values .now)) (entry-of-shared-slice-known6 c .pre .0)
+      pointers-fit (c .before .before .before .loop .j)
+          (matrix (args .n) (args .col-ptr .now) (args .row-idx .now) (args .values .now)) (entry-of-shared-slice-known6 c .pre .0)
           (c .before .before .loop-test .taken),
     )
 
@@ -126,8 +126,8 @@ scan-column-requires c κs =
     let args = entry-of-shared-slice-known6 (c .before) .args in
     let pre = entry-of-shared-slice-known6 (c .before) .pre in
     let loop = in-loop-of-scan-column-arg c .before in (
-      column-stretch (args .n) (loop .loop .j) (length (loop .loop .work))
-          (matrix (args .col-ptr .now) (args .row-idx .now) (args .values .now)) (pre .0) (loop .loop .inv .1)
+      column-stretch (loop .loop .j) (length (loop .loop .work))
+          (matrix (args .n) (args .col-ptr .now) (args .row-idx .now) (args .values .now)) (pre .0) (loop .loop .inv .1)
           (in-loop-of-scan-column-arg c .loop-test .taken),
       omega (arith, pre .1 .0, loop .loop .inv .1),
     )
@@ -146,7 +146,7 @@ loop-again c =
       c .before .before .scan-column .kept .1 .1 .1 .1 .1 .1 .0 ∙ loop .loop .inv .1,
       walk-next
           (scaledSizes (args .row-idx .now) (args .values .now) (args .factors .now))
-          (matrix (args .col-ptr .now) (args .row-idx .now) (args .values .now)) (args .n) (loop .loop .j) (loop .loop .work)
+          (matrix (args .n) (args .col-ptr .now) (args .row-idx .now) (args .values .now)) (args .n) (loop .loop .j) (loop .loop .work)
           (loop .loop .inv .2) (in-loop-of-slice-known3 c .loop-test .taken)
           (c .before .before .scan-column .ensures),
     )
@@ -158,7 +158,7 @@ returns : tie.Need-returns Inv-loop μ-loop
 returns c =
     let args = entry-of-slice-known2 (c .before .before) .args in
     walk-end (scaledSizes (args .row-idx .now) (args .values .now) (args .factors .now))
-    (matrix (args .col-ptr .now) (args .row-idx .now) (args .values .now)) (args .n) (c .before .loop .j)
+    (matrix (args .n) (args .col-ptr .now) (args .row-idx .now) (args .values .now)) (args .n) (c .before .loop .j)
     (c .before .loop .work) (c .before .loop .inv .2) (omega arith)
 
 pub row-maxima-spec : {M : Type 1} → statement M

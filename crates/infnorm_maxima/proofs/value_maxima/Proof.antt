@@ -12,8 +12,8 @@ use Rattle.infnorm_maxima.proofs.value_maxima.Statement.{statement}
 use Rattle.infnorm_maxima.proofs.value_maxima.Tie as tie
 
 abbrev Inv-loop : tie.InvT-loop
-Inv-loop n colPtr rows values maxima₀ j₀ maxima j = (j ≤ n) × (length maxima ≡ n) × Walked (ownSizes values) (matrix colPtr rows values)
-    (rowMaxima (ownSizes values) (matrix colPtr rows values) n) n j maxima
+Inv-loop n colPtr rows values maxima₀ j₀ maxima j = (j ≤ n) × (length maxima ≡ n) × Walked (ownSizes values) (matrix n colPtr rows values)
+    (rowMaxima (ownSizes values) (matrix n colPtr rows values)) n j maxima
 
 abbrev μ-loop : tie.MeasureT-loop
 μ-loop n colPtr rows values maxima₀ j₀ maxima j = n - j
@@ -50,7 +50,7 @@ loop-holds c =
       omega arith,
       c .before .before .fill .kept .0 ∙ (pre .1),
       maxima-start (ownSizes (args .values .now))
-          (matrix (args .col-ptr .now) (args .row-idx .now) (args .values .now)) (args .n)
+          (matrix (args .n) (args .col-ptr .now) (args .row-idx .now) (args .values .now))
           (c .before .before .fill .ensures ∙ ap (λ (k : ℕ). replicate k Constants.zero) (pre .1)),
     )
 
@@ -59,7 +59,7 @@ mul-from c =
     let args = entry-of-in-loop c .args in
     omega (
       arith,
-      pointers-fit (args .n) (c .before .loop .j) (matrix (args .col-ptr .now) (args .row-idx .now) (args .values .now))
+      pointers-fit (c .before .loop .j) (matrix (args .n) (args .col-ptr .now) (args .row-idx .now) (args .values .now))
           (entry-of-in-loop c .pre .0) (c .loop-test .taken),
     )
 
@@ -68,7 +68,7 @@ shared-slice-read-from c =
     let args = entry-of-shared-slice-known4 c .args in
     omega (
       arith,
-      pointers-fit (args .n) (c .before .before .loop .j) (matrix (args .col-ptr .now) (args .row-idx .now) (args .values .now))
+      pointers-fit (c .before .before .loop .j) (matrix (args .n) (args .col-ptr .now) (args .row-idx .now) (args .values .now))
           (entry-of-shared-slice-known4 c .pre .0) (c .before .loop-test .taken),
     )
 
@@ -77,7 +77,7 @@ cast-from c =
     let args = entry-of-shared-slice-known4 c .args in
     omega (
       arith,
-      pointers-fit (args .n) (c .before .before .loop .j) (matrix (args .col-ptr .now) (args .row-idx .now) (args .values .now))
+      pointers-fit (c .before .before .loop .j) (matrix (args .n) (args .col-ptr .now) (args .row-idx .now) (args .values .now))
           (entry-of-shared-slice-known4 c .pre .0) (c .before .loop-test .taken),
     )
 
@@ -86,7 +86,7 @@ add-to c =
     let args = entry-of-shared-slice-known4 c .args in
     omega (
       arith,
-      pointers-fit (args .n) (c .before .before .loop .j) (matrix (args .col-ptr .now) (args .row-idx .now) (args .values .now))
+      pointers-fit (c .before .before .loop .j) (matrix (args .n) (args .col-ptr .now) (args .row-idx .now) (args .values .now))
           (entry-of-shared-slice-known4 c .pre .0) (c .before .loop-test .taken),
     )
 
@@ -95,7 +95,7 @@ mul-to c =
     let args = entry-of-shared-slice-known4 c .args in
     omega (
       arith,
-      pointers-fit (args .n) (c .before .before .loop .j) (matrix (args .col-ptr .now) (args .row-idx .now) (args .values .now))
+      pointers-fit (c .before .before .loop .j) (matrix (args .n) (args .col-ptr .now) (args .row-idx .now) (args .values .now))
           (entry-of-shared-slice-known4 c .pre .0) (c .before .loop-test .taken),
     )
 
@@ -104,8 +104,8 @@ shared-slice-read-to c =
     let args = entry-of-shared-slice-known5 c .args in
     omega (
       arith,
-      pointers-fit (args .n) (c .before .before .before .loop .j)
-          (matrix (args .col-ptr .now) (args .row-idx .now) (args .values .now)) (entry-of-shared-slice-known5 c .pre .0)
+      pointers-fit (c .before .before .before .loop .j)
+          (matrix (args .n) (args .col-ptr .now) (args .row-idx .now) (args .values .now)) (entry-of-shared-slice-known5 c .pre .0)
           (c .before .before .loop-test .taken),
     )
 
@@ -114,8 +114,8 @@ cast-to c =
     let args = entry-of-shared-slice-known5 c .args in
     omega (
       arith,
-      pointers-fit (args .n) (c .before .before .before .loop .j)
-          (matrix (args .col-ptr .now) (args .row-idx .now) (args .values .now)) (entry-of-shared-slice-known5 c .pre .0)
+      pointers-fit (c .before .before .before .loop .j)
+          (matrix (args .n) (args .col-ptr .now) (args .row-idx .now) (args .values .now)) (entry-of-shared-slice-known5 c .pre .0)
           (c .before .before .loop-test .taken),
     )
 
@@ -123,8 +123,8 @@ scan-values-requires : tie.Need-scan-values-requires Inv-loop μ-loop
 scan-values-requires c κs =
     let args = entry-of-shared-slice-known5 (c .before) .args in
     let loop = in-loop-of-scan-values-arg c .before in
-    column-stretch (args .n) (loop .loop .j) (length (loop .loop .maxima))
-    (matrix (args .col-ptr .now) (args .row-idx .now) (args .values .now))
+    column-stretch (loop .loop .j) (length (loop .loop .maxima))
+    (matrix (args .n) (args .col-ptr .now) (args .row-idx .now) (args .values .now))
     (entry-of-shared-slice-known5 (c .before) .pre .0) (loop .loop .inv .1) (in-loop-of-scan-values-arg c .loop-test .taken)
 
 add-j : tie.Need-add-j Inv-loop μ-loop
@@ -140,7 +140,7 @@ loop-again c =
       omega (arith, in-loop-of-slice-known3 c .loop-test .taken),
       c .before .before .scan-values .kept .1 .1 .1 .1 .1 .0 ∙ loop .loop .inv .1,
       walk-next (ownSizes (args .values .now))
-          (matrix (args .col-ptr .now) (args .row-idx .now) (args .values .now)) (args .n) (loop .loop .j) (loop .loop .maxima)
+          (matrix (args .n) (args .col-ptr .now) (args .row-idx .now) (args .values .now)) (args .n) (loop .loop .j) (loop .loop .maxima)
           (loop .loop .inv .2) (in-loop-of-slice-known3 c .loop-test .taken)
           (c .before .before .scan-values .ensures),
     )
@@ -151,7 +151,7 @@ same-length c = omega (arith, c .before .loop .inv .1, (entry-of-slice-known2 (c
 returns : tie.Need-returns Inv-loop μ-loop
 returns c =
     let args = entry-of-slice-known2 (c .before .before) .args in
-    walk-end (ownSizes (args .values .now)) (matrix (args .col-ptr .now) (args .row-idx .now) (args .values .now)) (args .n) (c .before .loop .j)
+    walk-end (ownSizes (args .values .now)) (matrix (args .n) (args .col-ptr .now) (args .row-idx .now) (args .values .now)) (args .n) (c .before .loop .j)
     (c .before .loop .maxima) (c .before .loop .inv .2) (omega arith)
 
 pub value-maxima-spec : {M : Type 1} → statement M

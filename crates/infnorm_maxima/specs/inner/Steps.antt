@@ -9,9 +9,9 @@ use Rattle.sparse.specs.Columns.{Sizes, Columns}
 use Rattle.sparse.specs.Matrix.{Matrix}
 
 -- a matrix that was accepted
-pub record Accepted (n : ℕ) (m : Matrix) : Type 0 where
-  pub sizes : Sizes maxSymmetric n (m .colPtr) (m .rows) (m .values)
-  pub columns : Columns n (m .colPtr) (m .rows)
+pub record Accepted (m : Matrix) : Type 0 where
+  pub sizes : Sizes maxSymmetric m
+  pub columns : Columns (m .pattern .n) (m .pattern .colPtr) (m .pattern .rowIdx)
 
 -- places from `from` up to `to`, whose rows and column have a maximum each
 pub record Stretch (n : ℕ) (rows : List ℕ) (values : List Float) (j from to : ℕ) : Type 0 where

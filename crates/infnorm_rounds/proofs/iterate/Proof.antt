@@ -12,7 +12,7 @@ use Rattle.infnorm_rounds.proofs.iterate.Tie as tie
 abbrev Inv-loop : tie.InvT-loop
 Inv-loop n colPtr rows values factors₀ work₀ done₀ factors work done =
     (done ≤ 10) × (length factors ≡ n) × (length work ≡ n)
-    × (rounds 10 (matrix colPtr rows values) factors₀ ≡ rounds (10 - done) (matrix colPtr rows values) factors)
+    × (rounds 10 (matrix n colPtr rows values) factors₀ ≡ rounds (10 - done) (matrix n colPtr rows values) factors)
 
 abbrev μ-loop : tie.MeasureT-loop
 μ-loop n colPtr rows values factors₀ work₀ done₀ factors work done = 10 - done
@@ -73,7 +73,7 @@ returns : tie.Need-returns Inv-loop μ-loop
 returns c =
     let args = entry-of-then1 c .args in
     let loop = loop-of-then1 c in
-    round-last (matrix (args .col-ptr .now) (args .row-idx .now) (args .values .now)) 10 (loop .loop .done) (loop .loop .factors)
+    round-last (matrix (args .n) (args .col-ptr .now) (args .row-idx .now) (args .values .now)) 10 (loop .loop .done) (loop .loop .factors)
     (loop .loop .inv .3) (one-round-arg2-of-then1 c .before .before .loop-test .taken)
     (one-round-of-then1 c .one-round .ensures) (c .if1 .taken)
 
@@ -92,7 +92,7 @@ loop-again c =
       one-round-of-else1 c .one-round .kept .1 .1 .1 .1 .0 ∙
           loop .loop .inv .1,
       one-round-of-else1 c .one-round .kept .1 .1 .1 .1 .1 .0 ∙ loop .loop .inv .2,
-      round-next (matrix (args .col-ptr .now) (args .row-idx .now) (args .values .now)) 10 (loop .loop .done)
+      round-next (matrix (args .n) (args .col-ptr .now) (args .row-idx .now) (args .values .now)) 10 (loop .loop .done)
           (loop .loop .factors) (loop .loop .inv .3) (In-loop .loop-test .taken)
           (one-round-of-else1 c .one-round .ensures) (c .if1 .left),
     )
@@ -106,7 +106,7 @@ same-length-4 c = c .before .loop .inv .2 ∙ sym (entry-of-after-loop c .pre .1
 returns-2 : tie.Need-returns-2 Inv-loop μ-loop
 returns-2 c =
     let args = entry-of-after-loop c .args in
-    rounds-end (matrix (args .col-ptr .now) (args .row-idx .now) (args .values .now)) 10 (c .before .loop .done) (c .before .loop .factors)
+    rounds-end (matrix (args .n) (args .col-ptr .now) (args .row-idx .now) (args .values .now)) 10 (c .before .loop .done) (c .before .loop .factors)
     (c .before .loop .inv .3) (omega arith)
 
 pub iterate-spec : {M : Type 1} → statement M

@@ -1,7 +1,6 @@
 -- `one_round` meets its contract: the maxima first, then the factors.
-use mathlib.Core.Path.{sym, _∙_}
-use Rattle.sparse.specs.Matrix.{matrix}
-use Rattle.infnorm_rounds.proofs.Rounds.{round-is}
+use mathlib.Core.Path.{sym, ap, _∙_}
+use Rattle.infnorm_factors.specs.Factors.{roundWith}
 use Rattle.infnorm_rounds.proofs.one_round.Statement.{statement}
 use Rattle.infnorm_rounds.proofs.one_round.Tie as tie
 
@@ -37,9 +36,8 @@ same-length-2 c = row-maxima-of-slice-known4 c .row-maxima .kept .1 .1 .1 .1 .1 
 
 returns : tie.Need-returns
 returns c =
-    let args = entry-of-slice-known4 c .args in
-    c .before .before .update-factors .ensures ∙ round-is (matrix (args .col-ptr .now) (args .row-idx .now) (args .values .now))
-    (args .n) (args .factors .now) (entry-of-slice-known4 c .pre .1 .0) (row-maxima-of-slice-known4 c .row-maxima .ensures)
+    c .before .before .update-factors .ensures
+    ∙ ap (roundWith (entry-of-slice-known4 c .args .factors .now)) (row-maxima-of-slice-known4 c .row-maxima .ensures)
 
 pub one-round-spec : {M : Type 1} → statement M
 one-round-spec =

@@ -136,8 +136,8 @@ same-length-7 : tie.Need-same-length-7
 same-length-7 c = refl
 
 returns : tie.Need-returns
-returns c = promised _ _ _ _ (λ k h. (shared-slice-known4-of-rest-fits (c .before .before)) .shared-slice-known4 .given k)
-    (lengths-refused _ _ _ _ _ _ (c .before .before .rest-fits .ensures) (not-true _ (c .before .if1 .taken)) (c .size-fault .ensures))
+returns c = promised _ _ _ (λ k h. (shared-slice-known4-of-rest-fits (c .before .before)) .shared-slice-known4 .given k)
+    (lengths-refused _ _ _ _ _ (c .before .before .rest-fits .ensures) (not-true _ (c .before .if1 .taken)) (c .size-fault .ensures))
 
 build-cost-graph-requires : tie.Need-build-cost-graph-requires
 build-cost-graph-requires c κs = search needs
@@ -149,12 +149,12 @@ cast-match-and-scale : tie.Need-cast-match-and-scale
 cast-match-and-scale c = search needs
 
 slice-reshare-prefix-match-and-scale : tie.Need-slice-reshare-prefix-match-and-scale
-slice-reshare-prefix-match-and-scale c = rows-room _ _ _ _ ((build-cost-graph-of-built
+slice-reshare-prefix-match-and-scale c = rows-room _ _ _ ((build-cost-graph-of-built
     (c .before .before)) .build-cost-graph .ensures .outcome) (c .before .before .built .given .1)
     (λ k h. (shared-slice-known4-of-built (c .before .before)) .shared-slice-known4 .given k)
 
 slice-aggregate-match-and-scale : tie.Need-slice-aggregate-match-and-scale
-slice-aggregate-match-and-scale c = sym (length-take-le _ _ (rows-room _ _ _ _
+slice-aggregate-match-and-scale c = sym (length-take-le _ _ (rows-room _ _ _
     ((build-cost-graph-of-built (c .before .before .before)) .build-cost-graph .ensures .outcome)
     (c .before .before .before .built .given .1) (λ k h. (shared-slice-known4-of-built
     (c .before .before .before)) .shared-slice-known4 .given k)))
@@ -163,18 +163,18 @@ cast-match-and-scale-2 : tie.Need-cast-match-and-scale-2
 cast-match-and-scale-2 c = search needs
 
 slice-reshare-prefix-match-and-scale-2 : tie.Need-slice-reshare-prefix-match-and-scale-2
-slice-reshare-prefix-match-and-scale-2 c = cost-room _ _ _ _ ((build-cost-graph-of-built
+slice-reshare-prefix-match-and-scale-2 c = cost-room _ _ _ ((build-cost-graph-of-built
     (c .before .before .before)) .build-cost-graph .ensures .outcome) (c .before .before .before .built .given .1)
     (λ k h. (shared-slice-known4-of-built (c .before .before .before)) .shared-slice-known4 .given k)
 
 slice-aggregate-match-and-scale-2 : tie.Need-slice-aggregate-match-and-scale-2
-slice-aggregate-match-and-scale-2 c = sym (length-take-le _ _ (cost-room _ _ _ _
+slice-aggregate-match-and-scale-2 c = sym (length-take-le _ _ (cost-room _ _ _
     ((build-cost-graph-of-built (c .before .before .before .before)) .build-cost-graph .ensures .outcome)
     (c .before .before .before .before .built .given .1) (λ k h. (shared-slice-known4-of-built
     (c .before .before .before .before)) .shared-slice-known4 .given k)))
 
 match-and-scale-requires : tie.Need-match-and-scale-requires
-match-and-scale-requires c κs = ready _ _ _ _ ((build-cost-graph-of-match-and-scale-arg11 c) .build-cost-graph .ensures .outcome)
+match-and-scale-requires c κs = ready _ _ _ ((build-cost-graph-of-match-and-scale-arg11 c) .build-cost-graph .ensures .outcome)
     ((built-of-match-and-scale-arg11 c) .built .given .1) (λ k h. (shared-slice-known4-of-match-and-scale-arg11
     c) .shared-slice-known4 .given k) _ _ ((rest-fits-of-match-and-scale-arg11 c) .rest-fits .ensures)
     (not-false _ ((Else1-of-match-and-scale-arg11 c) .if1 .left))
@@ -219,8 +219,8 @@ same-length-19 : tie.Need-same-length-19
 same-length-19 c = (match-and-scale-of-slice-known24 c) .match-and-scale .kept .1 .1 .1 .1 .1 .1 .1 .1 .1 .1 .1 .0
 
 returns-2 : tie.Need-returns-2
-returns-2 c = promised _ _ _ _ (λ k h. (shared-slice-known4-of-slice-known24 c) .shared-slice-known4 .given k)
-    (complete _ _ _ _ ((build-cost-graph-of-slice-known24 c) .build-cost-graph .ensures .outcome)
+returns-2 c = promised _ _ _ (λ k h. (shared-slice-known4-of-slice-known24 c) .shared-slice-known4 .given k)
+    (complete _ _ _ ((build-cost-graph-of-slice-known24 c) .build-cost-graph .ensures .outcome)
     ((built-of-slice-known24 c) .built .given .1) (λ k h. (shared-slice-known4-of-slice-known24 c) .shared-slice-known4 .given k) _
     _ ((rest-fits-of-slice-known24 c) .rest-fits .ensures) (not-false _ ((Else1-of-slice-known24 c) .if1 .left))
     ((match-and-scale-of-slice-known24 c) .match-and-scale .ensures))
@@ -262,8 +262,8 @@ same-length-31 : tie.Need-same-length-31
 same-length-31 c = refl
 
 returns-3 : tie.Need-returns-3
-returns-3 c = promised _ _ _ _ (λ k h. (shared-slice-known4-of-Else1 (Else1-of-known-told2 c)) .shared-slice-known4 .given k)
-    (building-refused _ _ _ _ ((build-cost-graph-of-known-told2 c) .build-cost-graph .ensures .outcome) _ _
+returns-3 c = promised _ _ _ (λ k h. (shared-slice-known4-of-Else1 (Else1-of-known-told2 c)) .shared-slice-known4 .given k)
+    (building-refused _ _ _ ((build-cost-graph-of-known-told2 c) .build-cost-graph .ensures .outcome) _ _
     ((rest-fits-of-known-told2 c) .rest-fits .ensures) (not-false _ ((Else1-of-known-told2 c) .if1 .left))
     (c .before .built2 .given .1))
 

@@ -16,7 +16,7 @@ use Rattle.mc64_general.proofs.build.Tie as tie
 abbrev Inv-loop : tie.InvT-loop
 Inv-loop n colPtr rows values logs graphPtr₀ graphIdx₀ cost₀ cmax₀ source next₀ c₀ graphPtr graphIdx cost cmax next c = (c ≤ n) ×
     (length graphPtr ≡ length graphPtr₀) × (length graphIdx ≡ length graphIdx₀) × (length cost ≡ length cost₀) ×
-    (length cmax ≡ length cmax₀) × BuiltTo c (matrix colPtr rows values) (entryLogs source logs) graphPtr₀ graphIdx₀ cost₀ cmax₀ graphPtr graphIdx
+    (length cmax ≡ length cmax₀) × BuiltTo c (matrix n colPtr rows values) (entryLogs source logs) graphPtr₀ graphIdx₀ cost₀ cmax₀ graphPtr graphIdx
     cost cmax next
 
 abbrev μ-loop : tie.MeasureT-loop
@@ -73,7 +73,7 @@ next-below c =
     let p = entry-of-loop c in
     let l = c .loop in
     let a = p .pre .0 in
-    let m = matrix (p .args .col-ptr .now) (p .args .row-idx .now) (p .args .values .now) in (
+    let m = matrix (p .args .n) (p .args .col-ptr .now) (p .args .row-idx .now) (p .args .values .now) in (
       omega (arith, l .inv .5 .count, kept-below m (a .pointers) (l .c) (l .inv .0)),
       pointer-below (a .pointers) (l .c) (l .inv .0),
       a .sizes .entries,
@@ -96,7 +96,7 @@ loop-holds c =
       refl,
       refl,
       refl,
-      built-none (matrix (args .col-ptr .now) (args .row-idx .now) (args .values .now))
+      built-none (matrix (args .n) (args .col-ptr .now) (args .row-idx .now) (args .values .now))
           (entryLogs (args .source) (args .logs .now)) (args .graph-ptr .now) (args .graph-rows .now) (args .cost .now) (args .cmax .now),
     )
 
@@ -184,7 +184,7 @@ loop-again c =
           loop .loop .inv .3,
       simp length-set (loop .loop .inv .4),
       built-next
-          (matrix (args .col-ptr .now) (args .row-idx .now) (args .values .now)) (entryLogs (args .source) (args .logs .now)) (args .graph-ptr .now)
+          (matrix (args .n) (args .col-ptr .now) (args .row-idx .now) (args .values .now)) (entryLogs (args .source) (args .logs .now)) (args .graph-ptr .now)
           (args .graph-rows .now) (args .cost .now) (args .cmax .now) (loop .loop .inv .5)
           (omega (arith, In-loop .loop-test .taken, pre .1 .pointerRoom))
           (omega (arith, In-loop .loop-test .taken, pre .1 .cmaxRoom)) (keep-column .keep-column .ensures)
@@ -218,7 +218,7 @@ same-length-4 c = c .before .loop .inv .4
 returns : tie.Need-returns Inv-loop μ-loop
 returns c = let e : c .before .loop .c ≡ entry-of-after-loop c .args .n
     = omega (arith, c .before .loop .inv .0, c .loop-test .left) in
-    built-last (matrix (entry-of-after-loop c .args .col-ptr .now)
+    built-last (matrix (entry-of-after-loop c .args .n) (entry-of-after-loop c .args .col-ptr .now)
     (entry-of-after-loop c .args .row-idx .now)
     (entry-of-after-loop c .args .values .now))
     (entryLogs (entry-of-after-loop c .args .source)
@@ -227,7 +227,7 @@ returns c = let e : c .before .loop .c ≡ entry-of-after-loop c .args .n
     (entry-of-after-loop c .args .graph-rows .now)
     (entry-of-after-loop c .args .cost .now)
     (entry-of-after-loop c .args .cmax .now)
-    (subst (λ (i : ℕ). BuiltTo i (matrix (entry-of-after-loop c .args .col-ptr .now)
+    (subst (λ (i : ℕ). BuiltTo i (matrix (entry-of-after-loop c .args .n) (entry-of-after-loop c .args .col-ptr .now)
     (entry-of-after-loop c .args .row-idx .now)
     (entry-of-after-loop c .args .values .now))
     (entryLogs (entry-of-after-loop c .args .source)

@@ -66,7 +66,7 @@ lengths-fit-requires c κs = search needs
 input-fault-requires : tie.Need-input-fault-requires
 input-fault-requires c κs =
     let args = (entry-of-lengths-fit c) .args in
-    λ t. let f = lengths-fitting (args .n) _ (matrix (args .col-ptr .now) (args .row-idx .now) (args .values .now))
+    λ t. let f = lengths-fitting _ (matrix (args .n) (args .col-ptr .now) (args .row-idx .now) (args .values .now))
     (args .logs .now) (slices (args .graph-ptr .now) (args .graph-rows .now) (args .cost .now) (args .cmax .now)
     (args .work .now)) (sym (c .lengths-fit .ensures) ∙ t) in
     f .logged ∙ sym (f .valued)
@@ -89,20 +89,20 @@ same-length-5 c = refl
 returns : tie.Need-returns
 returns c =
     let args = (entry-of-input-fault (c .before)) .args in
-    let m = matrix (args .col-ptr .now) (args .row-idx .now) (args .values .now) in
+    let m = matrix (args .n) (args .col-ptr .now) (args .row-idx .now) (args .values .now) in
     let lent = slices (args .graph-ptr .now) (args .graph-rows .now) (args .cost .now) (args .cmax .now) (args .work .now) in
-    promised (args .n) m (args .logs .now) lent
+    promised m (args .logs .now) lent
     (refused (args .n) (keptColumns m) (args .logs .now) lent _ _
-    (c .before .input-fault .ensures ∙ ap (inputFault (args .n) m (args .logs .now))
+    (c .before .input-fault .ensures ∙ ap (inputFault m (args .logs .now))
     (c .before .before .lengths-fit .ensures)) (c .if1 .taken))
 
 build-requires : tie.Need-build-requires
 build-requires c κs =
     let args = (entry-of-Else1 (c .before .before .before .before)) .args in
-    ready (args .n) (matrix (args .col-ptr .now) (args .row-idx .now) (args .values .now)) (args .logs .now)
+    ready (matrix (args .n) (args .col-ptr .now) (args .row-idx .now) (args .values .now)) (args .logs .now)
     (slices (args .graph-ptr .now) (args .graph-rows .now) (args .cost .now) (args .cmax .now) (args .work .now))
     (sym ((input-fault-of-Else1 (c .before .before .before .before)) .input-fault .ensures ∙ ap
-    (inputFault (args .n) (matrix (args .col-ptr .now) (args .row-idx .now) (args .values .now)) (args .logs .now))
+    (inputFault (matrix (args .n) (args .col-ptr .now) (args .row-idx .now) (args .values .now)) (args .logs .now))
     ((lengths-fit-of-Else1 (c .before .before .before .before)) .lengths-fit .ensures)) ∙
     c .before .before .before .before .if1 .left)
 
@@ -127,14 +127,14 @@ same-length-10 c = c .before .before .clear .kept .0
 returns-2 : tie.Need-returns-2
 returns-2 c =
     let args = (entry-of-slice-known10 c) .args in
-    let m = matrix (args .col-ptr .now) (args .row-idx .now) (args .values .now) in
+    let m = matrix (args .n) (args .col-ptr .now) (args .row-idx .now) (args .values .now) in
     let lent = slices (args .graph-ptr .now) (args .graph-rows .now) (args .cost .now) (args .cmax .now) (args .work .now) in
     let build = build-of-slice-known10 c in
-    promised (args .n) m (args .logs .now) lent
-    (accepted (args .n) m (args .logs .now) lent _
+    promised m (args .logs .now) lent
+    (accepted m (args .logs .now) lent _
     (build .build .result) _ (sym ((Else1-of-slice-known10 c) .if1 .left) ∙
     ((input-fault-of-slice-known10 c) .input-fault .ensures ∙ ap
-    (inputFault (args .n) m (args .logs .now))
+    (inputFault m (args .logs .now))
     ((lengths-fit-of-slice-known10 c) .lengths-fit .ensures))) (build .build .ensures) (c .before .before .clear .ensures))
 
 pub build-general-graph-spec : {M : Type 1} → statement M

@@ -13,10 +13,10 @@ use Rattle.mc64_columns.specs.Graphs.{joined, logsAt, keptBefore, graphRows, gr
 use Rattle.mc64_general.specs.Graph.{keptColumns}
 
 -- a matrix whose sizes and pointers were accepted
-pub record Accepted (n : ℕ) (m : Matrix) (logs : List Float) : Type 0 where
-  pub sizes : Sizes maxGeneral n (m .colPtr) (m .rows) (m .values)
-  pub pointers : Pointers n (m .colPtr) (length (m .rows))
-  pub logged : length logs ≡ length (m .rows)
+pub record Accepted (m : Matrix) (logs : List Float) : Type 0 where
+  pub sizes : Sizes maxGeneral m
+  pub pointers : Pointers (m .pattern .n) (m .pattern .colPtr) (length (m .pattern .rowIdx))
+  pub logged : length logs ≡ length (m .pattern .rowIdx)
 
 -- and the slices of the graph have room for it
 pub record Roomy (n : ℕ) (rows graphPtr graphIdx : List ℕ) (cost cmax : List Float) : Type 0 where
@@ -59,10 +59,12 @@ pub record BuiltTo (k : ℕ) (m : Matrix) (logs : List Float) (graphPtr₀ graph
   pub tops : cmax ≡ graphLargest (keptColumns m) logs k ++ drop k cmax₀
 
 -- and all n of them, with the last pointer
-pub record BuiltAll (n : ℕ) (m : Matrix) (logs : List Float) (graphIdx₀ : List ℕ) (cost₀ : List Float)
+pub record BuiltAll (m : Matrix) (logs : List Float) (graphIdx₀ : List ℕ) (cost₀ : List Float)
     (graphPtr graphIdx : List ℕ) (cost cmax : List Float) (kept : ℕ) : Type 0 where
-  pub count : kept ≡ keptBefore (keptColumns m) n
-  pub pointers : graphPtr ≡ joined (λ c. keptBefore (keptColumns m) c ∷ []) (suc n)
-  pub rowsBuilt : graphIdx ≡ graphRows (keptColumns m) n ++ drop (keptBefore (keptColumns m) n) graphIdx₀
-  pub costs : cost ≡ graphCosts (keptColumns m) logs n ++ drop (keptBefore (keptColumns m) n) cost₀
-  pub tops : cmax ≡ graphLargest (keptColumns m) logs n
+  pub count : kept ≡ keptBefore (keptColumns m) (m .pattern .n)
+  pub pointers : graphPtr ≡ joined (λ c. keptBefore (keptColumns m) c ∷ []) (suc (m .pattern .n))
+  pub rowsBuilt : graphIdx ≡ graphRows (keptColumns m) (m .pattern .n)
+      ++ drop (keptBefore (keptColumns m) (m .pattern .n)) graphIdx₀
+  pub costs : cost ≡ graphCosts (keptColumns m) logs (m .pattern .n)
+      ++ drop (keptBefore (keptColumns m) (m .pattern .n)) cost₀
+  pub tops : cmax ≡ graphLargest (keptColumns m) logs (m .pattern .n)

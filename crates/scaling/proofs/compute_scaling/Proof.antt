@@ -149,9 +149,9 @@ same-length-2 c = search needs
 returns : tie.Need-returns
 returns c =
     let args = (entry-of-compute-infnorm (c .before .before .before .before .before)) .args in
-    promised _ _ _ _ _ (λ k h. (logs-of-known13 (known13-of-enum-told
+    promised _ _ _ _ (λ k h. (logs-of-known13 (known13-of-enum-told
     (enum-told-of-compute-infnorm (c .before .before .before .before .before)))) .shared-slice-known5 .given k) _
-    (infnorm-chosen (args .n) (matrix (args .col-ptr .now) (args .row-idx .now) (args .values .now))
+    (infnorm-chosen (matrix (args .n) (args .col-ptr .now) (args .row-idx .now) (args .values .now))
     (args .external .now) (args .logs .now) (slices (args .factors .now) (args .maxima .now)
     (Graphs.slices (args .graph-ptr .now) (args .graph-rows .now) (args .cost .now) (args .cmax .now) (args .graph-work .now))
     (Match.slices (args .perm .now) (args .u .now) (args .v .now) (args .match-work .now) (args .distances .now))
@@ -164,9 +164,9 @@ same-length-3 c = search needs
 returns-2 : tie.Need-returns-2
 returns-2 c =
     let args = (entry-of-compute-onepass (c .before .before .before)) .args in
-    promised _ _ _ _ _ (λ k h. (logs-of-known13 (known13-of-enum-told2
+    promised _ _ _ _ (λ k h. (logs-of-known13 (known13-of-enum-told2
     (enum-told2-of-compute-onepass (c .before .before .before)))) .shared-slice-known5 .given k) _
-    (onepass-chosen (args .n) (matrix (args .col-ptr .now) (args .row-idx .now) (args .values .now))
+    (onepass-chosen (matrix (args .n) (args .col-ptr .now) (args .row-idx .now) (args .values .now))
     (args .external .now) (args .logs .now) (slices (args .factors .now) (args .maxima .now)
     (Graphs.slices (args .graph-ptr .now) (args .graph-rows .now) (args .cost .now) (args .cmax .now) (args .graph-work .now))
     (Match.slices (args .perm .now) (args .u .now) (args .v .now) (args .match-work .now) (args .distances .now))
@@ -212,8 +212,8 @@ same-length-15 c = search needs
 returns-3 : tie.Need-returns-3
 returns-3 c =
     let args = (entry-of-of-scaled c) .args in
-    promised _ _ _ _ _ (λ k h. (logs-of-known13 (known13-of-enum-told3 (enum-told3-of-of-scaled c))) .shared-slice-known5 .given k) _
-    (mc64-chosen (args .n) (matrix (args .col-ptr .now) (args .row-idx .now) (args .values .now))
+    promised _ _ _ _ (λ k h. (logs-of-known13 (known13-of-enum-told3 (enum-told3-of-of-scaled c))) .shared-slice-known5 .given k) _
+    (mc64-chosen (matrix (args .n) (args .col-ptr .now) (args .row-idx .now) (args .values .now))
     (args .external .now) (args .logs .now) (slices (args .factors .now) (args .maxima .now)
     (Graphs.slices (args .graph-ptr .now) (args .graph-rows .now) (args .cost .now) (args .cmax .now) (args .graph-work .now))
     (Match.slices (args .perm .now) (args .u .now) (args .v .now) (args .match-work .now) (args .distances .now))
@@ -226,9 +226,9 @@ same-length-16 c = search needs
 returns-4 : tie.Need-returns-4
 returns-4 c =
     let args = (entry-of-identity-factors (c .before .before .before)) .args in
-    promised _ _ _ _ _ (λ k h. (logs-of-known13 (known13-of-enum-told4
+    promised _ _ _ _ (λ k h. (logs-of-known13 (known13-of-enum-told4
     (enum-told4-of-identity-factors (c .before .before .before)))) .shared-slice-known5 .given k) _
-    (identity-chosen (args .n) (matrix (args .col-ptr .now) (args .row-idx .now) (args .values .now))
+    (identity-chosen (matrix (args .n) (args .col-ptr .now) (args .row-idx .now) (args .values .now))
     (args .external .now) (args .logs .now) (slices (args .factors .now) (args .maxima .now)
     (Graphs.slices (args .graph-ptr .now) (args .graph-rows .now) (args .cost .now) (args .cmax .now) (args .graph-work .now))
     (Match.slices (args .perm .now) (args .u .now) (args .v .now) (args .match-work .now) (args .distances .now))
@@ -238,8 +238,8 @@ returns-4 c =
 returns-5 : tie.Need-returns-5
 returns-5 c =
     let args = (entry-of-external-fault c) .args in
-    promised _ _ _ _ _ (λ k h. (logs-of-known13 (known13-of-enum-told5 (enum-told5-of-external-fault c))) .shared-slice-known5 .given k) _
-    (external-chosen (args .n) (matrix (args .col-ptr .now) (args .row-idx .now) (args .values .now))
+    promised _ _ _ _ (λ k h. (logs-of-known13 (known13-of-enum-told5 (enum-told5-of-external-fault c))) .shared-slice-known5 .given k) _
+    (external-chosen (matrix (args .n) (args .col-ptr .now) (args .row-idx .now) (args .values .now))
     (args .external .now) (args .logs .now) (slices (args .factors .now) (args .maxima .now)
     (Graphs.slices (args .graph-ptr .now) (args .graph-rows .now) (args .cost .now) (args .cmax .now) (args .graph-work .now))
     (Match.slices (args .perm .now) (args .u .now) (args .v .now) (args .match-work .now) (args .distances .now))

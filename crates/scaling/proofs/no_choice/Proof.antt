@@ -29,14 +29,14 @@ unfolding noChoice
 returns c =
     let args = entry-of-then1 c .args in
     sym (or-some (c .before .input-fault .result) indexRange (c .if1 .taken)) ∙ ap (λ (f : ℕ). orElse f indexRange)
-    (onepass-fault (args .n) (matrix (args .col-ptr .now) (args .row-idx .now) (args .values .now)) (args .factors .now)
+    (onepass-fault (matrix (args .n) (args .col-ptr .now) (args .row-idx .now) (args .values .now)) (args .factors .now)
     (c .before .input-fault .ensures) (c .before .before .lengths-fit .ensures))
 
 returns-2 : tie.Need-returns-2
 unfolding noChoice
 returns-2 c =
     let args = entry-of-else1 c .args in
-    sym (or-none (sym (onepass-fault (args .n) (matrix (args .col-ptr .now) (args .row-idx .now) (args .values .now)) (args .factors .now)
+    sym (or-none (sym (onepass-fault (matrix (args .n) (args .col-ptr .now) (args .row-idx .now) (args .values .now)) (args .factors .now)
     (c .before .input-fault .ensures) (c .before .before .lengths-fit .ensures)) ∙ c .if1 .left))
 
 pub no-choice-spec : {M : Type 1} → statement M

@@ -66,7 +66,7 @@ build-requires c κs =
     let other = else1-of-build-arg8 c in
     let pre = entry-of-else1 other .pre in
     let b = assemble-of-else1 other .assemble .ensures in
-    symmetric-ready _ _ (lent other)
+    symmetric-ready _ (lent other)
     (fine (pre .0) b (other .if1 .left) (pre .1 .1 .0 .rowRoom) (pre .1 .1 .0 .valueRoom) (lent other) (pre .1 .1 .1 .0) (pre .1 .1 .1 .1)
     (work-same (pre .0) b ∙ pre .1 .0 .room))
     (doubles (pre .0) b (other .if1 .left) (pre .1 .1 .0 .rowRoom) (pre .1 .1 .0 .valueRoom))

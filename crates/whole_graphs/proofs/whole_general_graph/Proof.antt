@@ -33,7 +33,7 @@ abbrev given : tie.After-general-fault → tie.Start
 given c = entry-of-shared-slice-known3 (shared-slice-known3-of-lengths-fit (c .before))
 
 abbrev input : tie.Start → Matrix
-input c = matrix (c .args .col-ptr .now) (c .args .row-idx .now) (c .args .values .now)
+input c = matrix (c .args .n) (c .args .col-ptr .now) (c .args .row-idx .now) (c .args .values .now)
 
 abbrev lent : tie.Start → Slices
 lent c = slices (c .args .graph-ptr .now) (c .args .graph-rows .now) (c .args .cost .now) (c .args .cmax .now) (c .args .work .now)
@@ -42,10 +42,10 @@ doubles : (c : tie.After-general-fault) → Doubles ((given c) .args .values .no
 doubles c k h = (shared-slice-known3-of-lengths-fit (c .before)) .shared-slice-known3 .given k
 
 -- the number is that of the first fault
-fault-is : (c : tie.After-general-fault) → c .general-fault .result ≡ wholeGeneralFault ((given c) .args .n) (input (given c)) (lent (given c))
-fault-is c = c .general-fault .ensures ∙ ap (generalInputFault ((given c) .args .n) (input (given c))) (c .before .lengths-fit .ensures)
+fault-is : (c : tie.After-general-fault) → c .general-fault .result ≡ wholeGeneralFault (input (given c)) (lent (given c))
+fault-is c = c .general-fault .ensures ∙ ap (generalInputFault (input (given c))) (c .before .lengths-fit .ensures)
 
-fine : (c : tie.Else1) → wholeGeneralFault ((given (c .before)) .args .n) (input (given (c .before))) (lent (given (c .before))) ≡ 0
+fine : (c : tie.Else1) → wholeGeneralFault (input (given (c .before))) (lent (given (c .before))) ≡ 0
 fine c = sym (fault-is (c .before)) ∙ c .if1 .left
 
 lengths-fit-requires : tie.Need-lengths-fit-requires
@@ -79,14 +79,14 @@ returns c =
       outcome = p .0;
       answered = p .1;
       optimal = λ z. absurd (c .if1 .taken z);
-      number = in-list (general-fault-listed (start .args .n) (input start) (lent start)) (p .1);
+      number = in-list (general-fault-listed (input start) (lent start)) (p .1);
     }
 
 build-requires : tie.Need-build-requires
 build-requires c κs =
     let other = c .before .before .before .before in
     let start = given (other .before) in
-    general-ready (start .args .n) (input start) (lent start) (fine other) (doubles (other .before))
+    general-ready (input start) (lent start) (fine other) (doubles (other .before))
 
 clear-requires : tie.Need-clear-requires
 clear-requires c κs = tt
@@ -112,14 +112,14 @@ returns-2 c =
     let build = build-of-slice-known10 c in
     let other = Else1-of-build build in
     let start = given (other .before) in
-    let p = accepted (start .args .n) (input start) (valueLogs (start .args .values .now)) (lent start) _ (build .build .result) _ (sym (fine other))
+    let p = accepted (input start) (valueLogs (start .args .values .now)) (lent start) _ (build .build .result) _ (sym (fine other))
     (build .build .ensures) (c .before .before .clear .ensures) in
     record {
       outcome = p .0;
       answered = p .1;
-      optimal = λ z. general-optimal (start .args .n) (input start) (lent start) (fine other) (doubles (other .before)) _
+      optimal = λ z. general-optimal (input start) (lent start) (fine other) (doubles (other .before)) _
           (left-built (start .args .n) (keptColumns (input start)) (valueLogs (start .args .values .now)) (lent start) _ _ _ (p .0) (fine other));
-      number = in-list (general-fault-listed (start .args .n) (input start) (lent start)) (p .1);
+      number = in-list (general-fault-listed (input start) (lent start)) (p .1);
     }
 
 pub whole-general-graph-spec : {M : Type 1} → statement M

@@ -32,7 +32,7 @@ abbrev given : tie.After-symmetric-fault → tie.Start
 given c = entry-of-shared-slice-known3 (shared-slice-known3-of-lengths-fit (c .before))
 
 abbrev input : tie.Start → Matrix
-input c = matrix (c .args .col-ptr .now) (c .args .row-idx .now) (c .args .values .now)
+input c = matrix (c .args .n) (c .args .col-ptr .now) (c .args .row-idx .now) (c .args .values .now)
 
 abbrev lent : tie.Start → Slices
 lent c = slices (c .args .graph-ptr .now) (c .args .graph-rows .now) (c .args .cost .now) (c .args .cmax .now) (c .args .work .now)
@@ -41,10 +41,10 @@ doubles : (c : tie.After-symmetric-fault) → Doubles ((given c) .args .values .
 doubles c k h = (shared-slice-known3-of-lengths-fit (c .before)) .shared-slice-known3 .given k
 
 -- the number is that of the first fault
-fault-is : (c : tie.After-symmetric-fault) → c .symmetric-fault .result ≡ wholeSymmetricFault ((given c) .args .n) (input (given c)) (lent (given c))
-fault-is c = c .symmetric-fault .ensures ∙ ap (symmetricInputFault ((given c) .args .n) (input (given c))) (c .before .lengths-fit .ensures)
+fault-is : (c : tie.After-symmetric-fault) → c .symmetric-fault .result ≡ wholeSymmetricFault (input (given c)) (lent (given c))
+fault-is c = c .symmetric-fault .ensures ∙ ap (symmetricInputFault (input (given c))) (c .before .lengths-fit .ensures)
 
-fine : (c : tie.Else1) → wholeSymmetricFault ((given (c .before)) .args .n) (input (given (c .before))) (lent (given (c .before))) ≡ 0
+fine : (c : tie.Else1) → wholeSymmetricFault (input (given (c .before))) (lent (given (c .before))) ≡ 0
 fine c = sym (fault-is (c .before)) ∙ c .if1 .left
 
 lengths-fit-requires : tie.Need-lengths-fit-requires
@@ -78,14 +78,14 @@ returns c =
       outcome = p .0;
       answered = p .1;
       optimal = λ z. absurd (c .if1 .taken z);
-      number = in-list (symmetric-fault-listed (start .args .n) (input start) (lent start)) (p .1);
+      number = in-list (symmetric-fault-listed (input start) (lent start)) (p .1);
     }
 
 build-requires : tie.Need-build-requires
 build-requires c κs =
     let other = c .before .before .before .before .before in
     let start = given (other .before) in
-    symmetric-ready (start .args .n) (input start) (lent start) (fine other) (doubles (other .before))
+    symmetric-ready (input start) (lent start) (fine other) (doubles (other .before))
 
 same-length-6 : tie.Need-same-length-6
 same-length-6 c = (build-of-slice-known10 c) .build .kept .1 .1 .1 .1 .1 .0
@@ -113,9 +113,9 @@ returns-2 c =
     record {
       outcome = p .0;
       answered = p .1;
-      optimal = λ z. symmetric-optimal (start .args .n) (input start) (lent start) (fine other) (doubles (other .before)) _
+      optimal = λ z. symmetric-optimal (input start) (lent start) (fine other) (doubles (other .before)) _
           (left-built (start .args .n) (mirroredColumns (input start)) (valueLogs (start .args .values .now)) (lent start) _ _ _ (p .0) (fine other));
-      number = in-list (symmetric-fault-listed (start .args .n) (input start) (lent start)) (p .1);
+      number = in-list (symmetric-fault-listed (input start) (lent start)) (p .1);
     }
 
 pub whole-symmetric-graph-spec : {M : Type 1} → statement M

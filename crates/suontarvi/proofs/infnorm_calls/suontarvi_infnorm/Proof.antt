@@ -19,7 +19,7 @@ same-length-2 c = search needs
 returns : tie.Need-returns
 returns c =
     let call = c .before .before .before .before .before in
-    iterated-number _ _ (call .compute-infnorm .result) (c .number-of .ensures) (call .compute-infnorm .ensures)
+    iterated-number _ (call .compute-infnorm .result) (c .number-of .ensures) (call .compute-infnorm .ensures)
 
 pub suontarvi-infnorm-spec : {M : Type 1} → statement M
 suontarvi-infnorm-spec = tie.close (tie.spec compute-infnorm-requires number-of-requires same-length same-length-2 returns)

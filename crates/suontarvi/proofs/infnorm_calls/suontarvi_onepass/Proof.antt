@@ -16,7 +16,7 @@ same-length c = search needs
 returns : tie.Need-returns
 returns c =
     let call = c .before .before .before in
-    onepass-number _ _ (call .compute-onepass .result) (c .number-of .ensures) (call .compute-onepass .ensures)
+    onepass-number _ (call .compute-onepass .result) (c .number-of .ensures) (call .compute-onepass .ensures)
 
 pub suontarvi-onepass-spec : {M : Type 1} → statement M
 suontarvi-onepass-spec = tie.close (tie.spec compute-onepass-requires number-of-requires same-length returns)

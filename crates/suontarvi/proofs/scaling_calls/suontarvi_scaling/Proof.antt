@@ -69,8 +69,8 @@ external-fault-requires c κs = search needs
 returns : tie.Need-returns
 returns c =
     let args = (entry-of-Then1 (c .before)) .args in
-    promised _ _ _ _ _ _ _ (λ k h. (logs-of-Then1 (c .before)) .shared-slice-known5 .given k)
-    (refused (args .choice) (args .n) (matrix (args .col-ptr .now) (args .row-idx .now) (args .values .now)) (args .external .now)
+    promised _ _ _ _ _ _ (λ k h. (logs-of-Then1 (c .before)) .shared-slice-known5 .given k)
+    (refused (args .choice) (matrix (args .n) (args .col-ptr .now) (args .row-idx .now) (args .values .now)) (args .external .now)
     (args .logs .now) (slices (args .factors .now) (args .maxima .now)
     (Graphs.slices (args .graph-ptr .now) (args .graph-rows .now) (args .cost .now) (args .cmax .now) (args .graph-work .now))
     (Match.slices (args .perm .now) (args .u .now) (args .v .now) (args .match-work .now) (args .distances .now))
@@ -84,8 +84,8 @@ returns-2 : tie.Need-returns-2
 returns-2 c =
     let at-else = Else1-of-Then2 (c .before) in
     let args = (entry-of-Else1 at-else) .args in
-    promised _ _ _ _ _ _ _ (λ k h. (logs-of-Else1 at-else) .shared-slice-known5 .given k)
-    (unfit (args .choice) (args .n) (matrix (args .col-ptr .now) (args .row-idx .now) (args .values .now)) (args .external .now)
+    promised _ _ _ _ _ _ (λ k h. (logs-of-Else1 at-else) .shared-slice-known5 .given k)
+    (unfit (args .choice) (matrix (args .n) (args .col-ptr .now) (args .row-idx .now) (args .values .now)) (args .external .now)
     (args .logs .now) (slices (args .factors .now) (args .maxima .now)
     (Graphs.slices (args .graph-ptr .now) (args .graph-rows .now) (args .cost .now) (args .cmax .now) (args .graph-work .now))
     (Match.slices (args .perm .now) (args .u .now) (args .v .now) (args .match-work .now) (args .distances .now))
@@ -102,8 +102,8 @@ returns-3 : tie.Need-returns-3
 returns-3 c =
     let fit = Else2-of-Then3 (c .before .before) in
     let args = (entry-of-Else1 (Else1-of-Else2 fit)) .args in
-    promised _ _ _ _ _ _ _ (λ k h. (logs-of-Else1 (Else1-of-Else2 fit)) .shared-slice-known5 .given k)
-    (unknown (args .choice) (args .n) (matrix (args .col-ptr .now) (args .row-idx .now) (args .values .now)) (args .external .now)
+    promised _ _ _ _ _ _ (λ k h. (logs-of-Else1 (Else1-of-Else2 fit)) .shared-slice-known5 .given k)
+    (unknown (args .choice) (matrix (args .n) (args .col-ptr .now) (args .row-idx .now) (args .values .now)) (args .external .now)
     (args .logs .now) (slices (args .factors .now) (args .maxima .now)
     (Graphs.slices (args .graph-ptr .now) (args .graph-rows .now) (args .cost .now) (args .cmax .now) (args .graph-work .now))
     (Match.slices (args .perm .now) (args .u .now) (args .v .now) (args .match-work .now) (args .distances .now))
@@ -167,8 +167,8 @@ returns-4 c =
     let computed = compute-scaling-of-put-info put in
     let fit = Else2-of-compute-scaling computed in
     let args = (entry-of-Else1 (Else1-of-Else2 fit)) .args in
-    promised _ _ _ _ _ _ _ (λ k h. (logs-of-Else1 (Else1-of-Else2 fit)) .shared-slice-known5 .given k)
-    (chosen (args .choice) (args .n) (matrix (args .col-ptr .now) (args .row-idx .now) (args .values .now)) (args .external .now)
+    promised _ _ _ _ _ _ (λ k h. (logs-of-Else1 (Else1-of-Else2 fit)) .shared-slice-known5 .given k)
+    (chosen (args .choice) (matrix (args .n) (args .col-ptr .now) (args .row-idx .now) (args .values .now)) (args .external .now)
     (args .logs .now) (slices (args .factors .now) (args .maxima .now)
     (Graphs.slices (args .graph-ptr .now) (args .graph-rows .now) (args .cost .now) (args .cmax .now) (args .graph-work .now))
     (Match.slices (args .perm .now) (args .u .now) (args .v .now) (args .match-work .now) (args .distances .now))
