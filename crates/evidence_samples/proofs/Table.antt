@@ -16,7 +16,7 @@ use Rattle.hungarian_match.specs.Call as Match
 use Rattle.cost_limit.specs.Range.{inRange, inLogRange}
 use Rattle.mc64_columns.specs.Columns.{largestFrom, largest, normalised}
 use Rattle.mc64_columns.specs.Graphs.{joined, slicesFit, built}
-use Rattle.mc64_symmetric.specs.Graph.{placesTo}
+use Rattle.mc64_symmetric.specs.Graph.{atMost, placesTo}
 use Rattle.mc64_symmetric.specs.Call.{valuesFault, inputFault, costGraph}
 use Rattle.mc64_general.specs.Graph.{isKept, keptPlaces, largestLog}
 use Rattle.mc64_general.specs.Call.{logsFault, generalGraph}
@@ -38,14 +38,12 @@ use Rattle.text_report.specs.Report as Report
 use Rattle.text_report.specs.Pairs as Pairs
 use Rattle.text_report.specs.Form.{formText}
 use Rattle.text_answer.specs.Answer.{graphText, textOf, answerText}
-use Rattle.sparse.specs.Pattern.{columnOf}
-use Rattle.matching.specs.Sum.{sumTo}
-use Rattle.evidence_samples.specs.Table.{rows, table, allHold}
+use Rattle.evidence_samples.specs.Table.{rows, table, allHold, mostColumns}
 use Rattle.evidence_samples.proofs.Large.{most-columns}
 
 rows-hold : allHold rows ≡ true
 unfolding rows allHold hungarianMatch costFault graphFault sizeFault pointerFault generalColumns generalColumn firstOf inRange inLogRange magnitude
-    unitsPerOne largestFrom largest normalised columnOf sumTo placesTo joined lowerColumn risingColumn
+    unitsPerOne largestFrom largest normalised atMost placesTo joined lowerColumn risingColumn
     symmetricColumns frameFault symmetricFault generalFault valuesFault inputFault isKept keptPlaces largestLog logsFault Building.inputFault lengths
     symmetricOutcome Match.matchLengths Match.finished Match.matchOutcome slicesFit built costGraph generalGraph rootBytes rootNumber Bytes.bytesOf
     Infnorm.lengthsFit Infnorm.inputFault Infnorm.iterated Infnorm.computeInfnorm Infnorm.computeOnepass Inf.infnormFactors Inf.onepassFactors

@@ -29,7 +29,7 @@ use Rattle.mc64_columns.specs.Columns.{largest, largestFrom, normalised}
 use Rattle.mc64_columns.specs.Graphs as Graphs
 use Rattle.mc64_columns.specs.declared.Built.{Built}
 use Rattle.mc64_general.specs.Graph.{isKept, keptPlaces, largestLog}
-use Rattle.mc64_symmetric.specs.Graph.{placesTo}
+use Rattle.mc64_symmetric.specs.Graph.{atMost, placesTo}
 use Rattle.whole_graphs.specs.Graphs.{finiteFault, generalInputFault, symmetricInputFault, wholeGeneralGraph, wholeSymmetricGraph, graphLeft}
 use Rattle.exponents_powers.specs.Power.{withinLimit, scalable, scaledBits, Exponents, exponents}
 use Rattle.exponents.specs.Exponent.{floorOf, isWhole, exponentOf, factorFits}
@@ -121,8 +121,8 @@ pub triangle-scaled : (Graphs.numberOf (triangle-builds .answer) ≡ accepted) �
     × (applyExponents (triangle .pattern) triangle-set triangle-bits ≡ outcomeIs accepted (0x3FE8_0000_0000_0000 ∷ 0x3FE0_0000_0000_0000 ∷ []))
     × (applyExponents (triangle .pattern) (swapped triangle-set) triangle-bits ≡ outcomeIs accepted (0x3FE8_0000_0000_0000 ∷ 0x3FF0_0000_0000_0000 ∷ []))
 unfolding wholeSymmetricGraph symmetricInputFault finiteFault frameFault symmetricFault symmetricColumns lowerColumn risingColumn Graphs.slicesFit
-    Graphs.built Graphs.joined placesTo columnOf sumTo largest largestFrom normalised wholeLog Match.matchOutcome Match.finished Match.matchLengths
+    Graphs.built Graphs.joined placesTo atMost largest largestFrom normalised wholeLog Match.matchOutcome Match.finished Match.matchLengths
     hungarianMatch graphFault costFault inRange sizeFault pointerFault firstOf generalColumns generalColumn magnitude unitsPerOne ofInt ofBits lt
     le eq ne add sub neg makeExponents exponentsFault lengthsFit factorsFault factorFits isWhole withinLimit exponentOf floorOf wholeOf
-    differences applyExponents applyFault matrixFault limitFault valuesFault columnFault scaledValues tabulate scalable scaledBits
+    differences applyExponents applyFault matrixFault limitFault valuesFault columnFault scaledValues tabulate columnOf sumTo scalable scaledBits
 triangle-scaled = (refl, refl, refl, refl, refl, refl)

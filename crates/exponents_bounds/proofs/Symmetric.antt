@@ -1,6 +1,7 @@
 -- A symmetric matrix, of which the lower triangle is stored, whose graph of whole-number logarithms was accepted: its mirrored columns are logged ones, each
 -- kept place has an entry in the column of its column and one in that of its row, its mirror's, so that a certified match bounds the entries and the mirrors
--- (`symmetric-set`), and its duals are potentials of the logarithms of both (`symmetric-logs`).
+-- (`symmetric-set`), and its duals are potentials of the logarithms of both (`symmetric-logs`). Seen as a general matrix, the triangle has the same columns
+-- (`column-same`).
 use mathlib.Core.Path.{_≡_, refl, sym, ap, ap₂, _∙_, subst}
 use mathlib.Core.Bool.{Bool, true, _&&_}
 use mathlib.Core.List.{List}
@@ -16,8 +17,8 @@ use Rattle.float64.specs.Number.{magnitude}
 use Rattle.slices.proofs.Bools.{both}
 use Rattle.sparse.specs.Columns.{Columns}
 use Rattle.sparse.specs.Matrix.{Matrix}
-use Rattle.sparse.specs.Pattern.{columnOf}
-use Rattle.sparse.proofs.Columns.{simple}
+use Rattle.sparse.specs.Pattern.{columnOf, InColumn}
+use Rattle.sparse.proofs.Columns.{column-is, simple}
 use Rattle.match_check.specs.Check.{Claim, rowFor}
 use Rattle.match_check.specs.Call.{Certified}
 use Rattle.mc64_columns.specs.Columns.{valueLogs}
@@ -55,6 +56,14 @@ module _ (m : Matrix) (s : Slices) (fine : wholeSymmetricFault m s ≡ 0) (doubl
 
   value-finite : (k : ℕ) → k < length (m .pattern .rowIdx) → finite (getD (m .values) k nan) ≡ true
   value-finite k h = all-finite (m .values) (parts m s fine doubles .1 .1) k (omega (arith, triangle .stored))
+
+  -- the column of a place, counted either way
+  column-same : (k : ℕ) → k < length (m .pattern .rowIdx) → columnOf (m .pattern) k ≡ placeColumn m k
+  column-same k h =
+      let i = stands m triangle k h in
+      let w : InColumn (m .pattern) (placeColumn m k) k =
+      record { column = i .column; above = i .from; below = i .to } in
+      column-is (m .pattern) columns (placeColumn m k) k w
 
   -- a value that is not zero is kept, and the other way
   is-kept : (k : ℕ) → k < length (m .pattern .rowIdx) → kept m k ≡ true → KeptEntry m k
@@ -95,7 +104,7 @@ module _ (m : Matrix) (s : Slices) (fine : wholeSymmetricFault m s ≡ 0) (doubl
 
   -- the lower triangle is stored
   lower : (k : ℕ) → k < length (m .pattern .rowIdx) → columnOf (m .pattern) k ≤ getD (m .pattern .rowIdx) k 0
-  lower k h = let i = stands m triangle k h in omega (arith, triangle .lower .below (placeColumn m k) k (i .column) (i .above) (i .below))
+  lower k h = let i = stands m triangle k h in omega (arith, column-same k h, triangle .lower .below (placeColumn m k) k (i .column) (i .from) (i .to))
 
   pub symmetric-alone : Alone m (EitherAt m)
   symmetric-alone i j k l h g a b = let (r, d) = same a b in simple (m .pattern) columns k l h g r d
@@ -125,11 +134,11 @@ module _ (m : Matrix) (s : Slices) (fine : wholeSymmetricFault m s ≡ 0) (doubl
       mirror = placed row k (triangle .columns .inside k (K .stored)) K (inl refl)
 
       own-shift : shiftOf set (otherEnd m column k) column ≡ shiftAt (m .pattern) set k
-      own-shift = ap (λ (i : ℕ). shiftOf set i (placeColumn m k)) (from-column m k)
+      own-shift = ap₂ (λ (i j : ℕ). shiftOf set i j) (from-column m k) (sym (column-same k (K .stored)))
 
       mirror-shift : shiftOf set (otherEnd m row k) row ≡ shiftAt (m .pattern) (swapped set) k
       mirror-shift =
-          ap (λ (i : ℕ). shiftOf set i row) (from-row m k)
+          ap (λ (i : ℕ). shiftOf set i row) (from-row m k ∙ sym (column-same k (K .stored)))
           ∙ +ℤ-comm (exponentAt (set .rows) (columnOf (m .pattern) k)) (exponentAt (set .columns) row)
 
       own-below : Scaled BelowTwo (magnitude (getD (m .values) k nan)) (shiftAt (m .pattern) set k)
@@ -144,13 +153,13 @@ module _ (m : Matrix) (s : Slices) (fine : wholeSymmetricFault m s ≡ 0) (doubl
       own-above q =
           subst (Scaled AboveQuarter (magnitude (getD (m .values) k nan))) own-shift
           (made-above (m .pattern .n) (mirroredColumns m) (m .values) logs symmetric-columns c C (own .1)
-          (q ∙ sym (from-column m k)))
+          (ap (rowFor c) (sym (column-same k (K .stored))) ∙ q ∙ sym (from-column m k)))
 
       mirror-above : IsMirrorMatched m (c .perm) k → Scaled AboveQuarter (magnitude (getD (m .values) k nan)) (shiftAt (m .pattern) (swapped set) k)
       mirror-above q =
           subst (Scaled AboveQuarter (magnitude (getD (m .values) k nan))) mirror-shift
           (made-above (m .pattern .n) (mirroredColumns m) (m .values) logs symmetric-columns c C (mirror .1)
-          (q ∙ sym (from-row m k)))
+          (q ∙ column-same k (K .stored) ∙ sym (from-row m k)))
 
     entries : Within m (IsMatched m (c .perm)) set
     entries = record {
@@ -177,9 +186,9 @@ module _ (m : Matrix) (s : Slices) (fine : wholeSymmetricFault m s ≡ 0) (doubl
         (k, K, which k K (subst (Takes m j) (E .place) (taken m j (length (m .pattern .rowIdx)) (E .number) (E .stands) .1)) q)
       where
         which : (k : ℕ) → KeptEntry m k → Takes m j k → rowFor c j ≡ otherEnd m j k → Pair j k
-        which k K (inl e) q = inr (e, ap (rowFor c) e ∙ q ∙ ap (λ (x : ℕ). otherEnd m x k) (sym e) ∙ from-row m k)
+        which k K (inl e) q = inr (e, ap (rowFor c) e ∙ q ∙ ap (λ (x : ℕ). otherEnd m x k) (sym e) ∙ from-row m k ∙ sym (column-same k (K .stored)))
         which k K (inr e) q =
-            let d : columnOf (m .pattern) k ≡ j = e in
+            let d : columnOf (m .pattern) k ≡ j = column-same k (K .stored) ∙ e in
             inl (d, ap (rowFor c) d ∙ q ∙ ap (λ (x : ℕ). otherEnd m x k) (sym e) ∙ from-column m k)
 
     pub symmetric-set : SymmetricBounded m (c .perm) set
@@ -198,10 +207,10 @@ module _ (m : Matrix) (s : Slices) (fine : wholeSymmetricFault m s ≡ 0) (doubl
     -- what is so at an end of place k as the graph has it, is so at the row and column of it
     module _ (k : ℕ) (K : KeptEntry m k) (P : ℕ → ℕ → Type 0) {i j : ℕ} where
       moved-own : (getD (m .pattern .rowIdx) k 0 ≡ i) → (columnOf (m .pattern) k ≡ j) → P (otherEnd m (placeColumn m k) k) (placeColumn m k) → P i j
-      moved-own r d p = subst (λ (x : ℕ). P x j) (from-column m k ∙ r) (subst (P (otherEnd m (placeColumn m k) k)) d p)
+      moved-own r d p = subst (λ (x : ℕ). P x j) (from-column m k ∙ r) (subst (P (otherEnd m (placeColumn m k) k)) (sym (column-same k (K .stored)) ∙ d) p)
 
       moved-mirror : (getD (m .pattern .rowIdx) k 0 ≡ j) → (columnOf (m .pattern) k ≡ i) → P (otherEnd m (placeRow m k) k) (placeRow m k) → P i j
-      moved-mirror r d p = subst (λ (x : ℕ). P x j) (from-row m k ∙ d) (subst (P (otherEnd m (placeRow m k) k)) r p)
+      moved-mirror r d p = subst (λ (x : ℕ). P x j) (from-row m k ∙ sym (column-same k (K .stored)) ∙ d) (subst (P (otherEnd m (placeRow m k) k)) r p)
 
     at-most : (i j k : ℕ) → KeptEntry m k → EitherAt m k i j → AtMost k i j
     at-most i j k K (inl (r, d)) = moved-own k K (AtMost k) r d
@@ -213,11 +222,11 @@ module _ (m : Matrix) (s : Slices) (fine : wholeSymmetricFault m s ≡ 0) (doubl
     tight j k K (inl (r, d)) =
         moved-own k K (Tight k) r d
         (made-tight (m .pattern .n) (mirroredColumns m) (m .values) logs symmetric-columns c C (own k K .1)
-        (ap (rowFor c) d ∙ sym r ∙ sym (from-column m k)))
+        (ap (rowFor c) (sym (column-same k (K .stored)) ∙ d) ∙ sym r ∙ sym (from-column m k)))
     tight j k K (inr (r, d)) =
         moved-mirror k K (Tight k) r d
         (made-tight (m .pattern .n) (mirroredColumns m) (m .values) logs symmetric-columns c C (mirror k K .1)
-        (ap (rowFor c) r ∙ sym d ∙ sym (from-row m k)))
+        (ap (rowFor c) r ∙ sym d ∙ column-same k (K .stored) ∙ sym (from-row m k)))
 
     pair-at : (j k : ℕ) → Pair j k → EitherAt m k (rowFor c j) j
     pair-at j k (inl (d, q)) = inl (sym q ∙ ap (rowFor c) d, d)

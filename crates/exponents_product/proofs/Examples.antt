@@ -28,7 +28,7 @@ use Rattle.mc64_columns.specs.Columns.{largest, largestFrom, normalised}
 use Rattle.mc64_columns.specs.Graphs as Graphs
 use Rattle.mc64_columns.specs.declared.Built.{Built}
 use Rattle.mc64_general.specs.Graph.{isKept, keptPlaces, largestLog}
-use Rattle.mc64_symmetric.specs.Graph.{placesTo}
+use Rattle.mc64_symmetric.specs.Graph.{atMost, placesTo}
 use Rattle.whole_graphs.specs.Graphs.{finiteFault, generalInputFault, symmetricInputFault, wholeGeneralGraph, wholeSymmetricGraph, graphLeft}
 use Rattle.exponents.proofs.Bounds.{product-power, power-power}
 use Rattle.exponents_product.specs.Product.{sizeBy, generalSize, symmetricSize, productTo, productOf, rowsOf}
@@ -112,7 +112,7 @@ pub triangle-matched : (Graphs.numberOf (triangle-builds .answer) ≡ accepted) 
     × (getD (Match.countsLeft (triangle-matches .answer) []) 0 0 ≡ 2) × (triangle-matches .after .perm ≡ 1 ∷ 0 ∷ [])
     × (productOf 2 (symmetricSize triangle) (rowsOf (1 ∷ 0 ∷ [])) ≡ 2 ^ 1074 * 2 ^ 1074) × (productOf 2 (symmetricSize triangle) (rowsOf (0 ∷ 1 ∷ [])) ≡ 0)
 unfolding wholeSymmetricGraph symmetricInputFault finiteFault frameFault symmetricFault symmetricColumns lowerColumn risingColumn Graphs.slicesFit
-    Graphs.built Graphs.joined placesTo columnOf sumTo largest largestFrom normalised wholeLog Match.matchOutcome Match.finished
+    Graphs.built Graphs.joined placesTo atMost largest largestFrom normalised wholeLog Match.matchOutcome Match.finished
     Match.matchLengths hungarianMatch graphFault costFault inRange sizeFault pointerFault firstOf generalColumns generalColumn magnitude
-    unitsPerOne ofInt ofBits lt le eq ne add sub neg sizeBy productTo
+    unitsPerOne ofInt ofBits lt le eq ne add sub neg columnOf sumTo sizeBy productTo
 triangle-matched = (refl, refl, refl, refl, refl, refl)

@@ -9,7 +9,7 @@ use native.Mathlib.Omega.{arith}
 use borrow.Author.Tests.{eq-eqb, ne-eqb}
 use lib.Dec.{eqb}
 use lib.Ieee.{Float, nan, binary64, add, eq, lt}
-use lib.ListN.{getD, set, length-set}
+use lib.ListN.{length, getD, set, length-set}
 use lib.Seq.{getD-set-same, getD-set-other}
 use Rattle.float64.specs.Constants as Constants
 use Rattle.sparse.specs.Matrix.{Matrix, matrix}
@@ -17,10 +17,9 @@ use Rattle.matching.specs.Match.{Match}
 use Rattle.mc64_columns.specs.Columns.{largestFrom}
 use Rattle.mc64_symmetric.specs.Graph.{placeRow, placesTo, otherEnd}
 use Rattle.mc64_symmetric.specs.inner.Steps.{Triangle}
-use Rattle.mc64_symmetric.proofs.Places.{col-is, row-below, dropped, in-row, in-column, elsewhere}
+use Rattle.mc64_symmetric.proofs.Places.{In, col-is, row-below, dropped, in-row, in-column, elsewhere}
 use Rattle.factors_mc64.specs.Factors.{factorAt}
 use Rattle.factors_mc64.specs.Calls.{Slices}
-use Rattle.sparse.specs.Pattern.{InColumn}
 use Rattle.factors_flat.specs.Flat.{Input, input, columns, isMatched, alone, sumAt, sumsOver}
 use Rattle.factors_flat.specs.inner.Steps.{mark, held, Levelled, sumsTo, Enters, raisedTo, raisedAt, entered}
 
@@ -118,7 +117,7 @@ module _ (c : Match Float) (m : Matrix) (logs : List Float) (t : Triangle m) whe
   entry-dropped k s z h =
       levelled-same (m .pattern .n) c (sumsTo g k) (sumsTo g (k + 1)) s h (λ i l u. ap (sumsOver g i) (ap (placesTo m i) (add-one k) ∙ dropped m i k z))
 
-  module _ {j k : ℕ} (p : InColumn (m .pattern) j k) (z : eq (getD (m .values) k nan) Constants.zero ≡ false) where
+  module _ {j k : ℕ} (p : In m j k) (z : eq (getD (m .values) k nan) Constants.zero ≡ false) where
     own-row : otherEnd m j k ≡ placeRow m k
     own-row = go (ℕ-discrete (placeRow m k) j)
       where
@@ -209,7 +208,7 @@ module _ {m : Matrix} {logs : List Float} where
       → Enters m logs a (k + 1) s t
   enters-dropped tri {a} {k} {s} {t} z p = record { levels = λ c h. entry-dropped c m logs tri k t z (p .levels c h) }
 
-  pub enters-more : Triangle m → {a j k : ℕ} {s t after : Slices} → InColumn (m .pattern) j k → eq (getD (m .values) k nan) Constants.zero ≡ false
+  pub enters-more : Triangle m → {a j k : ℕ} {s t after : Slices} → In m j k → eq (getD (m .values) k nan) Constants.zero ≡ false
       → after ≡ entered (eqb (getD (t .work) (placeRow m k) 0) 1) (eqb (getD (t .work) j 0) 1) (placeRow m k) j (getD logs k nan) t
       → Enters m logs a k s t → Enters m logs a (k + 1) s after
   enters-more tri {a} {j} {k} {s} {t} {after} i z e p =

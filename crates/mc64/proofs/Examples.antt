@@ -22,14 +22,12 @@ use Rattle.cost_limit.specs.Range.{inLogRange}
 use Rattle.mc64_columns.specs.Columns.{largest, largestFrom, normalised}
 use Rattle.mc64_columns.specs.Graphs as Graphs
 use Rattle.mc64_columns.specs.Graphs.{joined, slicesFit, built}
-use Rattle.mc64_symmetric.specs.Graph.{placesTo}
+use Rattle.mc64_symmetric.specs.Graph.{atMost, placesTo}
 use Rattle.mc64_symmetric.specs.Call.{valuesFault, inputFault}
 use Rattle.factors_mc64.specs.declared.Scaled.the-variants.{Applied, Refused}
 use Rattle.factors_mc64.specs.Factors.{doublesOf, isMatchedRow, argument, logFactor}
 use Rattle.factors_mc64.specs.Calls as Factors
 use Rattle.factors_balance.specs.Balance.{WholeLogs, NoneHeld, Balanced}
-use Rattle.sparse.specs.Pattern.{columnOf}
-use Rattle.matching.specs.Sum.{sumTo}
 use Rattle.mc64.specs.Call.{ScalingSlices, scalingSlices, restFits, symmetricScaling, scaled}
 use Rattle.mc64.proofs.Calling.{promised}
 
@@ -61,7 +59,7 @@ log-3 : symmetricScaling single (three ∷ []) (slicesOne (one ∷ []))
     (Match.slices (0 ∷ []) (fzero ∷ []) (fzero ∷ []) (0 ∷ 0 ∷ 0 ∷ 0 ∷ 0 ∷ 0 ∷ 0 ∷ 0 ∷ 0 ∷ 0 ∷ 0 ∷ 0 ∷ 0 ∷ []) (fzero ∷ fzero ∷ []))
     (Factors.slices (ofBits binary64 0xBFF8_0000_0000_0000 ∷ []) (0 ∷ [])))
 unfolding symmetricScaling scaled restFits slicesFit inputFault valuesFault built sizeFault pointerFault frameFault lowerColumn risingColumn
-    symmetricColumns symmetricFault firstOf joined placesTo columnOf sumTo inLogRange magnitude unitsPerOne normalised largest largestFrom hungarianMatch doublesOf
+    symmetricColumns symmetricFault firstOf joined placesTo atMost inLogRange magnitude unitsPerOne normalised largest largestFrom hungarianMatch doublesOf
     isMatchedRow logFactor clampLog
     ofBits add sub div neg eq ne lt le
 log-3 = refl
@@ -76,7 +74,7 @@ log-1418 : symmetricScaling single (low ∷ []) (slicesOne (one ∷ []))
     (Match.slices (0 ∷ []) (fzero ∷ []) (fzero ∷ []) (0 ∷ 0 ∷ 0 ∷ 0 ∷ 0 ∷ 0 ∷ 0 ∷ 0 ∷ 0 ∷ 0 ∷ 0 ∷ 0 ∷ 0 ∷ []) (fzero ∷ fzero ∷ []))
     (Factors.slices (logHuge ∷ []) (0 ∷ [])))
 unfolding symmetricScaling scaled restFits slicesFit inputFault valuesFault built sizeFault pointerFault frameFault lowerColumn risingColumn
-    symmetricColumns symmetricFault firstOf joined placesTo columnOf sumTo inLogRange magnitude unitsPerOne normalised largest largestFrom hungarianMatch doublesOf
+    symmetricColumns symmetricFault firstOf joined placesTo atMost inLogRange magnitude unitsPerOne normalised largest largestFrom hungarianMatch doublesOf
     isMatchedRow logFactor clampLog
     ofBits add sub div neg eq ne lt le
 log-1418 = refl

@@ -7,7 +7,7 @@ use mathlib.Core.Bool.{Bool, true, false, not, cond, _||_, false≢true}
 use mathlib.Core.List.{List}
 use mathlib.Core.Logic.{_⊎_, inl, inr, ⊎-elim}
 use Prim.Native.Nat.{ℕ, zero, suc, _+_, _-_, _≤_, _<_}
-use native.Mathlib.Nat.{not-suc-le-zero}
+use native.Mathlib.Nat.{le-refl, not-suc-le-zero}
 use native.Mathlib.Decide.{ℕ-discrete, decLt}
 use native.Mathlib.Omega.{arith}
 use borrow.Author.Tests.{eqb-true, eq-eqb, ne-eqb}
@@ -17,11 +17,12 @@ use lib.Ieee.Scale.{finite}
 use lib.ListN.{length, getD, length-map}
 use Rattle.limits.specs.Limits.{maxSymmetric}
 use Rattle.float64.specs.Constants as Constants
-use Rattle.sparse.specs.Columns.{Columns}
+use Rattle.sparse.specs.Columns.{Pointers, Columns}
 use Rattle.sparse.specs.Validate.{generalFault, symmetricFault, sizeFault}
 use Rattle.sparse.specs.Fault.{unless, orElse, firstOf}
 use Rattle.sparse.proofs.First.{or-zero, all-zero, unless-holds}
 use Rattle.slices.proofs.Bools.{both}
+use Rattle.sparse.proofs.Accepted.{column-of}
 use Rattle.sparse.proofs.Listed.{Listed, test, or-listed, first-listed, within, part}
 use Rattle.sparse.proofs.Theorems.{sizeNumbers, sizes-listed, symmetric-listed}
 use Rattle.refusal.specs.Refusal.{costRange, valueNotFinite}
@@ -36,46 +37,47 @@ use Rattle.mc64_columns.specs.declared.Built.{Built}
 use Rattle.mc64_columns.proofs.Kept.{keep-all, keep-rises, keep-alike}
 use Rattle.mc64_columns.proofs.Graphs.{row-at, columns-rise, columns-accepted, columns-match}
 use Rattle.mc64_columns.proofs.Calls.{in-list, outcome-listed, outcome-alike}
-use Rattle.sparse.specs.Pattern.{InColumn}
-use Rattle.sparse.proofs.Columns.{in-column}
 use Rattle.mc64_symmetric.specs.Graph.{placeRow, placeColumn, kept, touches, placesTo, placesOf, otherEnd, mirroredColumns}
 use Rattle.mc64_symmetric.specs.Call.{lengthsFit, valueFault, placeFault, valuesFault, inputFault, costGraphFault, costGraph, Promises}
 use Rattle.mc64_columns.proofs.Agree.{Agree, agree-at}
 use Rattle.mc64_symmetric.specs.inner.Steps.{Triangle}
-use Rattle.mc64_symmetric.proofs.Places.{pointers-up, row-lower, pointer-few}
+use Rattle.mc64_symmetric.proofs.Places.{In, pointers-up, col-is, row-lower, pointer-few}
 use Rattle.mc64_symmetric.proofs.Building.{pointer-entries}
 use Rattle.mc64_symmetric.proofs.Calling.{ready}
 
 -- ---- stored places
 module _ (m : Matrix) (t : Triangle m) where
   -- every place stands in its column
-  pub stands : (k : ℕ) → k < length (m .pattern .rowIdx) → InColumn (m .pattern) (placeColumn m k) k
-  stands k h = in-column (m .pattern) (t .columns) k h
+  pub stands : (k : ℕ) → k < length (m .pattern .rowIdx) → In m (placeColumn m k) k
+  stands k h =
+      let f = column-of (t .columns .pointers) k (m .pattern .n) (le-refl (m .pattern .n)) (rw (t .columns .pointers .last) h) in
+      let i : In m (f .0) k = record { column = f .1; from = f .2; to = f .3 } in
+      subst (λ (j : ℕ). In m j k) (sym (col-is m t i)) i
 
   -- later places do not stand in earlier columns
-  columns-climb : {a b p q : ℕ} → InColumn (m .pattern) a p → InColumn (m .pattern) b q → p < q → a ≤ b
+  columns-climb : {a b p q : ℕ} → In m a p → In m b q → p < q → a ≤ b
   columns-climb {a} {b} i j l = go (decLt b a)
     where
       go : Dec (b < a) → a ≤ b
-      go (yes h) = let u = pointers-up m t (suc b) a h (omega (arith, i .column)) in let z : ⊥ = omega (arith, u, i .above, j .below) in absurd z
+      go (yes h) = let u = pointers-up m t (suc b) a h (omega (arith, i .column)) in let z : ⊥ = omega (arith, u, i .from, j .to) in absurd z
       go (no h) = omega arith
 
   -- and in one column they have higher rows
-  rows-climb : (j p d : ℕ) → InColumn (m .pattern) j p → InColumn (m .pattern) j (p + suc d) → placeRow m p < placeRow m (p + suc d)
+  rows-climb : (j p d : ℕ) → In m j p → In m j (p + suc d) → placeRow m p < placeRow m (p + suc d)
   rows-climb j p zero i k =
       let e : p + 1 ≡ suc p = omega arith in
-      rw e (t .columns .rising j p (i .column) (i .above) (omega (arith, k .below)))
+      rw e (t .columns .rising j p (i .column) (i .from) (omega (arith, k .to)))
   rows-climb j p (suc d) i k =
       let e : p + suc (suc d) ≡ suc (p + suc d) = omega arith in
-      let last : InColumn (m .pattern) j (p + suc d) = record { column = i .column; above = omega (arith, i .above); below = omega (arith, k .below) } in
+      let last : In m j (p + suc d) = record { column = i .column; from = omega (arith, i .from); to = omega (arith, k .to) } in
       rw e
       (omega
-      (arith, rows-climb j p d i last, t .columns .rising j (p + suc d) (i .column) (last .above) (omega (arith, k .below))))
+      (arith, rows-climb j p d i last, t .columns .rising j (p + suc d) (i .column) (last .from) (omega (arith, k .to))))
 
-  higher-row : {j p q : ℕ} → InColumn (m .pattern) j p → InColumn (m .pattern) j q → p < q → placeRow m p < placeRow m q
+  higher-row : {j p q : ℕ} → In m j p → In m j q → p < q → placeRow m p < placeRow m q
   higher-row {j} {p} {q} i k l =
       let e : p + suc (q - suc p) ≡ q = omega arith in
-      subst (λ (x : ℕ). placeRow m p < placeRow m x) e (rows-climb j p (q - suc p) i (subst (λ (x : ℕ). InColumn (m .pattern) j x) (sym e) k))
+      subst (λ (x : ℕ). placeRow m p < placeRow m x) e (rows-climb j p (q - suc p) i (subst (λ (x : ℕ). In m j x) (sym e) k))
 
 -- ---- the places of one column
 -- it takes the place from its row or from its column
@@ -122,17 +124,17 @@ module _ (m : Matrix) (t : Triangle m) (c : ℕ) where
   higher : (p q : ℕ) → p < q → q < length (m .pattern .rowIdx) → Takes m c p → Takes m c q → otherEnd m c p < otherEnd m c q
   higher p q l h a b = go (ℕ-discrete (placeRow m p) c) (ℕ-discrete (placeRow m q) c)
     where
-      i : InColumn (m .pattern) (placeColumn m p) p
+      i : In m (placeColumn m p) p
       i = stands m t p (omega arith)
 
-      j : InColumn (m .pattern) (placeColumn m q) q
+      j : In m (placeColumn m q) q
       j = stands m t q h
 
       climb : placeColumn m p ≤ placeColumn m q
       climb = columns-climb m t i j l
 
       together : placeColumn m p ≡ placeColumn m q → placeRow m p < placeRow m q
-      together e = higher-row m t i (subst (λ (x : ℕ). InColumn (m .pattern) x q) (sym e) j) l
+      together e = higher-row m t i (subst (λ (x : ℕ). In m x q) (sym e) j) l
 
       own : (k : ℕ) → (placeRow m k ≡ c) ⊎ (placeColumn m k ≡ c) → (placeRow m k ≡ c → ⊥) → placeColumn m k ≡ c
       own k x n = ⊎-elim (λ e. absurd (n e)) (λ e. e) x

@@ -1,24 +1,28 @@
 -- SPECIFICATION 6.1: The cost graph of a symmetric matrix whose lower triangle is stored by columns: which places each
 -- of its columns has, and the row of each.
 use mathlib.Core.Bool.{Bool, not, cond, _&&_, _||_}
-use mathlib.Core.List.{List, [], _++_}
+use mathlib.Core.List.{List, [], _∷_, _++_}
 use Prim.Native.Nat.{ℕ, zero, suc, _+_}
-use lib.Dec.{eqb}
+use lib.Dec.{leb, eqb}
 use lib.Ieee.{nan, eq}
-use lib.ListN.{length, getD}
+use lib.ListN.{length, getD, drop}
 use Rattle.float64.specs.Constants as Constants
 use Rattle.slices.specs.Lists.{keep}
 use Rattle.mc64_columns.specs.Columns.{largest}
-use Rattle.sparse.specs.Pattern.{rowOf, columnOf}
 use Rattle.sparse.specs.Matrix.{Matrix}
 use Rattle.mc64_columns.specs.Graphs.{GraphColumns}
 
--- the row and the column of a place
+-- how many of the numbers are at most k
+unfoldable pub atMost : List ℕ → ℕ → ℕ
+atMost [] k = 0
+atMost (p ∷ l) k = cond (leb p k) 1 0 + atMost l k
+
+-- the row of a place, and its column: as many columns end at or before it
 abbrev pub placeRow : Matrix → ℕ → ℕ
-placeRow m k = rowOf (m .pattern) k
+placeRow m k = getD (m .pattern .rowIdx) k 0
 
 abbrev pub placeColumn : Matrix → ℕ → ℕ
-placeColumn m k = columnOf (m .pattern) k
+placeColumn m k = atMost (drop 1 (m .pattern .colPtr)) k
 
 -- ---- one column of the graph
 -- a place whose value is not zero is kept

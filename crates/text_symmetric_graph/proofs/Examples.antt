@@ -9,29 +9,27 @@ use Rattle.hungarian.specs.Graph.{CostGraph}
 use Rattle.whole_log.specs.Log.{wholeLog}
 use Rattle.mc64_columns.specs.Columns.{largest, largestFrom, normalised}
 use Rattle.mc64_columns.specs.Graphs.{joined}
-use Rattle.mc64_symmetric.specs.Graph.{placesTo}
+use Rattle.mc64_symmetric.specs.Graph.{atMost, placesTo}
 use Rattle.text_graph.specs.Graph.{costValues}
-use Rattle.sparse.specs.Pattern.{columnOf}
-use Rattle.matching.specs.Sum.{sumTo}
 use Rattle.text_symmetric_graph.specs.Graph.{symmetricGraph}
 
 abbrev sample : CostGraph
 sample = symmetricGraph 3 (1 ∷ 2 ∷ 2 ∷ []) (0 ∷ 1 ∷ 0 ∷ []) (8 ∷ 1024 ∷ 3 ∷ [])
 
 pointers : sample .pattern .colPtr ≡ 0 ∷ 2 ∷ 4 ∷ 6 ∷ []
-unfolding filled sumAt columnRows rowsBefore valuesBefore tabulate joined placesTo columnOf sumTo ofBits ofInt add sum round units odd climb size span eq
+unfolding filled sumAt columnRows rowsBefore valuesBefore tabulate joined placesTo atMost ofBits ofInt add sum round units odd climb size span eq
 pointers = refl
 
 rows : sample .pattern .rowIdx ≡ 1 ∷ 2 ∷ 0 ∷ 2 ∷ 0 ∷ 1 ∷ []
-unfolding filled sumAt columnRows rowsBefore valuesBefore tabulate joined placesTo columnOf sumTo ofBits ofInt add sum round units odd climb size span eq
+unfolding filled sumAt columnRows rowsBefore valuesBefore tabulate joined placesTo atMost ofBits ofInt add sum round units odd climb size span eq
 rows = refl
 
 costs : sample .cost ≡ costValues (0 ∷ 92736 ∷ 458752 ∷ 0 ∷ 551488 ∷ 0 ∷ [])
-unfolding filled sumAt columnRows rowsBefore valuesBefore tabulate joined placesTo columnOf sumTo wholeLog magnitude unitsPerOne normalised largest largestFrom lt
+unfolding filled sumAt columnRows rowsBefore valuesBefore tabulate joined placesTo atMost wholeLog magnitude unitsPerOne normalised largest largestFrom lt
     sub neg ofBits ofInt add sum round units odd climb size span eq
 costs = refl
 
 -- a zero is dropped on both sides of the diagonal
 dropped : symmetricGraph 2 (1 ∷ 1 ∷ []) (0 ∷ 1 ∷ []) (0 ∷ 5 ∷ []) .pattern .rowIdx ≡ 1 ∷ []
-unfolding filled sumAt columnRows rowsBefore valuesBefore tabulate joined placesTo columnOf sumTo ofBits ofInt add sum round units odd climb size span eq
+unfolding filled sumAt columnRows rowsBefore valuesBefore tabulate joined placesTo atMost ofBits ofInt add sum round units odd climb size span eq
 dropped = refl

@@ -1,5 +1,5 @@
 -- `enter_column` meets its contract. The loop's invariant: the entries before k have entered.
-use mathlib.Core.Path.{_≡_, refl, _∙_, subst}
+use mathlib.Core.Path.{_≡_, refl, sym, _∙_, subst}
 use Prim.Native.Nat.{ℕ, _+_, _≤_, _<_, _-_}
 use native.Mathlib.Numerals.{add-one}
 use native.Mathlib.Omega.{arith}
@@ -7,9 +7,8 @@ use mathlib.Core.List.{List}
 use lib.Ieee.{Float}
 use lib.ListN.{length, getD}
 use Rattle.sparse.specs.Matrix.{matrix}
-use Rattle.mc64_symmetric.proofs.Places.{place-below, row-below, pointers-up}
+use Rattle.mc64_symmetric.proofs.Places.{In, place-below, row-below, pointers-up}
 use Rattle.factors_mc64.specs.Calls.{slices}
-use Rattle.sparse.specs.Pattern.{InColumn}
 use Rattle.factors_flat.specs.inner.Steps.{Enters}
 use Rattle.factors_flat.proofs.Sums.{enters-none, enters-dropped, enters-more}
 use Rattle.factors_flat.proofs.enter_column.Statement.{statement}
@@ -59,7 +58,7 @@ entry-of-slice-known4 c = entry-of-in-loop (in-loop-of-slice-known4 c)
 
 -- the place k stands in column j
 in-column : (c : tie.In-loop Inv-loop μ-loop) → let a = entry-of-in-loop c .args in
-    InColumn ((matrix (length (a .factors .now)) (a .col-ptr .now) (a .row-idx .now) (a .values .now)) .pattern) (a .j) (c .before .loop .k)
+    In (matrix (length (a .factors .now)) (a .col-ptr .now) (a .row-idx .now) (a .values .now)) (a .j) (c .before .loop .k)
 in-column c = record {
   column = entry-of-in-loop c .pre .0 .0;
   from = c .before .loop .inv .0;

@@ -1,5 +1,5 @@
 -- `scale_rows` meets its contract. The loop's invariant: the rows below `from` have their factors, whatever the guesses.
-use mathlib.Core.Path.{_≡_, refl, sym, _∙_}
+use mathlib.Core.Path.{_≡_, refl, sym, ap, _∙_}
 use Prim.Native.Nat.{_-_, _≤_}
 use native.Mathlib.Omega.{arith}
 use lib.ListN.{length, length-map}
