@@ -1,5 +1,5 @@
-//! Medians of interleaved rounds, as rows of tables. A round has as many calls as the clock needs to measure them. Times
-//! are the thread's processor time, or that of a process, so that other work on the machine counts little.
+//! Medians of interleaved rounds, as rows of tables. A round has as many calls as the clock needs to measure them.
+//! Times are the thread's processor time, or that of a process, so that other work on the machine counts little.
 
 use std::hint::black_box;
 

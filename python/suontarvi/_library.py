@@ -69,7 +69,7 @@ def library() -> ctypes.CDLL:
 
 
 def lend(arguments: Iterable[Any]) -> list:
-    """The arguments of a C call: numbers as u32 or doubles, arrays as pointer and length. The arrays must outlive it."""
+    """Arguments of a C call: numbers as u32 or doubles, arrays as pointer and length. The arrays must outlive them."""
     words: list = []
     for argument in arguments:
         if isinstance(argument, np.ndarray):

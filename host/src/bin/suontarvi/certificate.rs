@@ -1,6 +1,6 @@
 //! What is proved of a match: its gap, as a factor of the product of the matched entries. The gap is about the stored
-//! logarithms. Natural ones are rounded: their error is measured by integers and added, so that the factor holds for the
-//! entries themselves. For a match that is not complete: that it is largest, and why.
+//! logarithms. Natural ones are rounded: their error is measured by integers and added, so that the factor holds for
+//! the entries themselves. For a match that is not complete: that it is largest, and why.
 
 use std::f64::consts::LN_2;
 

@@ -1,5 +1,6 @@
-//! The list that the program `evidence_replay` reads: for each call inputs as the other commands draw them, chosen so that
-//! every refusal comes and most are accepted, and inputs at the limits, each with the answer that those commands expect.
+//! The list that the program `evidence_replay` reads: for each call inputs as the other commands draw them, chosen so
+//! that every refusal comes and most are accepted, and inputs at the limits, each with the answer that those commands
+//! expect.
 
 mod calls;
 mod case;
