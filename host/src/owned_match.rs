@@ -236,7 +236,7 @@ impl Matching {
     }
 
     fn read(sheet: &[u8], call: sheets::Reader) -> Result<Matching, Refusal> {
-        // a file without an n is refused before any length is looked at
+        // a file without an n is refused before any length is tested
         let mut read = Matching::room(sheets::columns(sheet).unwrap_or(0));
         let Matching { perm, u, v, cmax, .. } = &mut read;
         read.matched = call(sheet, perm, u, v, cmax)?;
