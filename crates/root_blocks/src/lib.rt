@@ -198,7 +198,7 @@ fn try_block(numbers: &[f64], from: usize, roots: &mut [f64]) -> u64
 }
 
 // The root of a number; a NaN where there is none.
-fn root(x: f64) -> f64
+pub fn root(x: f64) -> f64
     ensures { λ r. ⌜ r ≡ valueOf (sqrtOf x) ⌝ }
 {
     match square_root::sqrt_near(x, 0) {
