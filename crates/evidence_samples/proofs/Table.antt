@@ -38,7 +38,7 @@ use Rattle.text_report.specs.Report as Report
 use Rattle.text_report.specs.Pairs as Pairs
 use Rattle.text_report.specs.Form.{formText}
 use Rattle.text_answer.specs.Answer.{graphText, textOf, answerText}
-use Rattle.evidence_samples.specs.Table.{rows, table, allHold, mostColumns}
+use Rattle.evidence_samples.specs.Table.{rows, table, allHold}
 use Rattle.evidence_samples.proofs.Large.{most-columns}
 
 rows-hold : allHold rows ≡ true

@@ -27,7 +27,6 @@ use Rattle.sparse.proofs.Accepted.{sizes-accepted, pointers-accepted, general-c
 use Rattle.sparse.proofs.First.{or-zero, unless-holds, answer-first, answer-second}
 use Rattle.sparse.proofs.Listed.{Listed, test, or-listed, within, part}
 use Rattle.sparse.proofs.Theorems.{sizeNumbers, pointerNumbers, columnNumbers, sizes-listed, pointers-listed, general-columns-listed}
-use Rattle.matching.specs.Matching.{Largest}
 use Rattle.matching.specs.Pairing.{pairedEntries}
 use Rattle.float64.specs.Number.{Number, unitsPerOne}
 use Rattle.cost_limit.specs.Range.{costLimit}

@@ -25,7 +25,7 @@ pub root-pos : (n s : ℕ) → n < s * s → 0 < s
 root-pos n s h = root-lt 0 s (lt-of-le-of-lt zero-le h)
 
 -- (a + b) squared
-expanded : (a b : ℕ) → (a + b) * (a + b) ≡ a * a + 2 * (a * b) + b * b
+pub expanded : (a b : ℕ) → (a + b) * (a + b) ≡ a * a + 2 * (a * b) + b * b
 expanded a b =
     let e : (a + b) * (a + b) ≡ a * a + (a * b + (a * b + b * b)) = simp (mul-add, add-mul, mul-comm, add-assoc) in
     omega arith
