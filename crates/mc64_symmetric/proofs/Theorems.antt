@@ -6,8 +6,8 @@ use mathlib.Core.Path.{_≡_, refl, sym, ap, _∙_, subst, fun-ext}
 use mathlib.Core.Bool.{Bool, true, false, not, cond, _||_, false≢true}
 use mathlib.Core.List.{List}
 use mathlib.Core.Logic.{_⊎_, inl, inr, ⊎-elim}
-use Prim.Native.Nat.{ℕ, zero, suc, _+_, _-_, _≤_, _<_}
-use native.Mathlib.Nat.{le-refl, not-suc-le-zero}
+use Prim.Native.Nat.{ℕ, zero, suc, _-_, _≤_, _<_}
+use native.Mathlib.Nat.{not-suc-le-zero}
 use native.Mathlib.Decide.{ℕ-discrete, decLt}
 use native.Mathlib.Omega.{arith}
 use borrow.Author.Tests.{eqb-true, eq-eqb, ne-eqb}
@@ -17,7 +17,7 @@ use lib.Ieee.Scale.{finite}
 use lib.ListN.{length, getD, length-map}
 use Rattle.limits.specs.Limits.{maxSymmetric}
 use Rattle.float64.specs.Constants as Constants
-use Rattle.sparse.specs.Columns.{Pointers, Columns}
+use Rattle.sparse.specs.Columns.{Columns}
 use Rattle.sparse.specs.Validate.{generalFault, symmetricFault, sizeFault}
 use Rattle.sparse.specs.Fault.{unless, orElse, firstOf}
 use Rattle.sparse.proofs.First.{or-zero, all-zero, unless-holds}
