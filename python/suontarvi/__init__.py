@@ -205,8 +205,7 @@ def check(costs: Any, found: Match) -> None:
     >>> suontarvi.check(costs, found)
     Traceback (most recent call last):
     ...
-    suontarvi.Refused: refused with 31 (INFEASIBLE_DUALS): a dual that is not whole or too large, or duals \
-that add up to more than a cost
+    suontarvi.Refused: refused with 31 (INFEASIBLE_DUALS): a dual is not whole or too large, or u + v is above a cost
     """
     graph = _arrays.costs_of(costs)
     _, perm, u, v, _ = _fields(found)

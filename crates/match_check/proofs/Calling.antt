@@ -72,18 +72,18 @@ fits-lengths g s t l = rw (
       (l .columnDuals),
 ) refl
 
-all-fit : (g : CostGraph) (lengths : Bool) → graphFault g lengths ≡ 0 → lengths ≡ true
+pub lengths-fit : (g : CostGraph) (lengths : Bool) → graphFault g lengths ≡ 0 → lengths ≡ true
 unfolding graphFault
-all-fit g lengths e = sizes-accepted (g .pattern .n) maxGeneral (length (g .pattern .rowIdx)) lengths .0
+lengths-fit g lengths e = sizes-accepted (g .pattern .n) maxGeneral (length (g .pattern .rowIdx)) lengths .0
     (or-zero (sizeFault (g .pattern .n) maxGeneral (length (g .pattern .rowIdx)) lengths) _ e .0) .2
 
 -- ---- a graph that passes
 module _ (g : CostGraph) (s : Claim) (e : graphFault g (checkLengths g s) ≡ 0) where
   pub fit : Fitting g s
-  fit = fitting g s (all-fit g (checkLengths g s) e)
+  fit = fitting g s (lengths-fit g (checkLengths g s) e)
 
   pub graph-accepted : Accepted g
-  graph-accepted = subst (λ (t : Bool). graphFault g t ≡ 0) (all-fit g (checkLengths g s) e ∙ sym (fit .graph)) e
+  graph-accepted = subst (λ (t : Bool). graphFault g t ≡ 0) (lengths-fit g (checkLengths g s) e ∙ sym (fit .graph)) e
 
   pub ready : Checkable (g .pattern .n) (g .pattern .colPtr) (g .pattern .rowIdx) (g .cost) s
   unfolding graphFault
@@ -108,7 +108,7 @@ module _ (g : CostGraph) (s : Claim) (e : graphFault g (checkLengths g s) ≡ 0)
 
 -- what is accepted as a graph passes with lists of their lengths
 passes : (g : CostGraph) (s : Claim) → Accepted g → Long g s → graphFault g (checkLengths g s) ≡ 0
-passes g s a l = subst (λ (t : Bool). graphFault g t ≡ 0) (all-fit g (graphLengths g) a ∙ sym (fits-lengths g s (all-fit g (graphLengths g) a) l)) a
+passes g s a l = subst (λ (t : Bool). graphFault g t ≡ 0) (lengths-fit g (graphLengths g) a ∙ sym (fits-lengths g s (lengths-fit g (graphLengths g) a) l)) a
 
 -- ---- 8: costs of an accepted graph are no larger than duals may be
 low-mag : (t : Bool) (a b : ℕ) → a < origin → origin ≤ place t a → place t a < origin + b → a ≤ b

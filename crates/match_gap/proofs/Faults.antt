@@ -10,14 +10,11 @@ use lib.Dec.{T, leb, eqb}
 use lib.ListN.{length, getD}
 use lib.Ieee.{Float, nan, binary64, fits}
 use lib.Ieee.Scale.{finite}
-use Rattle.limits.specs.Limits.{maxGeneral}
 use Rattle.refusal.specs.Refusal.{indexRange, costRange, incompleteMatching, infeasibleDuals}
 use Rattle.refusal.specs.Listed.{listed, graphNumbers, gapNumbers}
 use Rattle.slices.proofs.Bools.{both}
 use Rattle.float64.specs.Number.{magnitude}
 use Rattle.sparse.specs.Fault.{unless}
-use Rattle.sparse.specs.Validate.{sizeFault}
-use Rattle.sparse.proofs.Accepted.{sizes-accepted}
 use Rattle.sparse.proofs.First.{or-zero, unless-holds, answer-first}
 use Rattle.sparse.proofs.Listed.{Listed, test, or-listed, within, part}
 use Rattle.sparse.specs.Pattern.{Pattern}
@@ -26,7 +23,7 @@ use Rattle.hungarian.specs.Test.{graphFault}
 use Rattle.hungarian_match.proofs.Tests.{match-listed}
 use Rattle.match_check.specs.Check.{Claim, checkLengths, pairingFits}
 use Rattle.match_check.proofs.Every.{every-first}
-use Rattle.match_check.proofs.Calling.{fitting}
+use Rattle.match_check.proofs.Calling.{fitting, lengths-fit}
 use Rattle.match_gap.specs.Rounding.{zeroStep, step, inSteps}
 use Rattle.match_gap.specs.Gap.{maxDigits, allInSteps, gapLengths, pairsFault, gapFault}
 use Rattle.match_gap.specs.inner.Scans.{AllIn}
@@ -47,12 +44,6 @@ module _ (s : ℕ) (g : Pattern) (c : Claim) {pairing : Bool} (p : pairing ≡ p
     by-duals z = let q : pairingFits g (c .perm) ≡ true = sym p ∙ y in rw (q, ← a, ← b, z) refl
 
 -- ---- 3
-lengths-fit : (g : CostGraph) (lengths : Bool) → graphFault g lengths ≡ 0 → lengths ≡ true
-unfolding graphFault
-lengths-fit g lengths e =
-    sizes-accepted (g .pattern .n) maxGeneral (length (g .pattern .rowIdx)) lengths .0
-    (or-zero (sizeFault (g .pattern .n) maxGeneral (length (g .pattern .rowIdx)) lengths) _ e .0) .2
-
 all-fit : (g : CostGraph) (c : Claim) (gap : List ℕ) → graphFault g (gapLengths g c gap) ≡ 0 → (checkLengths g c ≡ true) × (length gap ≡ 1)
 unfolding gapLengths
 all-fit g c gap e =

@@ -36,16 +36,10 @@ module _ (g : Pattern) (perm : List ℕ) (w : Columns (g .n) (g .colPtr) (g .row
   abbrev rowMark : ℕ → ℕ
   rowMark i = getD (markedRows g perm) i 0
 
-  column-in : (k : ℕ) → k < entries g → columnOf g k < g .n
-  column-in k h = in-range g w .cols k h
-
-  row-in : (k : ℕ) → k < entries g → rowOf g k < g .n
-  row-in k h = in-range g w .rows k h
-
   -- every entry of a marked column is in a marked row
   pub closed : (k : ℕ) → k < entries g → columnMark (columnOf g k) ≡ 1 → rowMark (rowOf g k) ≡ 1
-  closed k h m = reached-row g perm w (rowOf g k) (row-in k h)
-      (record { entry = k; within = h; row = refl; column = column-reached g perm w (columnOf g k) (column-in k h) m })
+  closed k h m = reached-row g perm w (rowOf g k) (in-range g w .rows k h)
+      (record { entry = k; within = h; row = refl; column = column-reached g perm w (columnOf g k) (in-range g w .cols k h) m })
 
   free-marked : (j : ℕ) → j < g .n → rowAt perm j ≡ none → columnMark j ≡ 1
   free-marked j h e = reached-column g perm w (Reached.begins h e)
@@ -74,8 +68,8 @@ module _ (g : Pattern) (perm : List ℕ) (w : Columns (g .n) (g .colPtr) (g .row
           let r = p .stand j h (λ e. T-not (eqb (columnMark j) 1) z (eq→eqb (free-marked j h e))) in
           (r .0, r .1, eq→eqb (ap (rowAt perm) (r .3) ∙ sym (r .2)), r .3);
       inside = λ k h z.
-          let c = held (rowOf g k) (row-in k h) (closed k h (eqb→eq (columnMark (columnOf g k)) 1 z)) in
-          let r = p .stand (c .column) (c .within) (λ e. let y : ⊥ = omega (arith, c .row, p .outside, row-in k h) in y) in
+          let c = held (rowOf g k) (in-range g w .rows k h) (closed k h (eqb→eq (columnMark (columnOf g k)) 1 z)) in
+          let r = p .stand (c .column) (c .within) (λ e. let y : ⊥ = omega (arith, c .row, p .outside, in-range g w .rows k h) in y) in
           (r .0, r .1, eq→eqb (ap (rowAt perm) (r .3) ∙ sym (r .2)), r .2 ∙ c .row, eq→eqb (ap columnMark (r .3) ∙ c .marked));
     }
 
@@ -147,10 +141,10 @@ module _ (g : Pattern) (perm : List ℕ) (w : Columns (g .n) (g .colPtr) (g .row
             (λ k h. split (R k) (eqb (columnMark (columnOf g k)) 1)),
         sum-add (entries g) (λ k. orZero (R k && eqb (columnMark (columnOf g k)) 1) 1) (λ k. orZero (R k && not (eqb (columnMark (columnOf g k)) 1)) 1),
         count-le (entries g) (g .n) (λ k. R k && eqb (columnMark (columnOf g k)) 1) (λ i. eqb (rowMark i) 1) (rowOf g)
-            (λ k h t. (row-in k h, eq→eqb (closed k h (eqb→eq (columnMark (columnOf g k)) 1 (both-in (R k) (eqb (columnMark (columnOf g k)) 1) t .1)))))
+            (λ k h t. (in-range g w .rows k h, eq→eqb (closed k h (eqb→eq (columnMark (columnOf g k)) 1 (both-in (R k) (eqb (columnMark (columnOf g k)) 1) t .1)))))
             (λ k l b d s t e. m .rows k l b d (both-in (R k) _ s .0) (both-in (R l) _ t .0) e),
         count-le (entries g) (g .n) (λ k. R k && not (eqb (columnMark (columnOf g k)) 1)) (λ j. not (eqb (columnMark j) 1)) (columnOf g)
-            (λ k h t. (column-in k h, both-in (R k) (not (eqb (columnMark (columnOf g k)) 1)) t .1))
+            (λ k h t. (in-range g w .cols k h, both-in (R k) (not (eqb (columnMark (columnOf g k)) 1)) t .1))
             (λ k l b d s t e. m .cols k l b d (both-in (R k) _ s .0) (both-in (R l) _ t .0) e),
       )
 

@@ -111,12 +111,9 @@ module _ (g : Pattern) (perm : List ℕ) (w : Columns (g .n) (g .colPtr) (g .row
       go (inl e) = inl e
       go (inr e) = inr (met-entry g (columnsAfter g perm t) (rowAt perm j) e)
 
-  column : (k : ℕ) → k < entries g → columnOf g k < g .n
-  column k h = in-range g w .cols k h
-
   grows : (t j : ℕ) → j < g .n → At t j → At (suc t) j
   grows zero j h m = free-at 1 j h (mark-is (isFree perm j) (sym (first-at j h) ∙ m))
-  grows (suc t) j h m = go (came t j h m) (λ k b. grows t (columnOf g k) (column k b))
+  grows (suc t) j h m = go (came t j h m) (λ k b. grows t (columnOf g k) (in-range g w .cols k b))
     where
       go : Came t j → ((k : ℕ) → k < entries g → At t (columnOf g k) → At (suc t) (columnOf g k)) → At (suc (suc t)) j
       go (inl e) f = free-at (suc (suc t)) j h e
@@ -131,7 +128,7 @@ module _ (g : Pattern) (perm : List ℕ) (w : Columns (g .n) (g .colPtr) (g .row
     where
       go : Came (suc t) j → At (suc t) j
       go (inl e) = free-at (suc t) j h e
-      go (inr c) = by-entry t j (c .0) h (c .1) (c .2) (s (columnOf g (c .0)) (column (c .0) (c .1)) (c .3))
+      go (inr c) = by-entry t j (c .0) h (c .1) (c .2) (s (columnOf g (c .0)) (in-range g w .cols (c .0) (c .1)) (c .3))
 
   bit : (t j : ℕ) → j < g .n → getD (columnsAfter g perm t) j 0 ≤ 1
   bit zero j h = omega (arith, first-at j h, mark-bit (isFree perm j))
@@ -178,7 +175,7 @@ module _ (g : Pattern) (perm : List ℕ) (w : Columns (g .n) (g .colPtr) (g .row
   -- ---- the marks
   reached-at : (t j : ℕ) → j < g .n → At t j → Reached g perm j
   reached-at zero j h m = Reached.begins h (eqb-true (rowAt perm j) none (mark-is (isFree perm j) (sym (first-at j h) ∙ m)))
-  reached-at (suc t) j h m = go (came t j h m) (λ k b. reached-at t (columnOf g k) (column k b))
+  reached-at (suc t) j h m = go (came t j h m) (λ k b. reached-at t (columnOf g k) (in-range g w .cols k b))
     where
       go : Came t j → ((k : ℕ) → k < entries g → At t (columnOf g k) → Reached g perm (columnOf g k)) → Reached g perm j
       go (inl e) f = Reached.begins h (eqb-true (rowAt perm j) none e)
@@ -212,7 +209,7 @@ module _ (g : Pattern) (perm : List ℕ) (w : Columns (g .n) (g .colPtr) (g .row
   pub row-reached : (i : ℕ) → i < g .n → getD (markedRows g perm) i 0 ≡ 1 → ReachedRow g perm i
   row-reached i h m =
       let c = met-entry g (markedColumns g perm) i (mark-is _ (sym (row-is i h) ∙ m)) in
-      record { entry = c .0; within = c .1; row = c .2; column = column-reached (columnOf g (c .0)) (column (c .0) (c .1)) (c .3) }
+      record { entry = c .0; within = c .1; row = c .2; column = column-reached (columnOf g (c .0)) (in-range g w .cols (c .0) (c .1)) (c .3) }
 
   pub reached-row : (i : ℕ) → i < g .n → ReachedRow g perm i → getD (markedRows g perm) i 0 ≡ 1
   reached-row i h r = row-is i h ∙ is-mark (entry-met g (markedColumns g perm) i (r .entry) (r .within) (r .row) (reached-column (r .column)))

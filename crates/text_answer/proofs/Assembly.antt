@@ -2,7 +2,7 @@
 -- file's graph.
 use mathlib.Core.Path.{_≡_, refl, sym, ap, _∙_, subst}
 use mathlib.Core.Logic.{_≢_}
-use mathlib.Core.Bool.{Bool, true, false, not}
+use mathlib.Core.Bool.{true, false, not}
 use mathlib.Core.List.{List}
 use Prim.Native.Nat.{ℕ, _+_, _*_}
 use native.Mathlib.Omega.{arith}
@@ -17,7 +17,7 @@ use Rattle.triplets.specs.inner.Steps.{Built, Sized, Roomy}
 use Rattle.hungarian.specs.Graph.{CostGraph, graphOf}
 use Rattle.text_matrix_market.specs.declared.banner.Kind.the-variants.{General}
 use Rattle.text_graph.specs.Graph.{costValues, fileGraph}
-use Rattle.text_graph.proofs.KeptCount.{kept-count}
+use Rattle.text_graph.proofs.KeptCount.{kept-count, opposite}
 use Rattle.text_symmetric_graph.proofs.Calls.{nothing-left}
 use Rattle.text_report.specs.declared.Form.{Form}
 use Rattle.text_report.specs.Report.{refusedText}
@@ -25,10 +25,6 @@ use Rattle.text_matrix_market.specs.File.{repeats}
 use Rattle.text_answer.specs.Answer.{graphText}
 use Rattle.text_answer.specs.inner.Steps.{Entries, entriesText, Reportable}
 use Rattle.text_answer.proofs.Graphs.{has-text}
-
-other : (b c : Bool) → c ≡ not b → b ≡ not c
-other true c e = ap not (sym e)
-other false c e = ap not (sym e)
 
 module _ {n : ℕ} {rows cols : List ℕ} {values : List Float} {output : List ℕ} (S : Entries General n rows cols values output) where
   abbrev t : Triplets
@@ -63,7 +59,7 @@ module _ {n : ℕ} {rows cols : List ℕ} {values : List Float} {output : List �
   module _ {before after : Slices} {kept : ℕ} (b : Built n t before after kept) where
     -- fewer are kept exactly where a pair repeats
     counted : repeats rows cols ≡ not (eqb kept (length rows))
-    counted = other (repeats rows cols) _ (ap (λ (k : ℕ). eqb k (length rows)) (b .count) ∙ kept-count n t (S .held .inside))
+    counted = opposite (repeats rows cols) _ (ap (λ (k : ℕ). eqb k (length rows)) (b .count) ∙ kept-count n t (S .held .inside))
 
     pub repeated-text : (form : Form) → kept ≢ length rows → (weights : List ℕ) → refusedText repeatedPair ≡ entriesText form General n rows cols weights
     unfolding entriesText

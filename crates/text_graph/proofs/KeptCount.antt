@@ -125,3 +125,8 @@ module _ (n : ℕ) (t : Triplets) (p : Inside n (t .rows) (t .cols)) where
   -- the kept count tells whether a pair repeats
   pub kept-count : eqb (keptCount n t) (length (t .rows)) ≡ not (repeats (t .rows) (t .cols))
   kept-count = rw kept-positions (counted n (t .rows) (t .cols) p .1)
+
+-- ---- a test by its opposite
+pub opposite : (b c : Bool) → c ≡ not b → b ≡ not c
+opposite true c e = ap not (sym e)
+opposite false c e = ap not (sym e)

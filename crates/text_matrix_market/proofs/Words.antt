@@ -14,6 +14,12 @@ use Rattle.text_matrix_market.specs.Text.{isBlank, isLineFeed, prepend, 
 use Rattle.text_matrix_market.specs.inner.Steps.{upTo, reach, isWordByte, lineEnd, wordStart, wordEnd, nextWord, wordPast}
 use Rattle.text_matrix_market.proofs.Reaching.{reach-within}
 
+-- a word that is not empty is kept
+pub word-kept : (word : List ℕ) (words : List (List ℕ)) → 0 < length word → nonEmpty (word ∷ words) ≡ word ∷ nonEmpty words
+unfolding nonEmpty
+word-kept [] words h = let z : ⊥ = omega arith in absurd z
+word-kept (b ∷ word) words h = refl
+
 pub percent-none : (l : List ℕ) → length l ≡ 0 → false ≡ beginsPercent l
 unfolding beginsPercent
 percent-none [] h = refl

@@ -7,6 +7,7 @@ use Prim.Native.Nat.{ℕ, _<_}
 use native.Mathlib.Omega.{arith}
 use lib.ListN.{length}
 use Rattle.text_matrix_market.specs.Text.{isLineFeed, isBlank, cut, nonEmpty, linesOf, wordsOf}
+use Rattle.text_matrix_market.proofs.Words.{word-kept}
 
 -- no byte of a list passes the test
 abbrev pub None : (ℕ → Bool) → List ℕ → Type 0
@@ -34,11 +35,6 @@ unfolding linesOf
 lines-first line rest p = part-first isLineFeed line 10 rest p refl
 
 -- ---- words
-word-kept : (word : List ℕ) (words : List (List ℕ)) → 0 < length word → nonEmpty (word ∷ words) ≡ word ∷ nonEmpty words
-unfolding nonEmpty
-word-kept [] words h = let z : ⊥ = omega arith in absurd z
-word-kept (b ∷ word) words h = refl
-
 module _ (word : List ℕ) (some : 0 < length word) (p : None isBlank word) where
   pub words-first : (rest : List ℕ) → wordsOf (word ++ (32 ∷ rest)) ≡ word ∷ wordsOf rest
   unfolding wordsOf

@@ -2,7 +2,7 @@
 -- the building asks for nothing more, and what it leaves is the graph.
 use mathlib.Core.Path.{_≡_, refl, sym, ap, _∙_, subst}
 use mathlib.Core.Logic.{_≢_}
-use mathlib.Core.Bool.{Bool, true, false, not}
+use mathlib.Core.Bool.{true, false, not}
 use mathlib.Core.List.{List, _++_, append-nil}
 use Prim.Native.Nat.{ℕ, _+_, _*_, _≤_}
 use native.Mathlib.Omega.{arith}
@@ -24,7 +24,7 @@ use Rattle.mc64_symmetric.proofs.Building.{pointer-entries}
 use Rattle.mc64_symmetric.proofs.Places.{pointer-few}
 use Rattle.whole_graphs.specs.Graphs.{wholeSymmetricFault}
 use Rattle.whole_graphs.proofs.Theorems.{Doubles, left-is}
-use Rattle.text_graph.proofs.KeptCount.{kept-count}
+use Rattle.text_graph.proofs.KeptCount.{kept-count, opposite}
 use Rattle.text_matrix_market.specs.File.{repeats}
 use Rattle.text_symmetric_graph.specs.declared.Mirrored.the-variants.{Graph}
 use Rattle.text_symmetric_graph.specs.Graph.{SymmetricValues, tripletMatrix, mirroredGraph, tripletGraph}
@@ -35,17 +35,13 @@ use Rattle.text_symmetric_graph.proofs.Whole.{kept-all, stored-doubles,
 pub nothing-left : {A : Type 0} (l m : List A) (k : ℕ) → length m ≤ k → l ++ drop k m ≡ l
 nothing-left l m k h = rw (drop-of-length-le m h) (append-nil l)
 
-other : (b c : Bool) → c ≡ not b → b ≡ not c
-other true c e = ap not (sym e)
-other false c e = ap not (sym e)
-
 module _ {n : ℕ} {rows cols : List ℕ} {values : List Float} (S : SymmetricValues n rows cols values) where
   abbrev t : Triplets
   t = triplets rows cols values
 
   module _ {before after : Triplets.Slices} {kept : ℕ} (b : Built n t before after kept) where
     counted : repeats rows cols ≡ not (eqb kept (length rows))
-    counted = other (repeats rows cols) _ (ap (λ (k : ℕ). eqb k (length rows)) (b .count) ∙ kept-count n t (S .held .inside))
+    counted = opposite (repeats rows cols) _ (ap (λ (k : ℕ). eqb k (length rows)) (b .count) ∙ kept-count n t (S .held .inside))
 
     pub some-repeated : kept ≢ length rows → repeats rows cols ≡ true
     some-repeated d = counted ∙ ap not (ne-eqb kept (length rows) d)

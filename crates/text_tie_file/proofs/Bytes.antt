@@ -15,6 +15,7 @@ use Rattle.text_matrix_market.specs.declared.numbers.Number.{Number}
 use Rattle.text_matrix_market.specs.declared.numbers.Number.the-variants.{Is}
 use Rattle.text_matrix_market.specs.Text.{isLineFeed, isBlank, prepend, cut, nonEmpty, linesOf, wordsOf}
 use Rattle.text_matrix_market.specs.Numbers.{isDigit, onlyIf, decimalValue, numberRead, sizeRead}
+use Rattle.text_matrix_market.proofs.Words.{word-kept}
 use Rattle.text_tie_file.specs.Bytes.{Every, NoFeed, AreLines, Blank, NoBlank, Ends, AreWords, Digit, placeSum, IsNumber, IsSigned}
 
 pub never : {X : Type 0} → _≡_ {A = ℕ} 0 1 → X
@@ -147,11 +148,6 @@ none-there : (l : List ℕ) → Every Blank l → wordsOf l ≡ []
 unfolding wordsOf cut nonEmpty
 none-there [] p = refl
 none-there (b ∷ l) p = rw (blank-test b (p .0)) (none-there l (p .1))
-
-word-kept : (word : List ℕ) (words : List (List ℕ)) → 0 < length word → nonEmpty (word ∷ words) ≡ word ∷ nonEmpty words
-unfolding nonEmpty
-word-kept [] words h = let z : ⊥ = omega arith in absurd z
-word-kept (b ∷ word) words h = refl
 
 first-found : (word rest : List ℕ) → 0 < length word → Every NoBlank word → Ends rest → wordsOf (word ++ rest) ≡ word ∷ wordsOf rest
 unfolding wordsOf cut nonEmpty
