@@ -2,7 +2,6 @@
 use mathlib.Core.Path.{_≡_, refl}
 use mathlib.Core.Bool.{false}
 use mathlib.Core.List.{List, [], _∷_}
-use Prim.Native.Nat.{ℕ}
 use lib.Ieee.{Float, nan, inf, binary64, ofBits, sub, add, neg, mul, div, sum, round, units, odd, climb, size, span, lt}
 use Rattle.float64.specs.Constants as Constants
 use Rattle.float64.specs.Number.{magnitude, unitsPerOne}

@@ -1,7 +1,6 @@
 -- Which numbers the call answers, for any input: those of the building, since neither the match nor the factors refuse.
 use mathlib.Core.Path.{refl}
 use mathlib.Core.List.{List}
-use Prim.Native.Nat.{ℕ}
 use lib.Ieee.{Float}
 use Rattle.refusal.specs.Listed.{symmetricGraphNumbers}
 use Rattle.sparse.specs.Matrix.{Matrix}
