@@ -21,7 +21,7 @@ def write(file, n, entries, kind="real general"):
 
 
 def size(decades=0.0):
-    """A number of either sign, spread over so many powers of ten both ways."""
+    """A number of either sign, spread over this many powers of ten both ways."""
     value = (0.5 + random.random()) * 10 ** ((2 * random.random() - 1) * decades)
     return value if random.random() < 0.5 else -value
 

@@ -53,7 +53,7 @@ def run(text, clone, environment):
 
 
 def missing(name, text, environment, built):
-    """What a block needs and has not."""
+    """What a block needs and lacks."""
     if PLACE in text and "RSLAB" not in environment:
         return "RSLAB is not set"
     if name == "prover" and built:

@@ -2,9 +2,10 @@
 """What must be believed: the definitions that the contracts of the public calls unfold to.
 
 `docs/trusted.py > docs/TRUSTED.md` writes it; `docs/trusted.py --check` exits with 1 if that file is not what the
-contracts give; `docs/trusted.py --files` says of every file of specs/ how much of it is reached. The `ensures` of a
-call are read, each name is resolved by the imports of its file, and definitions are followed to the prover's own
-libraries. A name that no import, declaration or binder explains is an error."""
+contracts give; `docs/trusted.py --files` says of every file of specs/ how much of it is reached;
+`docs/trusted.py --call NAME` lists the definitions of one call. The `ensures` of a call are read, each name is resolved
+by the imports of its file, and definitions are followed to the prover's own libraries. A name that no import,
+declaration or binder explains is an error."""
 import re
 import sys
 import textwrap
@@ -521,8 +522,20 @@ def page(house):
     yield from listing(beside, lambda each: "")
 
 
+def one_call(house, name):
+    """The definitions that the contract of one call unfolds to, by file."""
+    calls = dict([*c_calls(house), *programs(house), *native_calls(house)])
+    if name not in calls:
+        raise SystemExit(f"trusted.py: no call {name}; there are " + ", ".join(calls))
+    yield f"{name}: {len(calls[name])} definitions of {lines(calls[name])} lines\n"
+    yield from listing(calls[name], lambda each: "")
+
+
 def main():
     house = House()
+    if sys.argv[1:2] == ["--call"] and len(sys.argv) == 3:
+        print("\n".join(one_call(house, sys.argv[2])))
+        return
     text = "\n".join(files(house) if sys.argv[1:] == ["--files"] else page(house)) + "\n"
     if COMPLAINTS:
         sys.exit("\n".join(COMPLAINTS))

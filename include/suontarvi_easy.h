@@ -1,13 +1,14 @@
 /* Whole jobs in one call each: a general matrix in, permutation and factors out. Static inline functions over the
- * proved calls of suontarvi.h, which have their work lent: here one calloc lends it and one free ends it. Link
+ * proved calls of suontarvi.h. They allocate what those calls are lent, with one calloc and one free. Link
  * libsuontarvi, and libm for the one function with logarithms (suontarvi_easy_scale_natural). C99 and C++.
  *
  * A matrix is square and stored by columns: col_ptr has n+1 pointers; row_idx and values have `entries` rows and
- * values, the rows rising within a column. All count from 0. The caller's arrays must be as long as it says here, must
- * not overlap if one of them is written, and are written only if the answer is SUONTARVI_ACCEPTED: a refusal leaves
- * everything as it was. Each function answers SUONTARVI_ACCEPTED, a refusal of suontarvi.h, or SUONTARVI_NO_MEMORY.
+ * values, the rows rising within a column. Indices start at 0. The caller's arrays must be as long as stated here,
+ * must not overlap if one of them is written, and are written only if the answer is SUONTARVI_ACCEPTED: a refusal
+ * leaves everything as it was. Each function answers SUONTARVI_ACCEPTED, a refusal of suontarvi.h, or
+ * SUONTARVI_NO_MEMORY.
  *
- * What these functions do is tested (host/easy.c), and not proved; what the calls below them do is proved. */
+ * These functions are tested (host/easy.c), not proved; the calls below them are proved. */
 #ifndef SUONTARVI_EASY_H
 #define SUONTARVI_EASY_H
 
@@ -17,13 +18,13 @@
 
 #include "suontarvi.h"
 
-/* There is no memory; no call of suontarvi.h answers this. */
+/* Out of memory; no call of suontarvi.h answers this. */
 #define SUONTARVI_NO_MEMORY 1000
 
 /* Kinds of suontarvi_easy_scale_natural. */
 #define SUONTARVI_EASY_GENERAL 0        /* a general matrix */
-#define SUONTARVI_EASY_SYMMETRIC 1      /* the lower triangle of a symmetric one; what is unmatched keeps 1 */
-#define SUONTARVI_EASY_SYMMETRIC_FLAT 2 /* the same; what is unmatched is scaled after Duff and Pralet (2005) */
+#define SUONTARVI_EASY_SYMMETRIC 1      /* the lower triangle of a symmetric one; unmatched rows get 1 */
+#define SUONTARVI_EASY_SYMMETRIC_FLAT 2 /* the same; unmatched rows after Duff and Pralet (2005) */
 
 /* What the calls are lent: slices of one block. */
 struct suontarvi_easy_lent {
@@ -35,8 +36,8 @@ struct suontarvi_easy_lent {
     void *block;
 };
 
-/* Lends what a matrix of so many columns and entries needs. Both were found to be within their limits, so that no
- * product here comes near the end of size_t. */
+/* Allocates what a matrix of n columns and so many entries needs. Both numbers are within their limits, so no product
+ * here overflows size_t. */
 static inline uint32_t suontarvi_easy_lend(struct suontarvi_easy_lent *lent, uint32_t n, size_t entries, size_t room) {
     const size_t size = n, graph_work = SUONTARVI_GRAPH_WORK_LEN(n, entries);
     const size_t doubles = entries + room + 5 * size + SUONTARVI_MATCH_FWORK_LEN(n);
@@ -70,7 +71,7 @@ static inline uint32_t suontarvi_easy_lend(struct suontarvi_easy_lent *lent, uin
     return SUONTARVI_ACCEPTED;
 }
 
-/* The limits, before anything is lent. */
+/* Tests the limits before anything is allocated. */
 static inline uint32_t suontarvi_easy_limits(uint32_t n, size_t entries, size_t most) {
     if (n > SUONTARVI_MAX_N) {
         return SUONTARVI_REFUSED_TOO_MANY_COLUMNS;
@@ -86,7 +87,7 @@ static inline uint32_t suontarvi_easy_matched(struct suontarvi_easy_lent *lent, 
                            lent->fwork, SUONTARVI_MATCH_FWORK_LEN(n), lent->answer, SUONTARVI_MATCH_ANSWER_LEN);
 }
 
-/* Limits, the block, and the graph of a general matrix by whole-number logarithms. The caller frees lent->block, also
+/* Limits, the block, and the graph of a general matrix by whole-number logarithms. The caller frees lent->block, even
  * after a refusal. */
 static inline uint32_t suontarvi_easy_whole_graph(struct suontarvi_easy_lent *lent, uint32_t n,
                                                   const uint32_t *col_ptr, size_t entries, const uint32_t *row_idx,
@@ -105,14 +106,14 @@ static inline uint32_t suontarvi_easy_whole_graph(struct suontarvi_easy_lent *le
     return refused;
 }
 
-/* memcpy takes no NULL, not even for nothing. */
+/* memcpy must not get NULL, not even for 0 bytes. */
 static inline void suontarvi_easy_copy(void *to, const void *from, size_t bytes) {
     if (bytes != 0) {
         memcpy(to, from, bytes);
     }
 }
 
-/* Match and scaling by powers of two, which round nothing: values are scaled in place; perm (n) gets the row of each
+/* Match and scaling by powers of two, which rounds nothing: values are scaled in place; perm (n) gets the row of each
  * column or SUONTARVI_NONE, row_exponents and column_exponents (n each) the exponents, *matched the number of pairs.
  * If *matched is n, every magnitude is below 2 and the matched ones are above 1/4.
  * Refusals: those of suontarvi_whole_general_graph, then those of suontarvi_apply_exponents. */
@@ -143,7 +144,7 @@ static inline uint32_t suontarvi_easy_scale_whole(uint32_t n, const uint32_t *co
     return refused;
 }
 
-/* The cost graph of a matrix of a kind by natural logarithms. A value that is not finite is refused in every kind. */
+/* The cost graph of a matrix by natural logarithms. A value that is not finite is refused in every kind. */
 static inline uint32_t suontarvi_easy_natural_graph(struct suontarvi_easy_lent *lent, int symmetric, uint32_t n,
                                                     const uint32_t *col_ptr, size_t entries, const uint32_t *row_idx,
                                                     const double *values) {
@@ -159,14 +160,14 @@ static inline uint32_t suontarvi_easy_natural_graph(struct suontarvi_easy_lent *
         if (!(size <= 1.7976931348623157e308)) {
             return SUONTARVI_REFUSED_VALUE_NOT_FINITE;
         }
-        lent->logs[at] = size == 0.0 ? 0.0 : log(size); /* that of a zero does not count */
+        lent->logs[at] = size == 0.0 ? 0.0 : log(size); /* the log of a zero is not used */
     }
     return (symmetric ? suontarvi_symmetric_graph : suontarvi_general_graph)(
         n, col_ptr, pointers, row_idx, entries, values, entries, lent->logs, entries, lent->graph_ptr, pointers,
         lent->graph_rows, lent->room, lent->cost, lent->room, lent->cmax, n, lent->graph_work, work);
 }
 
-/* The log factors of the match, into row_factors and column_factors of what is lent. */
+/* Writes the log factors of the match into row_factors and column_factors of the block. */
 static inline uint32_t suontarvi_easy_log_factors(struct suontarvi_easy_lent *lent, uint32_t kind, uint32_t n,
                                                   const uint32_t *col_ptr, size_t entries, const uint32_t *row_idx,
                                                   const double *values) {
@@ -185,10 +186,10 @@ static inline uint32_t suontarvi_easy_log_factors(struct suontarvi_easy_lent *le
 }
 
 /* Match and factors by natural logarithms, with log and exp of the host; values are not written. perm (n) gets the row
- * of each column or SUONTARVI_NONE, row_factors and column_factors (n each) the factors, which are the same of a
- * symmetric matrix, *matched the number of pairs. If *matched is n, a value times both factors is 1 in magnitude where
- * it is matched and at most 1 elsewhere, but for rounding and for factors that are held at e^709 or e^-709.
- * Refusals: 5 for a kind that is none; then those of a matrix of the kind; then 9 for a value that is not finite. */
+ * of each column or SUONTARVI_NONE, row_factors and column_factors (n each) the factors, which are equal for a
+ * symmetric matrix, *matched the number of pairs. If *matched is n, a value times both factors is 1 in magnitude if it
+ * is matched and at most 1 otherwise, except for rounding and for factors clamped to e^709 or e^-709.
+ * Refusals: 5 for an unknown kind; then those of a matrix of the kind; then 9 for a value that is not finite. */
 static inline uint32_t suontarvi_easy_scale_natural(uint32_t kind, uint32_t n, const uint32_t *col_ptr,
                                                     size_t entries, const uint32_t *row_idx, const double *values,
                                                     uint32_t *perm, double *row_factors, double *column_factors,
@@ -249,8 +250,8 @@ static inline uint32_t suontarvi_easy_match(uint32_t n, const uint32_t *col_ptr,
     return refused;
 }
 
-/* Whether perm, u and v (n each), whoever made them, are a complete match of largest product, by logarithms in units
- * of 1/65,536, and the duals show it. Nothing is written.
+/* Checks whether perm, u and v (n each), whoever made them, are a complete match of largest product, by logarithms in
+ * units of 1/65,536, and the duals show it. Nothing is written.
  * Refusals: those of suontarvi_whole_general_graph, then those of suontarvi_check_match. */
 static inline uint32_t suontarvi_easy_check(uint32_t n, const uint32_t *col_ptr, size_t entries,
                                             const uint32_t *row_idx, const double *values, const uint32_t *perm,

@@ -1,5 +1,5 @@
 //! The whole-number logarithm beside the same rules in plain Rust, beside the same with wide products, and beside
-//! Rust's `ln`, which is no whole number.
+//! Rust's `ln`, whose result is not whole.
 
 use crate::timing::Times;
 use oracle::random::Random;

@@ -1,8 +1,8 @@
 //! Times beside the original or a plain version of the same rules, on the same inputs. Each side has its own form of
-//! the input (u32 and usize), made before. `bench all [MILLISECONDS [RUNS]]`, or a name of ROWS for all: so long for
-//! each row, so many runs of all rows. Rows are told on standard error as they come. At the end standard output has
-//! two tables: each row of the run whose ratio is the middle one, then each call's median and largest ratio. `bench
-//! gaps [GRAPHS [SEED]]` times nothing: it has the gaps of our own matches.
+//! the input (u32 and usize), made before. `bench all [MILLISECONDS [RUNS]]`, or a name of ROWS instead of `all`:
+//! MILLISECONDS for each row, RUNS runs of all rows. Rows are printed on standard error as they come. At the end
+//! standard output has two tables: each row of the run with the middle ratio, then each call's median and largest
+//! ratio. `bench gaps [GRAPHS [SEED]]` times nothing: it prints the gaps of our own matches.
 
 mod byte_forms;
 mod check;

@@ -1,5 +1,5 @@
-//! The match. Ours tests its graph first, the original does not; ours is lent its work, which it leaves
-//! zero and a caller lends again as it is, the original allocates its own.
+//! The match. Ours tests its graph first, the original does not. Ours is lent its work, which it leaves zero, so that a
+//! caller can lend it again; the original allocates its own.
 
 use crate::narrow;
 use crate::timing::Times;

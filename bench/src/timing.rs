@@ -1,11 +1,11 @@
-//! Medians of interleaved rounds, as rows of tables. A round is as many calls as the clock needs to tell them. Times
-//! are the thread's processor time, or that of a process, so that other work on the machine counts little.
+//! Medians of interleaved rounds, as rows of tables. A round has as many calls as the clock needs to measure them.
+//! Times are the thread's processor time, or that of a process, so that other work on the machine counts little.
 
 use std::hint::black_box;
 
 const LEAST_ROUNDS: usize = 15;
 
-/// A round takes at least so many microseconds.
+/// A round takes at least this many microseconds.
 const ROUND: f64 = 200.0;
 
 /// An input's medians, in microseconds.
@@ -148,7 +148,7 @@ fn calls<T>(call: &mut impl FnMut() -> T) -> usize {
     }
 }
 
-/// The time of each of so many calls. A result is dropped before the next call, the last after the time is taken.
+/// The time of each of this many calls. A result is dropped before the next call, the last after the time is taken.
 fn time<T>(calls: usize, call: &mut impl FnMut() -> T) -> f64 {
     let start = microseconds();
     for _ in 1..calls {

@@ -69,7 +69,7 @@ impl CostGraph {
         CostGraph::from_columns(n, col_ptr, row_idx, values)
     }
 
-    /// The graph that a call builds into room for so many entries.
+    /// The graph that a call builds, with room for this many entries.
     pub(crate) fn built(
         matrix: &Columns,
         room: usize,
@@ -114,14 +114,14 @@ impl CostGraph {
         &self.cost
     }
 
-    /// The largest log of each column, of which its costs say how far they are below; 0.0 in a graph that is not of a
+    /// The largest log of each column, from which its costs are measured; 0.0 in a graph that was not made from a
     /// matrix.
     pub fn cmax(&self) -> &[f64] {
         &self.cmax
     }
 
-    /// The match: no matching of the graph has more pairs, and with whole costs no complete one has a lower total. A
-    /// graph that was made is never refused.
+    /// The match: no matching of the graph has more pairs, and with whole costs no complete one has a lower total. It
+    /// is never refused.
     ///
     /// ```
     /// use suontarvi::{CostGraph, NONE, Refusal};
@@ -160,7 +160,7 @@ impl CostGraph {
     }
 
     /// Whether a matching, whoever made it, is complete and of least total, and its whole-number duals show it. No
-    /// search is made. Refused with 3 if it is of another n, with 8 if a cost is not whole, then with 30, 31 or 32.
+    /// search is made. Refused with 3 if its n differs, with 8 if a cost is not whole, then with 30, 31 or 32.
     ///
     /// ```
     /// use suontarvi::{CostGraph, Refusal};
@@ -211,8 +211,8 @@ pub struct RowIndex {
 }
 
 impl RowIndex {
-    /// The entries of one row: the column of each, rising, and its place among the graph's entries. A row that the
-    /// graph has not is empty.
+    /// The entries of one row: the column of each, rising, and its place among the graph's entries. A row at or above n
+    /// has no entries.
     ///
     /// ```
     /// use suontarvi::{CostGraph, Refusal};

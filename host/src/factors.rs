@@ -1,5 +1,5 @@
-//! Log factors from a match: their exponentials scale the matrix. Any numbers are taken; whether they belong together
-//! is not tested. [`Matching`](crate::Matching) has the same without lent slices.
+//! Log factors from a match: their exponentials scale the matrix. The calls take any numbers and do not test whether
+//! they belong together. [`Matching`](crate::Matching) has the same without lent slices.
 
 use crate::{Refusal, raw};
 
@@ -13,8 +13,8 @@ pub enum Rule {
     Flat = 1,
 }
 
-/// The log factors of a symmetric matrix, one of each row and its column: (u + v - cmax) / 2, held to -709..709, and 0
-/// where the row or the column is unmatched. Returns the number of unmatched columns.
+/// The log factors of a symmetric matrix, one of each row and its column: (u + v - cmax) / 2, clamped to -709..709, and
+/// 0 if the row or the column is unmatched. Returns the number of unmatched columns.
 ///
 /// Lengths: `perm`, `u`, `v`, `cmax`, `factors`, `work` n. Refusals: 1, 3, 10.
 ///
@@ -96,7 +96,7 @@ pub fn log_factors_by_rule(
     Ok(unmatched[0])
 }
 
-/// The log factors of rows, u, and of columns, v - cmax, of a general matrix, each held to -709..709.
+/// The log factors of rows, u, and of columns, v - cmax, of a general matrix, each clamped to -709..709.
 ///
 /// Lengths: all n. Refusals: 1, 3.
 ///

@@ -6,7 +6,7 @@ use crate::{CostGraph, Matching, Refusal, matching};
 const MAX_DIGITS: u32 = 50;
 
 /// The gap of a matching, by [`CostGraph::gap`]: its total is at most that of every complete matching of the graph plus
-/// `steps` steps of 2^-`digits`, of exact numbers.
+/// `steps` steps of 2^-`digits`, in exact numbers.
 #[derive(Debug, Clone, Copy, PartialEq, Eq, Hash)]
 pub struct Gap {
     /// How many steps.
@@ -36,17 +36,17 @@ impl Gap {
     }
 }
 
-/// 2^exponent, of a normal number or 0.
+/// 2^exponent, as a normal number or 0.
 fn power_of_two(exponent: i64) -> f64 {
     f64::from_bits(((exponent + 1023).clamp(0, 2046) as u64) << 52)
 }
 
 impl CostGraph {
     /// How far a matching, whoever made it, can be from the least total, in steps of 2^-digits, for any costs and
-    /// duals. No search is made. What [`check`](CostGraph::check) accepts has the gap 0 wherever it is accepted here.
+    /// duals. No search is made. A matching that [`check`](CostGraph::check) also accepts has the gap 0.
     ///
-    /// Refused with 5 for digits above 50; with 3 if it is of another n; with 8 if a cost has more than 2^49 steps;
-    /// then with 30; then with 31 if a dual is not finite or has more than 2^49 steps in size.
+    /// Refused with 5 for digits above 50; with 3 if its n differs; with 8 if a cost has more than 2^49 steps; then
+    /// with 30; then with 31 if a dual is not finite or has more than 2^49 steps in size.
     /// [`best_gap`](CostGraph::best_gap) finds digits that fit.
     ///
     /// ```

@@ -105,8 +105,8 @@ impl GeneralMatrix {
     }
 
     /// The cost graph from the natural logarithm of each value's magnitude ([`logs`](Columns::logs), or others). Zero
-    /// values and those that are not finite are dropped. Refused with 3 if there is another number of logs, with 8 if
-    /// one is out of range.
+    /// values and those that are not finite are dropped. Refused with 3 if the number of logs is wrong, with 8 if one
+    /// is out of range.
     ///
     /// ```
     /// use suontarvi::{GeneralMatrix, Refusal};

@@ -1,10 +1,10 @@
-//! That a matching has as many pairs as any, and which columns compete for which rows where it is not complete.
+//! Whether a matching is largest, and which columns compete for which rows if it is not complete.
 
 use crate::{CostGraph, GeneralMatrix, Refusal, matching};
 
-/// A matching that no other one exceeds, by [`CostGraph::check_largest`], and the marks that show it: every entry of a
-/// marked column is in a marked row, every marked row is paired with a marked column, and the marked columns are more
-/// than the marked rows by [`empty`](Largest::empty).
+/// A largest matching, by [`CostGraph::check_largest`], and the marks that show it: every entry of a marked column is
+/// in a marked row, every marked row is paired with a marked column, and there are [`empty`](Largest::empty) more
+/// marked columns than marked rows.
 #[derive(Debug, Clone, PartialEq, Eq)]
 pub struct Largest {
     /// Whether each column is marked: an alternating path leads to it from a column without a row.
@@ -86,7 +86,7 @@ fn marked(marks: &[bool]) -> impl Iterator<Item = usize> {
 }
 
 impl Shortage {
-    /// How many of its columns stay without a row in every matching: one at least.
+    /// How many of its columns stay without a row in every matching: at least one.
     ///
     /// ```
     /// assert_eq!(suontarvi::Shortage { columns: vec![2, 7, 8], rows: vec![1, 4] }.empty(), 1);
@@ -97,10 +97,10 @@ impl Shortage {
 }
 
 impl CostGraph {
-    /// Whether a matching, whoever made it, has as many pairs as any, and why; costs do not count. `perm` has the row
-    /// of each column or [`NONE`](crate::NONE). Every match that was found here is accepted.
+    /// Checks whether a matching, whoever made it, is largest, and says why; costs play no part. `perm` has the row of
+    /// each column or [`NONE`](crate::NONE). Every match that was found here is accepted.
     ///
-    /// Refused with 3 if it is of another n; with 30 if a row is not below n or stands twice, or a pair is no entry;
+    /// Refused with 3 if its n differs; with 30 if a row is not below n or occurs twice, or a pair is not an entry;
     /// with 33 if another matching has more pairs.
     ///
     /// ```
@@ -117,9 +117,9 @@ impl CostGraph {
         checked(self.n(), self.col_ptr(), self.row_idx(), perm)
     }
 
-    /// Which columns compete for which rows, so that a largest matching is not complete: the marked columns and rows
-    /// of [`check_largest`](CostGraph::check_largest), cut into parts that have no entry in common, those of fewest
-    /// columns first. There are none if it is complete. Refused as it is.
+    /// Which columns compete for which rows, so that a largest matching is not complete: the marked columns and rows of
+    /// [`check_largest`](CostGraph::check_largest), cut into parts that have no entry in common, those of fewest
+    /// columns first. There are none if the matching is complete. Refused as `check_largest` is.
     ///
     /// ```
     /// use suontarvi::{CostGraph, Refusal, Shortage};
@@ -139,8 +139,8 @@ impl CostGraph {
 }
 
 impl GeneralMatrix {
-    /// The same as [`CostGraph::check_largest`] of the matrix's own places, whatever their values: a zero that is
-    /// stored is an entry here, which it is not in a cost graph.
+    /// The same as [`CostGraph::check_largest`] for the stored places of the matrix, whatever their values: a stored
+    /// zero is an entry here, but not in a cost graph.
     ///
     /// ```
     /// use suontarvi::{GeneralMatrix, NONE, Refusal};

@@ -1,4 +1,4 @@
-//! Limits, and the lengths of the slices that calls are lent, so that an array can be as long as a call asks for.
+//! Limits, and the lengths of the slices that calls are lent, so that an array can be as long as a call requires.
 //!
 //! ```
 //! use suontarvi::lengths;
@@ -59,7 +59,7 @@ pub const fn triplets_work(n: usize, triplets: usize) -> usize {
     2 * n + 2 + triplets
 }
 
-/// The work of building a cost graph of a matrix with so many stored entries.
+/// The work of building a cost graph of a matrix with this many stored entries.
 ///
 /// ```
 /// assert_eq!(suontarvi::lengths::graph_work(3, 8), 16);
@@ -68,7 +68,7 @@ pub const fn graph_work(n: usize, entries: usize) -> usize {
     2 * n + 2 + entries
 }
 
-/// Room for the entries of the cost graph of a symmetric matrix with so many stored entries.
+/// Room for the entries of the cost graph of a symmetric matrix with this many stored entries.
 ///
 /// ```
 /// assert_eq!(suontarvi::lengths::symmetric_graph(8), 16);

@@ -1,8 +1,8 @@
 //! MC64 matching and scaling of sparse matrices, over the C interface of the proved library libsuontarvi.a.
 //!
 //! A sparse solver wants large entries on the diagonal. Given a square matrix, MC64 pairs each column with a row so
-//! that the product of the paired entries is as large as can be, and the duals of that matching give factors that bring
-//! the paired entries to 1 and no other above it.
+//! that the product of the paired entries is as large as possible, and the duals of that matching give factors that
+//! bring the paired entries to 1 and no other entry above 1.
 //!
 //! ```
 //! use suontarvi::{GeneralMatrix, GeneralRule, Refusal};
@@ -20,7 +20,7 @@
 //!
 //! There are two layers. [`GeneralMatrix`], [`SymmetricMatrix`], [`CostGraph`] and [`Matching`] own their vectors; a
 //! [`Workspace`] is kept for programs that make many calls. Below them, functions in modules take slices that the
-//! caller lends, work too, and allocate nothing; [`lengths`] says how long each must be.
+//! caller lends, including work, and allocate nothing; [`lengths`] says how long each must be.
 //!
 //! Every call answers for all contents and lengths of its slices: with a result, or with a [`Refusal`], which leaves
 //! everything as it was. Refusals are tested in the order in which they are listed; the first that applies is returned.
@@ -29,8 +29,8 @@
 //! take their place.
 //!
 //! The crate links libsuontarvi.a from `target/staticlib` of the repository, where `rt staticlib suontarvi` writes it,
-//! or from the folder that `SUONTARVI_LIB` names. What it promises is proved of the library; this crate passes slices
-//! on. It panics if the archive answers a number that is not in its table of refusals: then it is of another version.
+//! or from the folder that `SUONTARVI_LIB` names. The promises are proved for the library; this crate passes slices on.
+//! It panics if the archive answers a number that is not in its table of refusals: then their versions differ.
 
 /// A call with its numbers, then its slices, each as pointer and length: those that it reads, then those that it
 /// writes.

@@ -1,4 +1,4 @@
-//! The match of a cost graph, and of one that others made the check, the gap, and whether it is largest.
+//! The match of a cost graph; and, for a match that others made, the check, the gap, and whether it is largest.
 
 use crate::lengths::MATCH_ANSWER;
 use crate::{Refusal, raw};
@@ -15,7 +15,7 @@ pub struct Match {
     pub counts: Counts,
 }
 
-/// How hard a match was. Each count is fixed by the defined steps, so that it is the same everywhere.
+/// How hard a match was. The defined steps fix each count, so it is the same everywhere.
 #[derive(Debug, Clone, Copy, PartialEq, Eq, Default)]
 pub struct Counts {
     /// Heap slots set.
@@ -104,8 +104,8 @@ pub fn hungarian_match_bytes(
     lent!(suontarvi_match_bytes(n; col_ptr, row_idx, cost; perm, u, v, answer))
 }
 
-/// Whether a pairing with whole duals, whoever made them, is a complete matching of least total and the duals show it.
-/// No search is made and nothing is written.
+/// Checks whether a pairing with whole duals, whoever made them, is a complete matching of least total and the duals
+/// show it. No search is made and nothing is written.
 ///
 /// Lengths: `col_ptr` n+1; `cost` as `row_idx`; `perm`, `u`, `v` n. Refusals: as [`hungarian_match`], with 8 also for a
 /// cost that is not whole; then, each over the whole pairing, 30, 31, 32.
@@ -132,9 +132,9 @@ pub fn check_match(
     lent!(suontarvi_check_match(n; col_ptr, row_idx, cost, perm, u, v;))
 }
 
-/// How far a pairing with duals, whoever made them, can be from the least total: so many steps of 2^-digits. The pairs
-/// are a complete matching, and their total is at most that of every complete matching plus these steps, exactly. No
-/// search is made. What [`check_match`] accepts has the gap 0 wherever it is accepted here.
+/// How far a pairing with duals, whoever made them, can be from the least total, in steps of 2^-digits. The pairs are a
+/// complete matching, and their total is at most that of every complete matching plus these steps, exactly. No search
+/// is made. A match that [`check_match`] also accepts has the gap 0.
 ///
 /// Lengths: `col_ptr` n+1; `cost` as `row_idx`; `perm`, `u`, `v` n. Refusals: 5 for digits above 50, before all else;
 /// as [`hungarian_match`], with 8 also for a cost of more than 2^49 steps; then 30; then 31 for a dual that is not
@@ -171,14 +171,15 @@ pub fn match_gap(
     Ok(gap[0])
 }
 
-/// Whether a matching of a pattern, whoever made it, has as many pairs as any, and why. `perm` has the row of each
+/// Checks whether a matching of a pattern, whoever made it, is largest, and shows why. `perm` has the row of each
 /// column or [`NONE`]. The answer is the number of pairs. `columns` and `rows` get 1 where an alternating path leads
-/// from a column without a row, else 0: every entry of a marked column is in a marked row, and the marked columns are
-/// more than the marked rows by as many as have no row. So many columns stay empty in every matching.
+/// from a column without a row, else 0: every entry of a marked column is in a marked row, and the marked columns
+/// outnumber the marked rows by the number of columns without a row. At least that many columns stay empty in every
+/// matching.
 ///
 /// Lengths: `col_ptr` n+1; `perm`, `columns`, `rows` n. Refusals: 1, 2, 3, 4, at each entry 5, then 7; then 30, for an
-/// entry of `perm` that is neither [`NONE`] nor below n, a row twice, or a pair that is no entry; then 33 if another
-/// matching has more pairs.
+/// entry of `perm` that is neither [`NONE`] nor below n, a row twice, or a pair that is not an entry; then 33 if
+/// another matching has more pairs.
 ///
 /// ```
 /// use suontarvi::{NONE, Refusal, matching};

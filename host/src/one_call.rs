@@ -5,8 +5,8 @@ use crate::{Exponents, GeneralMatrix, Matching, Refusal, SymmetricMatrix};
 /// By which logarithms a general matrix is matched and scaled.
 #[derive(Debug, Clone, Copy, PartialEq, Eq, Hash)]
 pub enum GeneralRule {
-    /// Natural logarithms, by the host's `ln` and `exp`: the matched entries become 1 and no other is above it, but for
-    /// rounding, and unless a factor is held at e^709 or e^-709.
+    /// Natural logarithms, by the host's `ln` and `exp`: the matched entries become 1 and no other is above 1, except
+    /// for rounding and for factors clamped to e^709 or e^-709.
     Natural,
     /// Base-two logarithms in whole units of 1/65,536: the factors are powers of two, and nothing is rounded.
     Whole,
@@ -26,7 +26,7 @@ pub enum SymmetricRule {
 /// What rows and columns are multiplied by.
 #[derive(Debug, Clone, PartialEq)]
 pub enum Factors {
-    /// A factor of each row and of each column; the same ones of a symmetric matrix.
+    /// A factor of each row and of each column; both are equal for a symmetric matrix.
     Reals {
         /// Of each row.
         rows: Vec<f64>,
@@ -44,11 +44,12 @@ pub struct Scaling {
     pub matching: Matching,
     /// What rows and columns are multiplied by.
     pub factors: Factors,
-    /// The matrix after it; of a symmetric one both triangles.
+    /// The scaled matrix; both triangles of a symmetric one.
     pub scaled: GeneralMatrix,
 }
 
-/// A product of three that is infinite or zero only if it is so as a whole: the largest meets the least first.
+/// A product of three numbers that is infinite or zero only if the exact product is out of range: the largest is
+/// multiplied by the least first.
 fn product(mut three: [f64; 3]) -> f64 {
     three.sort_by(|one, other| one.abs().total_cmp(&other.abs()));
     let [least, middle, largest] = three;

@@ -19,7 +19,7 @@ pub struct Matching {
     pub v: Vec<f64>,
     /// The largest log of each column of the matrix; 0.0 if the graph was not of a matrix.
     pub cmax: Vec<f64>,
-    /// What the match took; none if it was read, since counts do not travel.
+    /// What the match took; none if it was read from a sheet, which has no counts.
     pub counts: Option<Counts>,
 }
 
@@ -169,8 +169,8 @@ impl Matching {
     }
 
     /// Exponents of two from the match of a graph of [whole-number logarithms](crate::whole_log). Those of a complete
-    /// one bring every magnitude below 2 and the matched ones above 1/4; a symmetric matrix is scaled by them as
-    /// [`SymmetricMatrix::to_general`]. Refused with 1, 3 or 43, which a complete match that was found here never is.
+    /// match bring every magnitude below 2 and the matched ones above 1/4; a symmetric matrix is scaled as
+    /// [`SymmetricMatrix::to_general`]. Refused with 1, 3 or 43; a complete match that was found here is never refused.
     ///
     /// ```
     /// use suontarvi::{GeneralMatrix, Refusal};
@@ -236,7 +236,7 @@ impl Matching {
     }
 
     fn read(sheet: &[u8], call: sheets::Reader) -> Result<Matching, Refusal> {
-        // a file without an n is refused before any length is looked at
+        // a file without an n is refused before any length is tested
         let mut read = Matching::room(sheets::columns(sheet).unwrap_or(0));
         let Matching { perm, u, v, cmax, .. } = &mut read;
         read.matched = call(sheet, perm, u, v, cmax)?;

@@ -95,7 +95,8 @@ pub fn match_gap(
     lent!(suontarvi_match_gap(n, digits; col_ptr, row_idx, cost, perm, u, v; gap))
 }
 
-/// That a matching, whoever made it, is largest, with the marks that show it; `matched`, 1 place, gets its pairs.
+/// Checks that a matching, whoever made it, is largest, with the marks that show it; `matched`, 1 place, gets its
+/// pairs.
 ///
 /// ```
 /// use suontarvi::{NONE, Refusal, raw};
@@ -217,7 +218,7 @@ pub fn log_factors(
     lent!(suontarvi_log_factors(n, matched; perm, u, v, cmax; factors, work, unmatched))
 }
 
-/// The same by the number of a rule; one that is none is refused with 5.
+/// The same by the number of a rule; an unknown number is refused with 5.
 ///
 /// ```
 /// use suontarvi::{Refusal, raw};
@@ -253,7 +254,7 @@ pub fn log_factors_by_rule(
     ))
 }
 
-/// The chooser by the number of a choice; one that is none is refused with 5. `info`, 2 places, gets what was done.
+/// The chooser by the number of a choice; an unknown number is refused with 5. `info`, 2 places, gets what was done.
 #[allow(clippy::too_many_arguments)] // those of the C call
 pub fn scaling(
     choice: u32,

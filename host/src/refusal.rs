@@ -3,7 +3,7 @@
 use std::error::Error;
 use std::fmt;
 
-/// The table: number, case, name in the header (behind `SUONTARVI_REFUSED_`), what is wrong.
+/// The table: number, case, name in the header (after `SUONTARVI_REFUSED_`), what is wrong.
 macro_rules! refusals {
     ($($number:literal $case:ident $name:literal $sentence:literal)*) => {
         /// Why a call was refused. A refused call leaves every slice and every owned value as it was.
@@ -27,7 +27,7 @@ macro_rules! refusals {
             /// Every refusal, by rising number.
             pub const ALL: &[Refusal] = &[$(Refusal::$case),*];
 
-            /// The name of the number in the header, behind `SUONTARVI_REFUSED_`.
+            /// The name of the number in the header, after `SUONTARVI_REFUSED_`.
             pub const fn name(self) -> &'static str {
                 match self { $(Refusal::$case => $name),* }
             }
@@ -43,7 +43,7 @@ macro_rules! refusals {
 refusals! {
     1 TooManyColumns "TOO_MANY_COLUMNS" "n is above the limit of the call"
     2 TooManyEntries "TOO_MANY_ENTRIES" "there are more entries than the limit of the call"
-    3 SliceLength "SLICE_LENGTH" "a slice has another length than the call asks for"
+    3 SliceLength "SLICE_LENGTH" "a slice has a length other than the call requires"
     4 ColumnPointers "COLUMN_POINTERS"
         "column pointer 0 is not 0, or the last is not the entry count, or one falls"
     5 IndexRange "INDEX_RANGE"
@@ -57,9 +57,9 @@ refusals! {
     10 MatchingRange "MATCHING_RANGE"
         "an entry of perm is neither NONE nor below n, or the matched count does not fit"
     11 NoRoot "NO_ROOT" "a NaN or a number below zero has no square root"
-    12 ExternalChoice "EXTERNAL_CHOICE" "external factors are no longer applied"
+    12 ExternalChoice "EXTERNAL_CHOICE" "scaling by external factors is not offered"
     30 IncompleteMatching "INCOMPLETE_MATCHING"
-        "a column has no row, where each must have one, or a row has two columns, or a pair is no entry of the graph"
+        "a column has no row but must have one, or a row has two columns, or a pair is not an entry of the graph"
     31 InfeasibleDuals "INFEASIBLE_DUALS"
         "a dual is not whole or is above 2^50 in size, or u + v is above the cost of an entry, or, in the gap of a \
          matching, a dual is not finite or has more than 2^49 steps"
@@ -91,7 +91,7 @@ impl Refusal {
         self as u32
     }
 
-    /// The refusal with this number, if there is one; 0 is none.
+    /// The refusal with this number, if there is one; 0 is not a refusal.
     ///
     /// ```
     /// use suontarvi::Refusal;

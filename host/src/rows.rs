@@ -5,7 +5,7 @@ use crate::Refusal;
 
 /// The row index into lent slices: row i has the index's places from `row_ptr[i]` up to `row_ptr[i+1]`; at each of them
 /// `cols` has the column and `places` the place of that entry among the graph's. It holds until rows or pointers of the
-/// graph change; other costs leave it right.
+/// graph change; costs may change.
 ///
 /// Lengths: `col_ptr`, `row_ptr` n+1; `cost`, `cols`, `places` as `row_idx`; `work` n. Refusals: those of the
 /// [match](crate::matching::hungarian_match).
@@ -36,7 +36,7 @@ pub fn row_index(
 }
 
 /// The entries of one row by an index that [`row_index`] left: the column of each, rising, and its place among the
-/// graph's entries. A row that the index has not is empty.
+/// graph's entries. A row at or above n has no entries.
 ///
 /// ```
 /// let mut row = suontarvi::rows::entries_of_row(7, &[0, 1], &[0], &[0]);

@@ -30,7 +30,7 @@ impl From<Choice> for u32 {
 pub enum Done {
     /// The factors apply.
     Applied,
-    /// They apply to the matched columns alone; with the number of unmatched ones.
+    /// They apply to the matched columns only; with the number of unmatched columns.
     PartialSingular(u32),
     /// There is nothing to apply: identity.
     NotApplied,
@@ -53,7 +53,7 @@ impl Done {
     }
 }
 
-/// The iterated inf-norm factors: scaled by them from both sides, each row's largest magnitude comes near to 1.
+/// The iterated inf-norm factors: scaling by them from both sides brings each row's largest magnitude near to 1.
 ///
 /// Lengths: `col_ptr` n+1; `values` as `row_idx`; `factors`, `work` n. Refusals: those of a symmetric matrix.
 ///
@@ -92,9 +92,9 @@ pub fn onepass(n: u32, col_ptr: &[u32], row_idx: &[u32], values: &[f64], factors
     lent!(suontarvi_onepass(n; col_ptr, row_idx, values; factors))
 }
 
-/// The factors of the choice, log factors for MC64. The matrix and `factors` are of every choice but the external one,
-/// `maxima` of the iterated kind, `logs` and the slices from `graph_ptr` to `factor_work` of MC64. A slice that is not
-/// of the choice may be empty; `external` is never read.
+/// The factors of the choice, log factors for MC64. Every choice but the external one uses the matrix and `factors`;
+/// the iterated kind uses `maxima`; MC64 uses `logs` and the slices from `graph_ptr` to `factor_work`. A slice that the
+/// choice does not use may be empty; `external` is never read.
 ///
 /// Lengths: those of [`infnorm`] (`maxima` is its work), of [`symmetric_graph`](crate::graphs::symmetric_graph), of
 /// [`hungarian_match`](crate::matching::hungarian_match) (`match_work` and `distances` are its work) and of

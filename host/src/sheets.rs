@@ -1,5 +1,5 @@
-//! A match as a sheet file, to keep it or to send it; no bit of u, v or cmax changes on the way. The file is told of in
-//! the header. [`Matching`](crate::Matching) has the same without lent slices.
+//! A match as a sheet file, to keep it or to send it; no bit of u, v or cmax changes. The header describes the file.
+//! [`Matching`](crate::Matching) has the same without lent slices.
 
 use crate::lengths::MAX_N;
 use crate::{Refusal, raw};

@@ -7,8 +7,8 @@ use crate::lengths::symmetric_graph;
 use crate::scaling::{self, Choice, Done};
 use crate::{Columns, CostGraph, GeneralMatrix, Refusal, Workspace, graphs, sparse};
 
-/// A symmetric matrix by columns, of which the lower triangle is stored. It was tested when it was made; what it holds
-/// can be read as [`Columns`].
+/// A symmetric matrix by columns, stored as its lower triangle. It was tested when it was made; what it holds can be
+/// read as [`Columns`].
 ///
 /// ```
 /// use suontarvi::{Refusal, SymmetricMatrix};
@@ -80,8 +80,8 @@ impl SymmetricMatrix {
     }
 
     /// The cost graph from the natural logarithm of each value's magnitude ([`logs`](Columns::logs), or others). Zero
-    /// values are dropped. Refused with 3 if there is another number of logs, then at each entry with 9 if its value is
-    /// not finite, with 8 if its log is out of range.
+    /// values are dropped. Refused with 3 if the number of logs is wrong, then at each entry with 9 if its value is not
+    /// finite, with 8 if its log is out of range.
     pub fn cost_graph(&self, logs: &[f64]) -> Result<CostGraph, Refusal> {
         self.cost_graph_with(logs, &mut Workspace::new())
     }
@@ -149,7 +149,7 @@ impl SymmetricMatrix {
         GeneralMatrix::of(columns)
     }
 
-    /// The iterated inf-norm factors: scaled by them from both sides, each row's largest magnitude comes near to 1.
+    /// The iterated inf-norm factors: scaling by them from both sides brings each row's largest magnitude near to 1.
     ///
     /// ```
     /// use suontarvi::{Refusal, SymmetricMatrix};
@@ -167,8 +167,9 @@ impl SymmetricMatrix {
         scaled.expect("a tested matrix has inf-norm factors").factors
     }
 
-    /// The factors by a choice; log factors for MC64. `logs` is of MC64 alone and may else be empty. MC64 refuses as
-    /// [`cost_graph`](SymmetricMatrix::cost_graph) does, the external choice with 12, others nothing.
+    /// The factors by a choice; log factors for MC64. `logs` is used by MC64 only and may otherwise be empty. MC64 is
+    /// refused as [`cost_graph`](SymmetricMatrix::cost_graph) is, the external choice with 12; the others are never
+    /// refused.
     ///
     /// ```
     /// use suontarvi::scaling::{Choice, Done};

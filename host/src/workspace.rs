@@ -25,12 +25,12 @@ impl Workspace {
         Workspace::default()
     }
 
-    /// Work of so many numbers.
+    /// Work of this many numbers.
     pub(crate) fn numbers(&mut self, length: usize) -> &mut [u32] {
         self.lend(length, 0).0
     }
 
-    /// Work of so many numbers and doubles.
+    /// Work of this many numbers and doubles.
     pub(crate) fn lend(&mut self, numbers: usize, doubles: usize) -> (&mut [u32], &mut [f64]) {
         if self.numbers.len() < numbers {
             self.numbers.resize(numbers, 0);

@@ -179,8 +179,8 @@ fn what_is_wrong_is_told() {
     assert!(fault(&["match", WEEK, "--no-permute"], 2).contains("match takes no --no-permute"));
     assert!(fault(&["match", WEEK, "--rhs", "b"], 2).contains("match takes no --rhs"));
     // nothing that is read is written over
-    assert!(fault(&["apply", &copy, "-o", &copy], 1).contains("would take the place of a file that is read"));
-    assert!(fault(&["match", &copy, "-o", &copy], 1).contains("would take the place of a file that is read"));
+    assert!(fault(&["apply", &copy, "-o", &copy], 1).contains("would overwrite an input file"));
+    assert!(fault(&["match", &copy, "-o", &copy], 1).contains("would overwrite an input file"));
     assert!(fault(&["picture", &copy, &copy], 2).contains("picture of several files needs --out-dir"));
     assert_eq!(fs::read(&copy).unwrap(), fs::read(WEEK).unwrap());
     let short = array("short.mtx", 6, &[vec![1.0; 6]]);
@@ -202,12 +202,12 @@ fn what_is_wrong_is_told() {
         (
             "perm",
             "%%MatrixMarket matrix array integer general\n7 1\n1\n2\n3\n4\n5\n6\n6\n",
-            "6 is not a row, or stands twice",
+            "6 is not a row, or occurs twice",
         ),
         (
             "perm",
             "%%MatrixMarket matrix array integer general\n7 1\n1\n2\n3\n4\n5\n6\n8\n",
-            "8 is not a row, or stands twice",
+            "8 is not a row, or occurs twice",
         ),
         (
             "factors",

@@ -159,14 +159,12 @@ fn nothing_is_written_over() {
     let out = folder("over-out");
     let two = [input.join("m2.mtx"), twin.join("m2.mtx")];
     let (status, _, said) = batch(&["match", text(&two[0]), text(&two[1]), "--out-dir", text(&out)]);
-    assert!(
-        status == 1 && said.contains("would take the place of what is made of") && said.contains("2 files, 1 refused")
-    );
+    assert!(status == 1 && said.contains("would overwrite that of") && said.contains("2 files, 1 refused"));
     assert_eq!(fs::read_to_string(out.join("m2.perm.mtx")).unwrap(), answer(&["match", text(&two[0])]));
     // into the folder that is read
     let before = fs::read(input.join("m2.mtx")).unwrap();
     let (status, _, said) = batch(&["apply", text(&input), "--out-dir", text(&input)]);
-    assert!(status == 1 && said.matches("would take the place of a file that is read").count() == 6, "{said}");
+    assert!(status == 1 && said.matches("would overwrite an input file").count() == 6, "{said}");
     assert_eq!(fs::read(input.join("m2.mtx")).unwrap(), before);
     // answers beside the matrices are not taken for matrices
     let (_, _, said) = batch(&["match", text(&input), "--out-dir", text(&input)]);
@@ -188,7 +186,7 @@ fn wrong_calls_of_many_files() {
         (&["view", "a.mtx", "b.mtx"], "view of several files needs --out-dir"),
         (&["check", input], "check of several files needs --sheets"),
         (&["match", WEEK, "--sheets", "x"], "match takes no --sheets"),
-        (&["match", "--out-dir", "x"], "match lacks FILE.mtx"),
+        (&["match", "--out-dir", "x"], "match needs FILE.mtx"),
         (&["apply", input, "--out-dir", "x", "--rhs", "b"], "apply of several files takes no --rhs"),
         (&["match", WEEK, "--jobs", "0", "--json"], "--jobs is a number from 1 to 1024, and not 0"),
         (&["match", WEEK, "--jobs", "x", "--json"], "--jobs is a number from 1 to 1024, and not x"),

@@ -81,7 +81,7 @@ fn a_refusal_says_which_of_its_cases_it_is() {
             "column 2: the column has no row, and another matching has more pairs (refused with 33, NOT_LARGEST)",
         ),
         (&[0, 0, 1, 0, 0, 1, 0, 1, 0, 0], "row 1, column 2: the row has two columns (refused with 30"),
-        (&[0, 0, 1, 1, 0, 1, 0, 1, 0, 0], "row 2, column 1: the pair is no entry of the matrix (refused with 30"),
+        (&[0, 0, 1, 1, 0, 1, 0, 1, 0, 0], "row 2, column 1: the pair is not an entry of the matrix (refused with 30"),
     ]
     .into_iter()
     .enumerate()
@@ -103,14 +103,14 @@ fn a_refusal_says_which_of_its_cases_it_is() {
 #[test]
 fn each_misuse_has_its_sentence() {
     let cases: [(&[&str], &str); 19] = [
-        (&[], "there is no command"),
+        (&[], "no command is given"),
         (&["mend", WEEK], "there is no command mend"),
-        (&["match"], "match lacks FILE.mtx"),
-        (&["check", WEEK, "x", "y"], "check has a word too many: y"),
-        (&["match", ""], "a word of match is empty"),
-        (&["sheet"], "sheet is followed by write, read, canonical"),
-        (&["sheet", "mend"], "sheet is followed by write, read, canonical, and not by mend"),
-        (&["sheet", "write", WEEK], "sheet write lacks SHEET"),
+        (&["match"], "match needs FILE.mtx"),
+        (&["check", WEEK, "x", "y"], "check has one argument too many: y"),
+        (&["match", ""], "an argument of match is empty"),
+        (&["sheet"], "sheet needs one of write, read, canonical"),
+        (&["sheet", "mend"], "sheet needs one of write, read, canonical, not mend"),
+        (&["sheet", "write", WEEK], "sheet write needs SHEET"),
         (&["sheet", "read", WEEK, "--rule", "whole"], "sheet read takes no --rule"),
         (&["picture", WEEK, "x.svg", "-o", "y"], "picture takes no --out"),
         (&["scale", WEEK, "--rule", "round"], "the rule is natural, flat or whole, and not round"),
@@ -120,7 +120,7 @@ fn each_misuse_has_its_sentence() {
         (&["scale", WEEK, "--loud"], "there is no option --loud"),
         (&["scale", WEEK, "--json=yes"], "--json takes no value"),
         (&["match", "--help=yes"], "--help takes no value"),
-        (&["check", WEEK], "check lacks SHEET"),
+        (&["check", WEEK], "check needs SHEET"),
         (&["sheet", "canonical", WEEK, "x", "-o", "y"], "sheet canonical takes OUT or --out, and not both"),
     ];
     for (words, said) in cases {
@@ -174,7 +174,7 @@ fn factors_are_held_at_the_extremes() {
     let matched = [numbers[0] * 1e308 * numbers[2], numbers[1] * (1e-308 * numbers[3])];
     assert!(matched.iter().any(|value| format!("{value:.3}") == "1.217"), "{matched:?}");
     let help = answer(&["--help"]);
-    assert!(help.contains("1.217") && help.contains("e^-709 and e^709") && help.contains("identity is another word"));
+    assert!(help.contains("1.217") && help.contains("e^-709 and e^709") && help.contains("identity is a synonym"));
     assert!(help.lines().all(|line| line.len() <= 120));
     // a picture of it loses nothing on the way
     answer(&["picture", &ends, path("ends.svg").to_str().unwrap()]);

@@ -96,7 +96,7 @@ fn a_match_and_its_certificate() {
     assert!(fault(&["scale", WEEK, "--certificate"], 2).contains("scale takes no --certificate"));
     assert!(fault(&["match", WEEK, "--certificate=yes"], 2).contains("--certificate takes no value"));
     let help = answer(&["--help"]);
-    assert!(help.contains("[--certificate]") && help.contains("logarithms as they are stored"));
+    assert!(help.contains("[--certificate]") && help.contains("the stored costs: the largest logarithm"));
 }
 
 #[test]
@@ -245,7 +245,7 @@ fn standard_input_and_help() {
 /// What is behind the banner, and what must be said of it.
 const BAD: [(&str, &str, &str); 21] = [
     ("", "", "line 1: the file is empty (refused with 20, BANNER)"),
-    ("matrix array real general", "1 1\n1\n", "line 1: the matrix is not by coordinates (refused with 20, BANNER)"),
+    ("matrix array real general", "1 1\n1\n", "line 1: the matrix is not in coordinate form (refused with 20, BANNER)"),
     ("matrix coordinate complex general", "1 1 1\n1 1 1 1\n", "line 1: the values are not real, integer or pattern"),
     ("matrix coordinate real hermitian", "1 1 1\n1 1 1\n", "line 1: the matrix is not general or symmetric"),
     (
@@ -333,7 +333,7 @@ fn bad_sheets_are_told_by_record() {
     let (zero, one) = (record(0, Some(1), [Some(1.0), None, None]), record(1, Some(0), [None; 3]));
     let head = [2u8, 0];
     let cases: [(&[&[u8]], &str, &str); 8] = [
-        (&[&[7]], "read", "byte 1: the sheet is cut short: it has not even its n (refused with 40, SHEET_CUT)"),
+        (&[&[7]], "read", "byte 1: the sheet is cut short: even its n is missing (refused with 40, SHEET_CUT)"),
         (&[&[1, 16]], "read", "byte 0: the n of the sheet is 4097, above 4,096"),
         (
             &[&head, &zero, &one[..4]],
@@ -380,7 +380,7 @@ fn a_match_of_others_is_checked() {
         (good([0, 1], [0.0; 2], [0.0; 2], cmax), ""),
         (
             good([1, 0], [0.0; 2], [0.0; 2], cmax),
-            "row 1, column 2: the pair is no entry of the matrix (refused with 30",
+            "row 1, column 2: the pair is not an entry of the matrix (refused with 30",
         ),
         (good([1, 1], [0.0; 2], [0.0; 2], cmax), "row 2, column 2: the row has two columns (refused with 30"),
         (good([0, 1], [0.0, 0.5], [0.0; 2], cmax), "u of row 2: the dual is not a whole number (refused with 31"),
@@ -457,7 +457,7 @@ fn a_sheet_that_is_not_largest() {
         // column 3 could have row 5 if column 8 had row 2
         (&[(5, 8), (7, 6), (2, 2)], "column 3: the column has no row, and another matching has more pairs (refused"),
         (&[(7, 1), (7, 6)], "row 7, column 6: the row has two columns (refused with 30, INCOMPLETE_MATCHING)"),
-        (&[(4, 4)], "row 4, column 4: the pair is no entry of the matrix (refused with 30"),
+        (&[(4, 4)], "row 4, column 4: the pair is not an entry of the matrix (refused with 30"),
         (&most, "column 1: cmax is 0 and in "),
     ];
     for (at, (pairs, said)) in cases.into_iter().enumerate() {

@@ -1,9 +1,9 @@
 //! The original rslab as an oracle: its own files, compiled from the checkout
 //! that RSLAB named at build time, behind plain calls for comparison with the
-//! port. Indices are `usize`, [`NONE`] where there is none.
+//! port. Indices are `usize`, [`NONE`] for none.
 //!
-//! Every call does what the original does, on damaged input too: where that
-//! stops with a panic, so does the call.
+//! Every call does what the original does, also on damaged input: if that
+//! panics, so does the call.
 
 include!(concat!(env!("OUT_DIR"), "/tree/root.rs"));
 

@@ -12,12 +12,12 @@ array([[1.        , 0.00292969],
        [0.125     , 1.        ]])
 
 A matrix, or a graph of costs, is square, and a numpy array, scipy.sparse of any format, a pandas frame or lists of
-numbers. Places that stand twice in a sparse matrix are summed. n is at most 4,096, entries at most 262,144 (131,072
-in the lower triangle of a symmetric matrix), each stored place counted. Rows and columns count from 0.
+numbers. Repeated entries of a sparse matrix are summed. n is at most 4,096, entries at most 262,144 (131,072 in the
+lower triangle of a symmetric matrix), every stored place counted. Rows and columns count from 0.
 
-Nothing is guessed. Booleans, complex numbers, objects, text, masked arrays and what is no array raise a TypeError;
-another shape, an integer above 2^53 or a number beyond the range of doubles raises a ValueError. What the library
-refuses is raised as `Refused`, a ValueError with the number and the name that include/suontarvi.h has for it.
+Nothing is guessed. Booleans, complex numbers, objects, text, masked arrays and anything that is not an array raise a
+TypeError; a wrong shape, an integer above 2^53 or a number beyond the range of doubles raises a ValueError. A refusal
+of the library raises `Refused`, a ValueError with the number and the name that include/suontarvi.h has for it.
 """
 
 from __future__ import annotations
@@ -66,8 +66,8 @@ class Match:
     """A match: which row each column has, and the duals that show how good it is.
 
     matched: the number of pairs. perm: the row of each column, or -1. u, v: the duals of rows and of columns. cmax: the
-    largest log of each column of a matrix; 0 where the graph was given as costs. counts: the seven numbers that the
-    match comes with; 0 if it was read from a sheet.
+    largest log of each column of a matrix; 0 if the graph was given as costs. counts: the seven counts of the match; 0
+    if it was read from a sheet.
     """
 
     matched: int
@@ -93,7 +93,7 @@ class Match:
 
 @dataclass(frozen=True)
 class Gap:
-    """How far a match can be from the least total: by at most so many steps of 2^-digits.
+    """How far a match can be from the least total: at most `steps` steps of 2^-digits.
 
     steps, digits: whole numbers.
     """
@@ -115,7 +115,7 @@ class Gap:
 
 @dataclass(eq=False)
 class Largest:
-    """A matching that has as many pairs as any, and the marks that show it.
+    """A largest matching, and the marks that show that it is largest.
 
     matched: the number of pairs. columns: whether each column is marked, since an alternating path leads to it from a
     column without a row. rows: whether each row is, since an entry of a marked column is in it. Every entry of a marked
@@ -142,8 +142,8 @@ class Scaling:
     """A match, the factors that belong to it, and the matrix that they make.
 
     Entry (i, j) times rows[i] * columns[j] is that of `scaled`; `scaled[match.perm]` has the matched entries on its
-    diagonal if the match is complete. By the rule "whole" both factors are powers of two, whose exponents are given
-    too: a power beyond the range of doubles is 0 or infinite, `scaled` is right all the same.
+    diagonal if the match is complete. Under the rule "whole" both factors are powers of two, and their exponents are
+    given too: a power beyond the range of doubles is 0 or infinite, but `scaled` is still right.
     """
 
     rows: np.ndarray
@@ -157,7 +157,7 @@ class Scaling:
 def match(costs: Any) -> Match:
     """The match of a cost graph: as many pairs as any matching has and, for whole costs, of least total if complete.
 
-    Stored zeros are costs. Of an array every element is a cost, but infinity, which is no entry.
+    Stored zeros are costs. In an array every element is a cost, except infinity, which means no entry.
 
     >>> import numpy, suontarvi
     >>> found = suontarvi.match(numpy.array([[0, 0], [3, 5]]))
@@ -170,7 +170,7 @@ def match(costs: Any) -> Match:
 def cost_graph(matrix: Any, symmetric: bool = False, logs: str = "whole") -> tuple[sp.csc_matrix, np.ndarray]:
     """The cost graph of a matrix, and cmax: a cost is the largest log of the column minus the entry's.
 
-    Logs are "whole", base-two in units of 1/65,536, or "natural". Of a symmetric matrix the lower triangle is read.
+    Logs are "whole", base-two in units of 1/65,536, or "natural". A symmetric matrix is read from its lower triangle.
 
     >>> import numpy, suontarvi
     >>> graph, cmax = suontarvi.cost_graph(numpy.array([[1.0, 4.0], [2.0, 4.0]]))
@@ -193,7 +193,7 @@ def match_matrix(matrix: Any, symmetric: bool = False, logs: str = "whole") -> M
 
 
 def check(costs: Any, found: Match) -> None:
-    """Raises what is wrong with a match, whoever made it; else it is complete, of least total, and its duals show it.
+    """Raises what is wrong with a match, whoever made it; if nothing is, it is complete and its duals show least total.
 
     Costs and duals must be whole.
 
@@ -205,8 +205,7 @@ def check(costs: Any, found: Match) -> None:
     >>> suontarvi.check(costs, found)
     Traceback (most recent call last):
     ...
-    suontarvi.Refused: refused with 31 (INFEASIBLE_DUALS): a dual that is not whole or too large, or duals \
-that add up to more than a cost
+    suontarvi.Refused: refused with 31 (INFEASIBLE_DUALS): a dual is not whole or too large, or u + v is above a cost
     """
     graph = _arrays.costs_of(costs)
     _, perm, u, v, _ = _fields(found)
@@ -216,10 +215,10 @@ that add up to more than a cost
 def gap(costs: Any, found: Match, digits: int | None = None) -> Gap:
     """How far a complete match, whoever made it, can be from the least total, for any costs and any duals.
 
-    Its total is at most that of every complete matching plus the gap: this is proved of exact numbers, the costs and
-    duals as they are stored. The gap is in steps of 2^-digits, at most 50; where none are given, the most that are
-    accepted are taken: no cost and no dual may have more than 2^49 steps in size. So duals beyond 2^49 are refused with
-    31, although `check` takes them up to 2^50. What `check` accepts has the gap 0 wherever it is accepted here.
+    Its total is at most that of every complete matching plus the gap: this is proved for exact numbers, the costs and
+    duals as they are stored. The gap is in steps of 2^-digits; digits are at most 50, and by default the largest that
+    are accepted: no cost and no dual may have more than 2^49 steps in size. So duals beyond 2^49 are refused with 31,
+    although `check` takes them up to 2^50. A match that `check` also accepts has the gap 0.
 
     >>> import numpy, suontarvi
     >>> costs = numpy.array([[0.1, 0.3], [3.7, 5.2]])
@@ -244,12 +243,12 @@ def gap(costs: Any, found: Match, digits: int | None = None) -> Gap:
 
 
 def check_largest(costs: Any, found: Match | np.ndarray) -> Largest:
-    """Raises what is wrong with a matching, whoever made it; else it has as many pairs as any, and the marks show why.
+    """Raises what is wrong with a matching, whoever made it; if nothing is, it is largest, and the marks show why.
 
-    What is checked is a match, or the row of each column, -1 if it has none; it need not be complete. The graph is that
-    of `match`, whatever its costs: stored zeros are entries, and of an array every element but infinity. Every match
-    that was found here is accepted. A row that is none or stands twice and a pair that is no entry are refused with 30,
-    a matching that is not largest with 33.
+    `found` is a match, or the row of each column, -1 if it has none; it need not be complete. The graph is that of
+    `match`, whatever its costs: stored zeros are entries, and so is every element of an array except infinity. Every
+    match that was found here is accepted. A row that is not below n or occurs twice, and a pair that is not an entry,
+    are refused with 30, a matching that is not largest with 33.
 
     >>> import numpy, suontarvi
     >>> costs = numpy.array([[0, 0, 0], [numpy.inf, numpy.inf, 1], [numpy.inf, numpy.inf, 2]])
@@ -273,10 +272,11 @@ def check_largest(costs: Any, found: Match | np.ndarray) -> Largest:
 def scale(matrix: Any, rule: str = "natural", symmetric: bool = False) -> Scaling:
     """Permutation, factors and the scaled matrix in one call.
 
-    "natural" (or "identity"): factors by natural logarithms, which bring the matched entries to 1 and no other above
-    it, but for rounding and for factors that are held at e^709 or e^-709; what is unmatched in a symmetric matrix gets
-    1. "flat", symmetric only: the unmatched ones after Duff and Pralet. "whole": powers of two, which round nothing.
-    Of a symmetric matrix the lower triangle is read; rows and columns have the same factors but by the rule "whole".
+    "natural" (or "identity"): factors by natural logarithms, which bring the matched entries to 1 and no other above 1,
+    except for rounding and for factors clamped to e^709 or e^-709; unmatched rows and columns of a symmetric matrix get
+    1. "flat", symmetric only: unmatched rows and columns after Duff and Pralet. "whole": powers of two, which round
+    nothing. Only the lower triangle of a symmetric matrix is read; its rows and columns have the same factors, except
+    under the rule "whole".
 
     >>> import numpy, suontarvi
     >>> scaling = suontarvi.scale(numpy.array([[1e-3, 4.0], [4.0, 0.0]]), symmetric=True)
@@ -319,14 +319,14 @@ def to_sheet(found: Match) -> bytes:
 
 
 def from_sheet(data: bytes | bytearray | memoryview, canonical: bool = False) -> Match:
-    """The match of a sheet file; a canonical one is one that `to_sheet` could have written. Its counts are 0.
+    """The match of a sheet file; a canonical file is one that `to_sheet` could have written. The counts are 0.
 
     >>> import suontarvi
     >>> suontarvi.from_sheet(bytes([1, 0, 0, 0, 1, 0, 0])).perm
     array([0])
     """
     if not isinstance(data, (bytes, bytearray, memoryview)):
-        raise TypeError(f"a sheet is bytes, and not {type(data).__name__}")
+        raise TypeError(f"a sheet is bytes, not {type(data).__name__}")
     sheet = np.frombuffer(bytes(data), np.uint8)
     stated = int.from_bytes(sheet[:2].tobytes(), "little") if len(sheet) >= 2 else 0
     # above the limit nothing is lent: the call refuses n first

@@ -25,7 +25,7 @@ _REPOSITORY = _HERE.parent.parent
 
 
 def _path() -> pathlib.Path:
-    """The file of the library: the one that SUONTARVI_SO names, else the wheel's own, else the repository's."""
+    """The file of the library: the one that SUONTARVI_SO names, or the wheel's own, or the repository's."""
     named = os.environ.get("SUONTARVI_SO")
     if named is not None:
         path = pathlib.Path(named)
@@ -51,7 +51,7 @@ def _version_of(number: int) -> str:
 
 @functools.lru_cache(maxsize=1)
 def library() -> ctypes.CDLL:
-    """The shared library, of the version of this module."""
+    """The shared library; its version must be that of this module."""
     path = _path()
     try:
         loaded = ctypes.CDLL(str(path))
@@ -69,7 +69,7 @@ def library() -> ctypes.CDLL:
 
 
 def lend(arguments: Iterable[Any]) -> list:
-    """The words of a C call: numbers as u32 or doubles, arrays as pointer and length. The arrays must outlive them."""
+    """Arguments of a C call: numbers as u32 or doubles, arrays as pointer and length. The arrays must outlive them."""
     words: list = []
     for argument in arguments:
         if isinstance(argument, np.ndarray):
@@ -85,7 +85,7 @@ def lend(arguments: Iterable[Any]) -> list:
 
 
 def call(name: str, *arguments: Any) -> None:
-    """Raises what the call refuses."""
+    """Raises the refusal of the call."""
     function = getattr(library(), name)
     function.restype = ctypes.c_uint32
     number = function(*lend(arguments))

@@ -6,19 +6,19 @@ from __future__ import annotations
 REFUSALS: dict[int, tuple[str, str]] = {
     1: ("TOO_MANY_COLUMNS", "n is above 4,096"),
     2: ("TOO_MANY_ENTRIES", "more entries than the limit"),
-    3: ("SLICE_LENGTH", "an array has another length than it should"),
+    3: ("SLICE_LENGTH", "an array has the wrong length"),
     4: ("COLUMN_POINTERS", "the pointers do not rise from 0 to the entry count"),
     5: ("INDEX_RANGE", "an index at or above n, or no such rule or digits"),
     6: ("UPPER_TRIANGLE", "an entry above the diagonal of a symmetric matrix"),
-    7: ("ROWS_NOT_RISING", "rows of a column that do not rise"),
-    8: ("COST_RANGE", "a cost or a log outside its range, or a cost that is not whole where it must be"),
+    7: ("ROWS_NOT_RISING", "the rows of a column do not rise"),
+    8: ("COST_RANGE", "a cost or a log is outside its range, or a cost that must be whole is not"),
     9: ("VALUE_NOT_FINITE", "a value that is not finite, or the logarithm of a zero"),
-    10: ("MATCHING_RANGE", "a pairing that is none, or another number of pairs than it has"),
+    10: ("MATCHING_RANGE", "an entry of perm is neither -1 nor below n, or the matched count does not fit"),
     11: ("NO_ROOT", "the square root of a NaN or of a number below zero"),
     12: ("EXTERNAL_CHOICE", "external factors"),
-    30: ("INCOMPLETE_MATCHING", "the pairs are no matching of the graph, or not complete where it must be"),
-    31: ("INFEASIBLE_DUALS", "a dual that is not whole or too large, or duals that add up to more than a cost"),
-    32: ("LOOSE_PAIR", "duals of a pair that add up to less than its cost"),
+    30: ("INCOMPLETE_MATCHING", "the pairs are not a matching of the graph, or not complete where they must be"),
+    31: ("INFEASIBLE_DUALS", "a dual is not whole or too large, or u + v is above a cost"),
+    32: ("LOOSE_PAIR", "u + v of a pair is below its cost"),
     33: ("NOT_LARGEST", "the matching is not largest: another one has more pairs"),
     40: ("SHEET_CUT", "the sheet is cut short, or its n is above 4,096"),
     41: ("SHEET_INDEX", "the sheet has an unknown bit, or a column or a row at or above n"),
@@ -43,7 +43,7 @@ class Refused(ValueError):
 
     def __init__(self, number: int, what: str | None = None) -> None:
         self.number, self._what = int(number), what
-        unknown = ("UNKNOWN", "the library is of another version than this module")
+        unknown = ("UNKNOWN", "the version of the library is not that of this module")
         self.name, reason = REFUSALS.get(self.number, unknown)
         super().__init__(f"refused with {self.number} ({self.name}): {what or reason}")
 

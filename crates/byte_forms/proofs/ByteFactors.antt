@@ -1,26 +1,30 @@
 -- The log factors as bytes: what sizes without a fault say, and the cases of the answers.
 use mathlib.Core.Path.{_≡_, refl, sym, ap, ap₂, _∙_}
 use mathlib.Core.Logic.{_≢_}
-use mathlib.Core.Bool.{Bool, true, false, cond, _&&_}
+use mathlib.Core.Bool.{Bool, true, not, _&&_}
 use mathlib.Core.List.{List, [], _∷_}
-use Prim.Native.Nat.{ℕ, zero, suc, _-_, _*_, _≤_}
+use Prim.Native.Nat.{ℕ, zero, suc, _+_, _-_, _*_, _≤_, _<_}
 use native.Mathlib.Omega.{arith}
 use borrow.Author.Tests.{eqb-true, eq-eqb, leb-true}
 use lib.Dec.{eqb, leb}
-use lib.ListN.{length}
-use lib.Ieee.{Float}
-use Rattle.refusal.specs.Refusal.{tooManyColumns, sliceLength}
+use lib.ListN.{length, getD, take, replicate, getD-replicate}
+use lib.Seq.{sets, getD-take}
+use lib.Ieee.{Float, nan, binary64, toBits}
+use Rattle.limits.specs.Limits.{none}
+use Rattle.refusal.specs.Refusal.{tooManyColumns, sliceLength, matchingRange}
 use Rattle.slices.specs.Outcome.{outcomeIs, Outcome, refusing, asNumber}
 use Rattle.sparse.specs.Fault.{unless}
-use Rattle.sparse.proofs.First.{or-none, or-zero, unless-holds, answer-first}
+use Rattle.sparse.proofs.First.{or-none, or-zero, unless-holds, all-zero, answer-first}
 use Rattle.slices.proofs.Bools.{both}
-use Rattle.sparse.proofs.Accepted.{sizes-accepted}
-use Rattle.matching.specs.Match.{Match, matchOf}
-use Rattle.factors_mc64.specs.declared.Scaled.{Scaled}
-use Rattle.factors_mc64.specs.declared.Scaled.the-variants.{Applied, PartialSingular, Refused}
-use Rattle.factors_mc64.specs.Calls.{numberOf, sizes, Slices, lengths, matchingFault, symmetricOutcome, Sides, sides, sideLengths, unsymmetricOutcome}
-use Rattle.factors_mc64.specs.Calls.{scaled, sidesScaled}
-use Rattle.byte_numbers.specs.Bytes.{words, doubles, wordBytes, doubleBytes}
+use Rattle.matching.specs.Match.{matchOf}
+use Rattle.factors_mc64.specs.Factors.{doublesOf, isMatchedRow, logFactor, factorAt, symmetricFactors}
+use Rattle.factors_mc64.specs.Calls.{rowOrNone, matchingFault}
+use Rattle.factors_mc64.specs.inner.Steps.{Rows, Marked}
+use Rattle.hungarian_match.proofs.LocalArrays.{part-length}
+use Rattle.factors_mc64.proofs.Loops.{mark-tells}
+use Rattle.factors_mc64.proofs.Exact.{doubles-length, doubles-at}
+use Rattle.byte_numbers.proofs.Words.{laid, lay-none, lay-more, lay-all, double-bytes-are, bitsOf, bits-length, bits-at, doubleAt, double-at}
+use Rattle.byte_numbers.specs.Bytes.{bytesOf, words, doubles, wordBytes, doubleBytes}
 use Rattle.byte_forms.specs.MatchBytes.{byteColumns}
 use Rattle.byte_forms.specs.FactorBytes.{FactorBytes, factorBytes, factorSizes, cacheRead, factorsLaid}
 use Rattle.byte_forms.specs.FactorBytes.{symmetricSizes}
@@ -54,30 +58,33 @@ refused-by : (f : ℕ) (done : Outcome ℕ FactorBytes) (first second : List ℕ
 refused-by zero done first second h = absurd (h refl)
 refused-by (suc f) done first second h = refl
 
--- sizes that the native calls accept
-fits : (n : ℕ) (fit : Bool) → n ≤ byteColumns → fit ≡ true → sizes n fit ≡ 0
-fits n fit h t = sizes-accepted n 0 0 fit .1 (omega arith, omega arith, t)
+-- ---- factors laid down one after the other
+module _ (f : ℕ → Float) (n : ℕ) (d : List ℕ) where
+  -- the bytes of the first i factors, in front of what was there
+  abbrev pub laidTo : ℕ → List ℕ
+  laidTo i = laid 8 (bitsOf (doublesOf f n)) d i
+
+  factors-count : length (bitsOf (doublesOf f n)) ≡ n
+  factors-count = bits-length (doublesOf f n) ∙ doubles-length f n
+
+  pub laid-none : d ≡ laidTo 0
+  laid-none = lay-none 8 (bitsOf (doublesOf f n)) d
+
+  pub laid-more : (i : ℕ) (x : Float) {l : List ℕ} → i < n → length l ≡ 8 * n → l ≡ laidTo i → x ≡ f i
+      → sets l (8 * i) (bytesOf 8 (toBits binary64 x)) ≡ laidTo (i + 1)
+  laid-more i x h k e q =
+      let z = toBits binary64 nan in
+      let b : toBits binary64 x ≡ getD (bitsOf (doublesOf f n)) i z =
+      ap (toBits binary64) (q ∙ sym (doubles-at f n i h)) ∙ sym (bits-at (doublesOf f n) i) in
+      ap₂ (λ (s : List ℕ) (v : ℕ). sets s (8 * i) (bytesOf 8 v)) e b
+      ∙ lay-more 8 (bitsOf (doublesOf f n)) d i z (omega (arith, factors-count)) (sym (ap length e) ∙ k ∙ ap (λ (m : ℕ). 8 * m) (sym factors-count))
+
+  pub laid-all : (i : ℕ) → i ≡ n → length d ≡ 8 * n → laidTo i ≡ doubleBytes (doublesOf f n)
+  laid-all i e h =
+      ap laidTo (e ∙ sym factors-count) ∙ lay-all 8 (bitsOf (doublesOf f n)) d (h ∙ ap (λ (m : ℕ). 8 * m) (sym factors-count))
+      ∙ double-bytes-are (doublesOf f n)
 
 -- ---- unsymmetric
-module _ (n : ℕ) (u v cmax rows columns : List Float) {rows' columns' : List Float} {answer : ℕ} (s : Duals n n u v cmax)
-    (r : length rows ≡ n) (c : length columns ≡ n) (e : outcomeIs answer (sides rows' columns') ≡ unsymmetricOutcome n u v cmax rows columns) where
-  side-lengths : sideLengths n u v cmax rows columns ≡ true
-  unfolding sideLengths
-  side-lengths = rw (eq-eqb _ _ (s .rowDuals), eq-eqb _ _ (s .columnDuals), eq-eqb _ _ (s .largest), eq-eqb _ _ r, eq-eqb _ _ c) refl
-
-  sides-are : outcomeIs answer (sides rows' columns') ≡ sidesScaled n u v cmax
-  unfolding unsymmetricOutcome
-  sides-are = e ∙ ap (λ (f : ℕ). refusing asNumber f (sidesScaled n u v cmax) (sides rows columns))
-      (fits n (sideLengths n u v cmax rows columns) (s .columns) side-lengths)
-
-  pub sides-laid : {a b : List ℕ} → a ≡ doubleBytes rows' → b ≡ doubleBytes columns' → outcomeIs answer (factorBytes a b) ≡ sidesLaid n u v cmax
-  unfolding sidesLaid
-  sides-laid p q = rw (p, q)
-      (ap (λ (x : Outcome ℕ Sides). outcomeIs (x .answer) (factorBytes (doubleBytes (x .after .rows)) (doubleBytes (x .after .columns)))) sides-are)
-
-pub sides-read : (n : ℕ) {t : Outcome ℕ FactorBytes} {u v cmax a b m : List Float} → t ≡ sidesLaid n a b m → a ≡ u → b ≡ v → m ≡ cmax → t ≡ sidesLaid n u v cmax
-sides-read n e a b m = rw (← a, ← b, ← m) e
-
 module _ (n : ℕ) (u v cmax rows columns : List ℕ) {found : ℕ}
     (e : found ≡ factorSizes n (length u) (length v) (length cmax) (length rows) (eqb (length columns) (8 * n))) where
   pub sides-refused : found ≢ 0 → outcomeIs found (factorBytes rows columns) ≡ unsymmetricBytes n u v cmax rows columns
@@ -95,72 +102,52 @@ module _ (n : ℕ) (u v cmax rows columns : List ℕ) {found : ℕ}
   sides-result z h = h ∙ ap (λ (f : ℕ). refusing asNumber f (sidesLaid n (doubles u n) (doubles v n) (doubles cmax n)) (factorBytes rows columns)) (sym z ∙ e)
 
 -- ---- symmetric
--- the count of an answer
-abbrev pub countOf : Scaled → ℕ
-countOf Applied = 0
-countOf (PartialSingular count) = count
-countOf (Refused number) = 0
+-- what an accepted match has
+pub pairs-fit : (n matched : ℕ) (perm : List ℕ) → length perm ≡ n → matchingFault n matched perm ≡ 0 → (matched ≤ n) × Rows n perm
+unfolding matchingFault
+pairs-fit n matched perm l e =
+    let z = or-zero (unless (leb matched n) matchingRange) _ e in (
+      leb-true matched n (unless-holds (leb matched n) matchingRange (omega arith) (z .0)),
+      λ k h. unless-holds (rowOrNone n (getD perm k 0)) matchingRange (omega arith) (all-zero _ (length perm) .0 (z .1) k (omega (arith, l))),
+    )
 
--- an accepted call is not refused, and its count is that of the unmatched columns
-not-scaled : (t : Bool) (j : ℕ) {k : ℕ} → Refused k ≡ cond t Applied (PartialSingular j) → ⊥
-not-scaled true j e = let z : _≡_ {A = ℕ} 0 1 = cc in omega arith
-not-scaled false j e = let z : _≡_ {A = ℕ} 0 1 = cc in omega arith
+-- an array of zeros has no marks
+pub array-unmarked : (n : ℕ) (perm : List ℕ) → n ≤ byteColumns → Marked n perm 0 (take n (replicate 256 0))
+unfolding isMatchedRow
+array-unmarked n perm h =
+    record {
+      words = part-length n 256 0 (omega arith);
+      marks = λ i l. getD-take n (replicate 256 0) i 0 l ∙ getD-replicate 256 i 0 0 (omega arith);
+    }
 
-scaled-count : (n matched : ℕ) (t : Bool) → eqb matched n ≡ t → countOf (cond t Applied (PartialSingular (n - matched))) ≡ n - matched
-scaled-count n matched true q = let m : matched ≡ n = eqb-true matched n q in omega arith
-scaled-count n matched false q = refl
+-- the factor of index i, from its mark and what was read
+pub factor-read : {n : ℕ} {perm marks : List ℕ} (u v cmax : List ℕ) (i : ℕ) {x a b c : Float} → Marked n perm n marks → i < n
+    → x ≡ logFactor (not (eqb (getD perm i 0) none) && eqb (getD marks i 0) 1) a b c
+    → a ≡ doubleAt u i → b ≡ doubleAt v i → c ≡ doubleAt cmax i
+    → x ≡ factorAt n (matchOf perm (doubles u n) (doubles v n) (doubles cmax n)) i
+factor-read {n} u v cmax i m h e a b c = e ∙ rw (
+  mark-tells m i h,
+  a ∙ sym (double-at u n i h),
+  b ∙ sym (double-at v n i h),
+  c ∙ sym (double-at cmax n i h),
+) refl
 
-module _ (n matched : ℕ) (c : Match Float) (s after : Slices) (factors unmatched : List ℕ) where
-  number-by : (f : ℕ) {k : ℕ} → outcomeIs (Refused k) after ≡ refusing Refused f (scaled n matched c) s
-      → outcomeIs k (factorBytes factors unmatched) ≡ refusing asNumber f (factorsLaid n matched c) (factorBytes factors unmatched)
-  number-by zero e = absurd (not-scaled (eqb matched n) (n - matched) (ap (λ (o : Outcome Scaled Slices). o .answer) e))
-  number-by (suc f) e = ap (λ (o : Outcome Scaled Slices). outcomeIs (numberOf (o .answer)) (factorBytes factors unmatched)) e
+module _ (n matched : ℕ) (perm u v cmax factors unmatched : List ℕ) {found : ℕ} (e : found ≡ matchingFault n matched (words perm n)) where
+  pub pairs-refused : found ≢ 0
+      → outcomeIs found (factorBytes factors unmatched) ≡ cacheResult n matched (cacheRead n perm u v cmax) factors unmatched
+  unfolding cacheResult cacheRead
+  pairs-refused h =
+      let done = factorsLaid n matched (cacheRead n perm u v cmax) in
+      refused-by found done factors unmatched h ∙ ap (λ (f : ℕ). refusing asNumber f done (factorBytes factors unmatched)) e
 
-  laid-by : (f : ℕ) {a : Scaled} {x y : List ℕ} → outcomeIs a after ≡ refusing Refused f (scaled n matched c) s → numberOf a ≡ 0
-      → x ≡ doubleBytes (after .factors) → y ≡ wordBytes (countOf a ∷ []) → outcomeIs 0 (factorBytes x y) ≡ refusing asNumber f
-      (factorsLaid n matched c) (factorBytes factors unmatched)
-  unfolding factorsLaid
-  laid-by zero e z p q =
-      ap₂ (λ (x y : List ℕ). outcomeIs 0 (factorBytes x y)) (p ∙ ap (λ (o : Outcome Scaled Slices). doubleBytes (o .after .factors)) e)
-      (q ∙ ap (λ (k : ℕ). wordBytes (k ∷ [])) (ap (λ (o : Outcome Scaled Slices). countOf (o .answer)) e ∙ scaled-count n matched (eqb matched n) refl))
-  laid-by (suc f) e z p q = let y : suc f ≡ 0 = sym (ap (λ (o : Outcome Scaled Slices). numberOf (o .answer)) e) ∙ z in absurd (omega arith)
-
-module _ (n matched : ℕ) (c : Match Float) (s : Slices) {after : Slices} {a : Scaled} (h : Duals n n (c .u) (c .v) (c .cmax))
-    (r : (length (c .perm) ≡ n) × (length (s .factors) ≡ n) × (length (s .work) ≡ n)) (factors unmatched : List ℕ)
-    (e : outcomeIs a after ≡ symmetricOutcome n matched c s) where
-  cache-lengths : lengths n c s ≡ true
-  unfolding lengths
-  cache-lengths =
-      rw (
-        eq-eqb _ _ (r .0),
-        eq-eqb _ _ (h .rowDuals),
-        eq-eqb _ _ (h .columnDuals),
-        eq-eqb _ _ (h .largest),
-        eq-eqb _ _ (r .1),
-        eq-eqb _ _ (r .2),
-      ) refl
-
-  tested : {b : Scaled} → a ≡ b → outcomeIs b after ≡ refusing Refused (matchingFault n matched (c .perm)) (scaled n matched c) s
-  unfolding symmetricOutcome
-  tested q =
-      sym (ap (λ (x : Scaled). outcomeIs x after) q) ∙ e ∙ ap (λ (f : ℕ). refusing Refused f (scaled n matched c) s)
-      (or-none (fits n (lengths n c s) (h .columns) cache-lengths))
-
-  pub refused-bytes : {k : ℕ} → a ≡ Refused k → outcomeIs k (factorBytes factors unmatched) ≡ cacheResult n matched c factors unmatched
-  unfolding cacheResult
-  refused-bytes q = number-by n matched c s after factors unmatched (matchingFault n matched (c .perm)) (tested q)
-
-  -- factors, whether or not every column is matched
-  pub laid-bytes : {b : Scaled} {x y : List ℕ} → a ≡ b → numberOf b ≡ 0 → x ≡ doubleBytes (after .factors)
-      → y ≡ wordBytes (countOf b ∷ []) → outcomeIs 0 (factorBytes x y) ≡ cacheResult n matched c factors unmatched
-  unfolding cacheResult
-  laid-bytes q z p w = laid-by n matched c s after factors unmatched (matchingFault n matched (c .perm)) (tested q) z p w
-
-pub cache-read : (n matched : ℕ) (perm u v cmax factors unmatched : List ℕ) {t : Outcome ℕ FactorBytes} {p : List ℕ} {a b m : List Float}
-    → t ≡ cacheResult n matched (matchOf p a b m) factors unmatched → p ≡ words perm n → a ≡ doubles u n → b ≡ doubles v n → m ≡ doubles cmax n
-    → t ≡ cacheResult n matched (cacheRead n perm u v cmax) factors unmatched
-unfolding cacheRead
-cache-read n matched perm u v cmax factors unmatched e p a b m = e ∙ ap (λ (c : Match Float). cacheResult n matched c factors unmatched) (rw (p, a, b, m) refl)
+  pub pairs-laid : {x y : List ℕ} → found ≡ 0
+      → x ≡ doubleBytes (symmetricFactors n (matchOf (words perm n) (doubles u n) (doubles v n) (doubles cmax n)))
+      → y ≡ wordBytes ((n - matched) ∷ [])
+      → outcomeIs 0 (factorBytes x y) ≡ cacheResult n matched (cacheRead n perm u v cmax) factors unmatched
+  unfolding cacheResult cacheRead factorsLaid
+  pairs-laid z p q =
+      ap₂ (λ (x y : List ℕ). outcomeIs 0 (factorBytes x y)) p q
+      ∙ ap (λ (f : ℕ). refusing asNumber f (factorsLaid n matched (cacheRead n perm u v cmax)) (factorBytes factors unmatched)) (sym z ∙ e)
 
 module _ (n matched : ℕ) (perm u v cmax factors unmatched : List ℕ) {found : ℕ}
     (e : found ≡ factorSizes n (length u) (length v) (length cmax) (length factors) (eqb (length perm) (4 * n) && eqb (length unmatched) 4)) where

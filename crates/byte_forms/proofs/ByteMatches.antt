@@ -28,7 +28,7 @@ use Rattle.hungarian_match.specs.Call.{Slices, numberOf, matchOutcome, matchLen
 use Rattle.hungarian_match.proofs.Outcomes.{not-matched, same}
 use Rattle.byte_numbers.specs.Bytes.{listOf, words, doubles}
 use Rattle.byte_forms.specs.MatchBytes.{byteColumns, byteEntries, wordCount, byteLengths, byteSizes, GraphBytes, graphRead, MatchBytes}
-use Rattle.byte_forms.specs.MatchBytes.{matchBytes, matchLaid, resultBy, bytesFault, matchRead, matchBytesResult, BytesMatch, BytesPromised}
+use Rattle.byte_forms.specs.MatchBytes.{matchLaid, resultBy, bytesFault, matchRead, matchBytesResult, BytesMatch, BytesPromised}
 use Rattle.byte_forms.specs.MatchBytes.{BytesCounted}
 use Rattle.byte_forms.specs.inner.Steps.{graphResult, Laying, Roomy, Fitting, Small, Sized}
 use Rattle.byte_forms.proofs.ReadMatch.{match-reads-back, read-doubles}

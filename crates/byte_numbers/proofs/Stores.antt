@@ -1,7 +1,7 @@
 -- Four or eight stores of a number's bytes, one after the other, are its bytes laid down at once. By rewriting places and quotients to one form.
 use mathlib.Core.Path.{_≡_}
 use mathlib.Core.List.{List}
-use Prim.Native.Nat.{ℕ, suc, _+_, _/_, _%_}
+use Prim.Native.Nat.{ℕ, _+_, _/_, _%_}
 use native.Mathlib.Nat.{div-div-eq-div-mul}
 use native.Mathlib.Numerals.{towards-suc}
 use lib.ListN.{set}

@@ -95,6 +95,12 @@ module _ {A : Type 0} (f : ℕ → A) (d : List A) where
   pub fill-all : (n : ℕ) → length d ≤ n → filled f d n ≡ listOf n f
   fill-all n l = ap (λ (t : List A). listOf n f ++ t) (drop-of-length-le d {i = n} l) ∙ append-nil (listOf n f)
 
+pub list-at : {A : Type 0} (n : ℕ) (f : ℕ → A) (i : ℕ) (z : A) → i < n → getD (listOf n f) i z ≡ f i
+unfolding listOf
+list-at zero f i z l = absurd (not-suc-le-zero l)
+list-at (suc n) f zero z l = refl
+list-at (suc n) f (suc i) z l = list-at n (λ (k : ℕ). f (suc k)) i z (le-of-suc-le-suc l)
+
 abbrev pub wordAt : List ℕ → ℕ → ℕ
 wordAt bytes i = numberAt 4 bytes (4 * i)
 
@@ -108,6 +114,10 @@ words-are bytes n = refl
 pub doubles-are : (bytes : List ℕ) (n : ℕ) → listOf n (doubleAt bytes) ≡ doubles bytes n
 unfolding doubles
 doubles-are bytes n = refl
+
+pub double-at : (bytes : List ℕ) (n i : ℕ) → i < n → getD (doubles bytes n) i nan ≡ doubleAt bytes i
+unfolding doubles
+double-at bytes n i l = list-at n (doubleAt bytes) i nan l
 
 -- ---- a list laid down from the front
 

@@ -78,6 +78,22 @@ pub fn bits_of(x: f64) -> u64
     f64::to_bits(x)
 }
 
+// The double whose eight bytes stand from `at` on.
+pub fn get_double(bytes: &[u8], at: usize) -> f64
+    requires { ⌜ at + 8 ≤ length (now bytes) ⌝ }
+    ensures { λ r. ⌜ r ≡ ofBits binary64 (numberAt 8 (now (bytes .entry)) at) ⌝ }
+{
+    double_of(get_u64(bytes, at))
+}
+
+// The eight bytes of a double, from `at` on.
+pub fn put_double(out: &mut [u8], at: usize, x: f64)
+    requires { ⌜ at + 8 ≤ length (now out) ⌝ }
+    ensures { λ _. ⌜ now (out .exit) ≡ sets (now (out .entry)) at (bytesOf 8 (toBits binary64 x)) ⌝ }
+{
+    put_u64(out, at, bits_of(x));
+}
+
 // Every word of the bytes.
 pub fn read_words(bytes: &[u8], out: &mut [u32])
     requires { ⌜ length (now bytes) ≡ 4 * length (now out) ⌝ }
@@ -97,7 +113,7 @@ pub fn read_doubles(bytes: &[u8], out: &mut [f64])
 {
     let mut i = 0;
     while i < out.len() {
-        out[i] = double_of(get_u64(bytes, 8 * i));
+        out[i] = get_double(bytes, 8 * i);
         i += 1;
     }
 }
@@ -121,7 +137,7 @@ pub fn put_doubles(values: &[f64], out: &mut [u8])
 {
     let mut i = 0;
     while i < values.len() {
-        put_u64(out, 8 * i, bits_of(values[i]));
+        put_double(out, 8 * i, values[i]);
         i += 1;
     }
 }

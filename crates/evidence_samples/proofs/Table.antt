@@ -38,7 +38,7 @@ use Rattle.text_report.specs.Report as Report
 use Rattle.text_report.specs.Pairs as Pairs
 use Rattle.text_report.specs.Form.{formText}
 use Rattle.text_answer.specs.Answer.{graphText, textOf, answerText}
-use Rattle.evidence_samples.specs.Table.{rows, table, allHold, mostColumns}
+use Rattle.evidence_samples.specs.Table.{rows, table, allHold}
 use Rattle.evidence_samples.proofs.Large.{most-columns}
 
 rows-hold : allHold rows ≡ true
@@ -52,7 +52,7 @@ unfolding rows allHold hungarianMatch costFault graphFault sizeFault pointerFaul
     isMatchedRow logFactor clampLog matchingFault sqrtOf wholeLog ofBits toBits add sub mul div neg lt le eq ne ofInt wholeOf filled sumAt columnRows
     rowsBefore valuesBefore tabulate cut nonEmpty linesOf wordsOf isBlankLine beginsPercent
     Numbers.decimalValue Numbers.numberRead Numbers.sizeRead Numbers.threeOf Numbers.twoOf Numbers.numbersOf sameWord sameWords isBanner bannerKind
-    File.lineEntry File.content File.readLine File.readLines File.readingAtEnd File.readingOf File.hasPair File.repeated
+    File.lineEntry File.content File.readLine File.readLines File.readingAtEnd File.readingOf File.pairAmong File.repeats
     File.fileOf Decimal.digits Decimal.decimal Decimal.signedText Report.matchedLine Report.rowNumber Report.pairLine Report.pairLines Report.numbers
     Report.countsLine Report.matchText Pairs.patternSize Pairs.matchedPair Pairs.matchedPairs Pairs.pairsText formText graphText textOf answerText
 rows-hold = refl

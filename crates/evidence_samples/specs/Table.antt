@@ -8,7 +8,7 @@ use Prim.Native.String.{String}
 use lib.Dec.{eqb}
 use lib.Ieee.{Float, nan, binary64, ofBits, toBits}
 use lib.IntN.{ℤ, pos, negsuc}
-use lib.ListN.{getD, length, replicate}
+use lib.ListN.{getD, replicate}
 use Rattle.limits.specs.Limits.{none}
 use Rattle.refusal.specs.Refusal.{accepted, costRange}
 use Rattle.slices.specs.Outcome.{Outcome}

@@ -1,7 +1,7 @@
 -- What exponents made of a match do to one value, in exact numbers: from the bounds of its logarithm in units of 1 / N, a value times 2 ^ (sum of two
 -- floors) is below 2 where
 -- the factors' sum is at most minus the logarithm, and above 1 / 4 where it is equal. Powers are monotone, so a bound on N-th powers is one on the numbers.
-use mathlib.Core.Path.{_≡_, refl, sym, ap, ap₂, _∙_}
+use mathlib.Core.Path.{_≡_, sym, ap, ap₂, _∙_}
 use Prim.Native.Nat.{ℕ, zero, suc, _+_, _-_, _*_, _^_, _≤_, _<_}
 use native.Mathlib.Nat.{pow-zero, pow-suc, mul-assoc, mul-comm, mul-suc, add-mul, le-trans, le-of-eq, lt-of-le-of-lt, lt-of-lt-of-le, lt-of-not-le}
 use native.Mathlib.Nat.{lt-irrefl, mul-le-mul-right, mul-lt-mul-of-pos-right, pow-le-pow-left}

@@ -2,14 +2,14 @@
 -- to 2 ^ 53 add
 -- without rounding; between 2 ^ 52 and 2 ^ 53 every double is whole, and its bits count up by 1.
 use mathlib.Core.Path.{_≡_, refl, sym, ap, ap₂, _∙_, subst}
-use mathlib.Core.Bool.{Bool, true, false, not, _&&_, false≢true}
-use Prim.Native.Nat.{ℕ, zero, suc, _+_, _-_, _*_, _/_, _%_, _^_, _≤_, _<_}
+use mathlib.Core.Bool.{Bool, true, false, _&&_, false≢true}
+use Prim.Native.Nat.{ℕ, _+_, _-_, _*_, _/_, _%_, _^_, _≤_, _<_}
 use native.Mathlib.Nat.{add-zero, zero-mul, le-refl, le-of-eq, le-trans, lt-of-le-of-lt, lt-of-lt-of-le, lt-of-not-le, le-of-mul-le-mul-right}
 use native.Mathlib.Nat.{mul-le-mul-right, mul-lt-mul-of-pos-right, mul-mod-left, div-add-mod'}
 use native.Mathlib.Decide.{decLe}
 use native.Mathlib.Omega.{arith}
 use borrow.Author.Tests.{leb-true, le-leb, eqb-true, eq-eqb}
-use lib.Dec.{T, eqb, leb}
+use lib.Dec.{T}
 use lib.Pow.{pow-add, pow-pos}
 use lib.IntN.{ℤ, pos, negsuc, natAbs, negℤ, _+ℤ_, _-ℤ_, _*ℤ_}
 use lib.Signed.{mag as sizeOf}
@@ -28,7 +28,7 @@ use Rattle.float64.proofs.Scale.{units-pos}
 use Rattle.float64.proofs.Order.{eq-key, le-key}
 use Rattle.float64.proofs.Bits.{bits-in, normal-mag, subnormal-mag}
 use Rattle.float64.proofs.Normalised.{pow-below}
-use Rattle.float64.proofs.WholeNumbers.{number-whole, whole-key, key-whole, whole-add, whole-neg, whole-le, whole-of, ordered}
+use Rattle.float64.proofs.WholeNumbers.{number-whole, whole-key, key-whole, whole-add, whole-neg, whole-le, whole-of, ordered, size-signed, size-multiple}
 use Rattle.exponents_powers.specs.Power.{withinLimit}
 use Rattle.exponents_powers.proofs.Fields.{within}
 use Rattle.exponents.specs.Exponent.{floorOf, isWhole, exponentOf, factorFits}
@@ -56,15 +56,6 @@ whole-is x f h =
     let r : num x % den x ≡ 0 = eqb-true (num x % den x) 0 (b .1) in
     let e : num x ≡ num x / den x * den x = sym (div-add-mod' (num x) (den x)) ∙ ap (λ (m : ℕ). num x / den x * den x + m) r ∙ add-zero _ in
     record { double = f; isFinite = subst T (sym (b .0)) tt; value = value-is (negative x) (num x) (den x) e }
-
-size-signed : (s : Bool) (n : ℕ) → natAbs (signed s n) ≡ n
-size-signed true zero = refl
-size-signed true (suc n) = refl
-size-signed false n = refl
-
-size-multiple : (z : ℤ) (d : ℕ) → natAbs (z *ℤ pos d) ≡ natAbs z * d
-size-multiple (pos n) d = refl
-size-multiple (negsuc n) d = size-signed true (suc n * d)
 
 pub is-whole : (x : Float) (z : ℤ) → Whole x z → isWhole x ≡ true
 unfolding isWhole

@@ -1,7 +1,7 @@
 -- The call: what the tests leave is what the scaling asks for; a refusal leaves the values, an accepted call the scaled ones, each scaled exactly.
 use mathlib.Core.Path.{_≡_, refl, sym, ap, _∙_, subst}
 use mathlib.Core.Logic.{_≢_}
-use mathlib.Core.Bool.{Bool, true}
+use mathlib.Core.Bool.{Bool}
 use mathlib.Core.List.{List}
 use Prim.Native.Nat.{ℕ, zero, suc, _+_, _-_}
 use native.Mathlib.Omega.{arith}
@@ -12,8 +12,6 @@ use Rattle.limits.specs.Limits.{maxGeneral}
 use Rattle.refusal.specs.Refusal.{exponentRange, valueNotNormal}
 use Rattle.refusal.specs.Listed.{listed, applyNumbers, OneOf}
 use Rattle.slices.specs.Outcome.{outcomeIs, refusing, asNumber}
-use Rattle.sparse.specs.Columns.{Columns}
-use Rattle.sparse.specs.Fault.{unless}
 use Rattle.sparse.proofs.First.{unless-holds, all-zero}
 use Rattle.sparse.proofs.Listed.{Listed, test, or-listed, first-listed, within, part}
 use Rattle.sparse.proofs.Theorems.{sizeNumbers, sizes-listed, pointerNumbers, pointers-listed, columnNumbers, general-columns-listed}

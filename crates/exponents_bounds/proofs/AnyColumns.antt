@@ -5,7 +5,7 @@
 -- less than 1 each. And the exponents of our own match are always made (`ours-accepted`), since its duals are at most 2 ^ 41.
 use mathlib.Core.Path.{_≡_, refl, sym, ap, ap₂, _∙_, subst}
 use mathlib.Core.Bool.{Bool, true}
-use mathlib.Core.List.{List, [], _∷_, map}
+use mathlib.Core.List.{List, [], _∷_}
 use mathlib.Core.Logic.{_⊎_}
 use Prim.Native.Nat.{ℕ, zero, suc, _+_, _-_, _*_, _^_, _≤_, _<_}
 use native.Mathlib.Nat.{le-of-eq, le-trans, lt-of-le-of-lt}
@@ -45,7 +45,7 @@ use Rattle.mc64_columns.proofs.Graphs.{ones-length, joined-at}
 use Rattle.mc64_columns.proofs.Entries.{graphBy, topOf, MadeOf, made as made-of}
 use Rattle.mc64_columns.proofs.Kept.{map-at}
 use Rattle.exponents_powers.specs.Power.{Exponents, exponents}
-use Rattle.exponents.specs.Exponent.{floorOf, exponentOf, factorFits}
+use Rattle.exponents.specs.Exponent.{floorOf, factorFits}
 use Rattle.exponents.specs.Call.{Duals, duals, differences, lengthsFit, factorsFault, exponentsFault, makeExponents, setOf}
 use Rattle.exponents.proofs.Calling.{differences-length, difference-at}
 use Rattle.exponents_apply.specs.Apply.{exponentAt}

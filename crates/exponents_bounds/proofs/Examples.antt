@@ -124,5 +124,5 @@ unfolding wholeSymmetricGraph symmetricInputFault finiteFault frameFault symmetr
     Graphs.built Graphs.joined placesTo atMost largest largestFrom normalised wholeLog Match.matchOutcome Match.finished Match.matchLengths
     hungarianMatch graphFault costFault inRange sizeFault pointerFault firstOf generalColumns generalColumn magnitude unitsPerOne ofInt ofBits lt
     le eq ne add sub neg makeExponents exponentsFault lengthsFit factorsFault factorFits isWhole withinLimit exponentOf floorOf wholeOf
-    differences applyExponents applyFault matrixFault limitFault valuesFault columnFault scaledValues tabulate columnOf sumTo scalable scaledBits
+    differences applyExponents applyFault matrixFault limitFault valuesFault columnFault scaledValues tabulate scalable scaledBits
 triangle-scaled = (refl, refl, refl, refl, refl, refl)

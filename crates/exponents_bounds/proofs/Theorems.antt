@@ -39,7 +39,7 @@ use Rattle.mc64_symmetric.specs.Graph.{mirroredColumns}
 use Rattle.mc64_general.specs.Graph.{keptColumns}
 use Rattle.whole_graphs.specs.Graphs.{wholeGeneralFault, wholeGeneralGraph, wholeSymmetricFault, wholeSymmetricGraph, graphLeft, WholeGraph}
 use Rattle.whole_graphs.proofs.Theorems.{Doubles, left-is, left-built, general-optimal, symmetric-optimal}
-use Rattle.exponents_powers.specs.Power.{scaledBits, Exponents, exponents}
+use Rattle.exponents_powers.specs.Power.{scaledBits, Exponents}
 use Rattle.exponents_powers.proofs.Exact.{scaled-exactly}
 use Rattle.exponents.specs.Call.{duals, makeExponents, setOf}
 use Rattle.exponents_apply.specs.Apply.{shiftAt, applyFault, scaledValues, applyExponents, Exact}

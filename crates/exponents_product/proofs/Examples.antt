@@ -114,5 +114,5 @@ pub triangle-matched : (Graphs.numberOf (triangle-builds .answer) ≡ accepted) 
 unfolding wholeSymmetricGraph symmetricInputFault finiteFault frameFault symmetricFault symmetricColumns lowerColumn risingColumn Graphs.slicesFit
     Graphs.built Graphs.joined placesTo atMost largest largestFrom normalised wholeLog Match.matchOutcome Match.finished
     Match.matchLengths hungarianMatch graphFault costFault inRange sizeFault pointerFault firstOf generalColumns generalColumn magnitude
-    unitsPerOne ofInt ofBits lt le eq ne add sub neg columnOf sumTo sizeBy productTo
+    unitsPerOne ofInt ofBits lt le eq ne add sub neg sizeBy productTo
 triangle-matched = (refl, refl, refl, refl, refl, refl)

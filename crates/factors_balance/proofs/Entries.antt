@@ -1,7 +1,7 @@
 -- The entries of the cost graph of a symmetric matrix: each is made of a kept place, and each kept place makes one in the column of its column and one
 -- in that of its row, mirrors of each other. So every entry has a mirror.
 use mathlib.Core.Path.{_≡_, refl, sym, ap, _∙_, subst}
-use mathlib.Core.Bool.{true, not}
+use mathlib.Core.Bool.{true}
 use mathlib.Core.List.{List, [], _∷_, _++_}
 use mathlib.Core.Logic.{_⊎_, inl, inr, ⊎-elim}
 use Prim.Native.Nat.{ℕ, zero, suc, _+_, _-_, _<_}
@@ -20,7 +20,7 @@ use Rattle.hungarian.specs.Graph.{CostGraph, costOf, graphOf}
 use Rattle.mc64_columns.specs.Columns.{largest}
 use Rattle.mc64_columns.specs.Graphs.{logsOf, keptBefore, graphPointers, graphRows, graphCosts}
 use Rattle.mc64_columns.proofs.Entries as Columns
-use Rattle.mc64_symmetric.specs.Graph.{placeRow, placeColumn, kept, touches, placesTo, placesOf, otherEnd, mirroredColumns}
+use Rattle.mc64_symmetric.specs.Graph.{kept, touches, placesTo, placesOf, otherEnd, mirroredColumns}
 use Rattle.mc64_symmetric.specs.inner.Steps.{Triangle}
 use Rattle.mc64_symmetric.proofs.Places.{in-row, in-column as own-column}
 use Rattle.mc64_symmetric.proofs.Theorems.{Takes, taken, stands, graph-rises}
@@ -37,31 +37,31 @@ topOf m logs c = largest (logsOf (mirroredColumns m) logs c)
 
 -- ---- the two ends of a place
 module _ (m : Matrix) (p : ℕ) where
-  mirrored : (c : ℕ) → placeRow m p ≡ c → otherEnd m c p ≡ placeColumn m p
-  mirrored c e = rw (eq-eqb (placeRow m p) c e)
+  mirrored : (c : ℕ) → rowOf (m .pattern) p ≡ c → otherEnd m c p ≡ columnOf (m .pattern) p
+  mirrored c e = rw (eq-eqb (rowOf (m .pattern) p) c e)
 
-  stored : (c : ℕ) → (placeRow m p ≡ c → ⊥) → otherEnd m c p ≡ placeRow m p
-  stored c e = rw (ne-eqb (placeRow m p) c e)
+  stored : (c : ℕ) → (rowOf (m .pattern) p ≡ c → ⊥) → otherEnd m c p ≡ rowOf (m .pattern) p
+  stored c e = rw (ne-eqb (rowOf (m .pattern) p) c e)
 
   -- seen from its column
-  pub from-column : otherEnd m (placeColumn m p) p ≡ placeRow m p
-  from-column = go (ℕ-discrete (placeRow m p) (placeColumn m p))
+  pub from-column : otherEnd m (columnOf (m .pattern) p) p ≡ rowOf (m .pattern) p
+  from-column = go (ℕ-discrete (rowOf (m .pattern) p) (columnOf (m .pattern) p))
     where
-      go : Dec (placeRow m p ≡ placeColumn m p) → otherEnd m (placeColumn m p) p ≡ placeRow m p
-      go (yes e) = mirrored (placeColumn m p) e ∙ sym e
-      go (no e) = stored (placeColumn m p) e
+      go : Dec (rowOf (m .pattern) p ≡ columnOf (m .pattern) p) → otherEnd m (columnOf (m .pattern) p) p ≡ rowOf (m .pattern) p
+      go (yes e) = mirrored (columnOf (m .pattern) p) e ∙ sym e
+      go (no e) = stored (columnOf (m .pattern) p) e
 
   -- and from its row
-  pub from-row : otherEnd m (placeRow m p) p ≡ placeColumn m p
-  from-row = mirrored (placeRow m p) refl
+  pub from-row : otherEnd m (rowOf (m .pattern) p) p ≡ columnOf (m .pattern) p
+  from-row = mirrored (rowOf (m .pattern) p) refl
 
   -- the other end takes the place too, and sees this one
   pub other-takes : (c : ℕ) → Takes m c p → Takes m (otherEnd m c p) p × (otherEnd m (otherEnd m c p) p ≡ c)
   other-takes c (inl e) =
-      let q : otherEnd m c p ≡ placeColumn m p = mirrored c e in
+      let q : otherEnd m c p ≡ columnOf (m .pattern) p = mirrored c e in
       (inr (sym q), ap (λ (x : ℕ). otherEnd m x p) q ∙ from-column ∙ e)
   other-takes c (inr e) =
-      let q : otherEnd m c p ≡ placeRow m p = ap (λ (x : ℕ). otherEnd m x p) (sym e) ∙ from-column in
+      let q : otherEnd m c p ≡ rowOf (m .pattern) p = ap (λ (x : ℕ). otherEnd m x p) (sym e) ∙ from-column in
       (inl (sym q), ap (λ (x : ℕ). otherEnd m x p) q ∙ from-row ∙ e)
 
 -- ---- the number of a place in a column
@@ -137,8 +137,8 @@ module _ (m : Matrix) (logs : List Float) (t : Triangle m) where
       )
     where
       inside : c < m .pattern .n
-      inside = ⊎-elim (λ (e : placeRow m p ≡ c). omega (arith, t .columns .inside p (K .stored)))
-          (λ (e : placeColumn m p ≡ c). omega (arith, stands m t p (K .stored) .column)) u
+      inside = ⊎-elim (λ (e : rowOf (m .pattern) p ≡ c). omega (arith, t .columns .inside p (K .stored)))
+          (λ (e : columnOf (m .pattern) p ≡ c). omega (arith, stands m t p (K .stored) .column)) u
 
   -- the mirror of an entry is made of the same place
   pub mirror-made : (e p : ℕ) → MadeOf e (columnOf (graph .pattern) e) p → (l : ℕ) × Mirror (bipartite (graph .pattern)) e l × MadeOf l

@@ -44,7 +44,7 @@ use Rattle.sparse.proofs.Columns.{in-range, simple}
 use Rattle.hungarian.proofs.Optimum.{number-key}
 use Rattle.hungarian.proofs.Theorems.{match-optimal, match-small}
 use Rattle.mc64_columns.specs.Graphs.{Slices, graphLargest}
-use Rattle.mc64_symmetric.specs.Graph.{placeRow, placeColumn, placesOf, otherEnd, mirroredColumns}
+use Rattle.mc64_symmetric.specs.Graph.{placesOf, otherEnd, mirroredColumns}
 use Rattle.mc64_symmetric.specs.Call.{lengthsFit, inputFault}
 use Rattle.mc64_symmetric.specs.inner.Steps.{Triangle}
 use Rattle.mc64_symmetric.proofs.Calling.{ready}
@@ -263,10 +263,10 @@ module _ (m : Matrix) (logs : List Float) (t : Triangle m) (whole : WholeLogs m 
     -- ---- one entry
     module _ (k : ℕ) (K : KeptEntry m k) where
       abbrev row : ℕ
-      row = placeRow m k
+      row = rowOf (m .pattern) k
 
       abbrev column : ℕ
-      column = placeColumn m k
+      column = columnOf (m .pattern) k
 
       own : (e : ℕ) × MadeOf m logs t e column k
       own = makes m logs t column k K (inr refl)

@@ -13,7 +13,8 @@ use lib.ListN.{length, getD}
 use Rattle.float64.specs.Number.{Number, negative, signed, magnitude, IsWhole}
 use Rattle.sparse.specs.Matrix.{Matrix}
 use Rattle.matching.specs.Match.{Match}
-use Rattle.mc64_symmetric.specs.Graph.{placeRow, placeColumn, kept}
+use Rattle.sparse.specs.Pattern.{rowOf, columnOf}
+use Rattle.mc64_symmetric.specs.Graph.{kept}
 use Rattle.factors_mc64.specs.Factors.{argument}
 
 -- the exact number that a finite double stands for, in units of 2 ^ -1074
@@ -36,12 +37,14 @@ pub record NoneHeld (n : ℕ) (c : Match Float) (factors : List Float) : Type 0 
 
 -- stored entry k joins i and j, as (i, j) or as (j, i)
 abbrev pub Joins : Matrix → ℕ → ℕ → ℕ → Type 0
-Joins m k i j = ((placeRow m k ≡ i) × (placeColumn m k ≡ j)) ⊎ ((placeRow m k ≡ j) × (placeColumn m k ≡ i))
+Joins m k i j = ((rowOf (m .pattern) k ≡ i) × (columnOf (m .pattern) k ≡ j)) ⊎
+    ((rowOf (m .pattern) k ≡ j) × (columnOf (m .pattern) k ≡ i))
 
 -- the factors of the entry's row and column plus its log
 abbrev pub balance : Matrix → List Float → List Float → ℕ → ℤ
 balance m logs factors k =
-    (exact (getD factors (placeRow m k) nan) +ℤ exact (getD factors (placeColumn m k) nan)) +ℤ exact (getD logs k nan)
+    (exact (getD factors (rowOf (m .pattern) k) nan) +ℤ exact (getD factors (columnOf (m .pattern) k) nan)) +ℤ exact
+    (getD logs k nan)
 
 pub record Balanced (m : Matrix) (logs : List Float) (perm : List ℕ) (factors : List Float) : Type 0 where
   -- every factor is a finite double, and so is the log of every kept entry

@@ -21,7 +21,6 @@ use Rattle.slices.specs.Lists.{keep}
 use Rattle.slices.proofs.Bools.{both}
 use Rattle.slices.proofs.Lists.{getD-last, last-or}
 use Rattle.cost_limit.specs.Range.{timesBelow, inLogRange}
-use Rattle.sparse.specs.Fault.{unless}
 use Rattle.sparse.proofs.First.{or-zero, unless-holds, all-zero}
 use Rattle.sparse.specs.Matrix.{Matrix}
 use Rattle.matching.specs.Match.{Match}

@@ -1,8 +1,7 @@
 -- The call by the flat rule: what the tests leave is what the steps ask for; a refusal leaves what was lent.
-use mathlib.Core.Path.{_≡_, refl, sym, ap, _∙_}
+use mathlib.Core.Path.{_≡_, refl, ap, _∙_}
 use mathlib.Core.Logic.{_≢_}
 use mathlib.Core.Bool.{Bool, true}
-use mathlib.Core.List.{List}
 use Prim.Native.Nat.{ℕ, _+_, _≤_}
 use native.Mathlib.Omega.{arith}
 use borrow.Author.Tests.{eqb-true}
@@ -20,7 +19,7 @@ use Rattle.mc64_symmetric.specs.Call.{valuesFault, inputFault}
 use Rattle.mc64_symmetric.proofs.Calling.{triangle-of}
 use Rattle.factors_mc64.specs.declared.Scaled.{Scaled}
 use Rattle.factors_mc64.specs.declared.Scaled.the-variants.{Refused}
-use Rattle.factors_mc64.specs.Calls.{Slices, slices, sizes, lengths, matchingFault, logFactorsFault, appliedOrPartial}
+use Rattle.factors_mc64.specs.Calls.{Slices, slices, lengths, matchingFault, logFactorsFault, appliedOrPartial}
 use Rattle.factors_mc64.specs.inner.Steps.{Accepted}
 use Rattle.factors_mc64.proofs.Outcomes as Outcomes
 use Rattle.factors_flat.specs.Flat.{Input, columns, flatFactors}

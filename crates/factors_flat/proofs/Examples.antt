@@ -7,8 +7,10 @@ use Rattle.float64.specs.Constants.{zero as fzero, one, minusInfinity}
 use Rattle.float64.specs.Functions.{clampLog}
 use Rattle.sparse.specs.Matrix.{matrix}
 use Rattle.matching.specs.Match.{Match, matchOf}
+use Rattle.matching.specs.Sum.{sumTo}
+use Rattle.sparse.specs.Pattern.{columnOf}
 use Rattle.mc64_columns.specs.Columns.{largestFrom}
-use Rattle.mc64_symmetric.specs.Graph.{atMost, placesTo}
+use Rattle.mc64_symmetric.specs.Graph.{placesTo}
 use Rattle.factors_mc64.specs.Factors.{doublesOf, isMatchedRow, logFactor}
 use Rattle.factors_flat.specs.Flat.{Input, input, matchedBy, sumsOver, flattened, flatFactors}
 
@@ -30,19 +32,19 @@ abbrev edge : List Float → Input
 edge logs = input lost (matrix 3 (0 ∷ 1 ∷ 2 ∷ 2 ∷ []) (2 ∷ 2 ∷ []) (one ∷ one ∷ [])) logs
 
 flat : flatFactors (edge (fzero ∷ three ∷ [])) ≡ minusZero ∷ fzero ∷ minusThree ∷ []
-unfolding doublesOf matchedBy isMatchedRow logFactor clampLog sumsOver placesTo atMost flattened largestFrom ofBits add sub div neg lt eq
+unfolding doublesOf matchedBy isMatchedRow logFactor clampLog sumsOver placesTo columnOf sumTo flattened largestFrom ofBits add sub div neg lt eq
 flat = refl
 
 -- -0.0 before 0.0, and the other way round
 first-of-equals : flatFactors (edge (minusZero ∷ fzero ∷ [])) ≡ minusZero ∷ fzero ∷ fzero ∷ []
-unfolding doublesOf matchedBy isMatchedRow logFactor clampLog sumsOver placesTo atMost flattened largestFrom ofBits add sub div neg lt eq
+unfolding doublesOf matchedBy isMatchedRow logFactor clampLog sumsOver placesTo columnOf sumTo flattened largestFrom ofBits add sub div neg lt eq
 first-of-equals = refl
 
 other-first : flatFactors (edge (fzero ∷ fzero ∷ [])) ≡ minusZero ∷ fzero ∷ minusZero ∷ []
-unfolding doublesOf matchedBy isMatchedRow logFactor clampLog sumsOver placesTo atMost flattened largestFrom ofBits add sub div neg lt eq
+unfolding doublesOf matchedBy isMatchedRow logFactor clampLog sumsOver placesTo columnOf sumTo flattened largestFrom ofBits add sub div neg lt eq
 other-first = refl
 
 -- no entry to a matched index
 alone : flatFactors (input lost (matrix 3 (0 ∷ 0 ∷ 0 ∷ 1 ∷ []) (2 ∷ []) (one ∷ [])) (three ∷ [])) ≡ minusZero ∷ fzero ∷ fzero ∷ []
-unfolding doublesOf matchedBy isMatchedRow logFactor clampLog sumsOver placesTo atMost flattened largestFrom ofBits add sub div neg lt eq
+unfolding doublesOf matchedBy isMatchedRow logFactor clampLog sumsOver placesTo columnOf sumTo flattened largestFrom ofBits add sub div neg lt eq
 alone = refl

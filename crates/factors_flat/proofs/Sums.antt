@@ -9,15 +9,16 @@ use native.Mathlib.Omega.{arith}
 use borrow.Author.Tests.{eq-eqb, ne-eqb}
 use lib.Dec.{eqb}
 use lib.Ieee.{Float, nan, binary64, add, eq, lt}
-use lib.ListN.{length, getD, set, length-set}
+use lib.ListN.{getD, set, length-set}
 use lib.Seq.{getD-set-same, getD-set-other}
 use Rattle.float64.specs.Constants as Constants
 use Rattle.sparse.specs.Matrix.{Matrix, matrix}
 use Rattle.matching.specs.Match.{Match}
+use Rattle.sparse.specs.Pattern.{rowOf, InColumn}
 use Rattle.mc64_columns.specs.Columns.{largestFrom}
-use Rattle.mc64_symmetric.specs.Graph.{placeRow, placesTo, otherEnd}
+use Rattle.mc64_symmetric.specs.Graph.{placesTo, otherEnd}
 use Rattle.mc64_symmetric.specs.inner.Steps.{Triangle}
-use Rattle.mc64_symmetric.proofs.Places.{In, col-is, row-below, dropped, in-row, in-column, elsewhere}
+use Rattle.mc64_symmetric.proofs.Places.{col-is, row-below, dropped, in-row, in-column, elsewhere}
 use Rattle.factors_mc64.specs.Factors.{factorAt}
 use Rattle.factors_mc64.specs.Calls.{Slices}
 use Rattle.factors_flat.specs.Flat.{Input, input, columns, isMatched, alone, sumAt, sumsOver}
@@ -117,32 +118,32 @@ module _ (c : Match Float) (m : Matrix) (logs : List Float) (t : Triangle m) whe
   entry-dropped k s z h =
       levelled-same (m .pattern .n) c (sumsTo g k) (sumsTo g (k + 1)) s h (λ i l u. ap (sumsOver g i) (ap (placesTo m i) (add-one k) ∙ dropped m i k z))
 
-  module _ {j k : ℕ} (p : In m j k) (z : eq (getD (m .values) k nan) Constants.zero ≡ false) where
-    own-row : otherEnd m j k ≡ placeRow m k
-    own-row = go (ℕ-discrete (placeRow m k) j)
+  module _ {j k : ℕ} (p : InColumn (m .pattern) j k) (z : eq (getD (m .values) k nan) Constants.zero ≡ false) where
+    own-row : otherEnd m j k ≡ rowOf (m .pattern) k
+    own-row = go (ℕ-discrete (rowOf (m .pattern) k) j)
       where
-        go : Dec (placeRow m k ≡ j) → otherEnd m j k ≡ placeRow m k
-        go (yes e) = rw (eq-eqb (placeRow m k) j e) (col-is m t p ∙ sym e)
-        go (no e) = rw (ne-eqb (placeRow m k) j e)
+        go : Dec (rowOf (m .pattern) k ≡ j) → otherEnd m j k ≡ rowOf (m .pattern) k
+        go (yes e) = rw (eq-eqb (rowOf (m .pattern) k) j e) (col-is m t p ∙ sym e)
+        go (no e) = rw (ne-eqb (rowOf (m .pattern) k) j e)
 
-    mirror-row : otherEnd m (placeRow m k) k ≡ j
-    mirror-row = rw (eq-eqb (placeRow m k) (placeRow m k) refl) (col-is m t p)
+    mirror-row : otherEnd m (rowOf (m .pattern) k) k ≡ j
+    mirror-row = rw (eq-eqb (rowOf (m .pattern) k) (rowOf (m .pattern) k) refl) (col-is m t p)
 
     -- the sum that index i gets by the place whose other end is x
     abbrev by : ℕ → List Float
     by x = alone (isMatched (m .pattern .n) c x) (add binary64 (getD logs k nan) (factorAt (m .pattern .n) c x))
 
-    column-more : sumsTo g (k + 1) j ≡ sumsTo g k j ++ by (placeRow m k)
+    column-more : sumsTo g (k + 1) j ≡ sumsTo g k j ++ by (rowOf (m .pattern) k)
     column-more =
         ap (sumsOver g j) (ap (placesTo m j) (add-one k) ∙ in-column m j k z (col-is m t p)) ∙ sums-more g j (placesTo m j k) k
         ∙ ap (λ (x : ℕ). sumsTo g k j ++ by x) own-row
 
-    row-more : sumsTo g (k + 1) (placeRow m k) ≡ sumsTo g k (placeRow m k) ++ by j
+    row-more : sumsTo g (k + 1) (rowOf (m .pattern) k) ≡ sumsTo g k (rowOf (m .pattern) k) ++ by j
     row-more =
-        ap (sumsOver g (placeRow m k)) (ap (placesTo m (placeRow m k)) (add-one k) ∙ in-row m (placeRow m k) k z refl)
-        ∙ sums-more g (placeRow m k) (placesTo m (placeRow m k) k) k ∙ ap (λ (x : ℕ). sumsTo g k (placeRow m k) ++ by x) mirror-row
+        ap (sumsOver g (rowOf (m .pattern) k)) (ap (placesTo m (rowOf (m .pattern) k)) (add-one k) ∙ in-row m (rowOf (m .pattern) k) k z refl)
+        ∙ sums-more g (rowOf (m .pattern) k) (placesTo m (rowOf (m .pattern) k) k) k ∙ ap (λ (x : ℕ). sumsTo g k (rowOf (m .pattern) k) ++ by x) mirror-row
 
-    others : (i : ℕ) → (i ≡ placeRow m k → ⊥) → (i ≡ j → ⊥) → sumsTo g (k + 1) i ≡ sumsTo g k i
+    others : (i : ℕ) → (i ≡ rowOf (m .pattern) k → ⊥) → (i ≡ j → ⊥) → sumsTo g (k + 1) i ≡ sumsTo g k i
     others i a b = ap (sumsOver g i) (ap (placesTo m i) (add-one k) ∙ elsewhere m i k z (λ q. a (sym q)) (λ q. b (sym q ∙ col-is m t p)))
 
     no-more : (i x : ℕ) → isMatched (m .pattern .n) c x ≡ false → sumsTo g k i ++ by x ≡ sumsTo g k i
@@ -153,23 +154,24 @@ module _ (c : Match Float) (m : Matrix) (logs : List Float) (t : Triangle m) whe
     one-more i x e = ap (λ (b : Bool). sumsTo g k i ++ alone b (add binary64 (getD logs k nan) (factorAt (m .pattern .n) c x))) e
 
     -- an end that is matched, or whose other end is not, keeps its sums
-    stays : (i : ℕ) → (i ≡ placeRow m k → isMatched (m .pattern .n) c i ≡ false → isMatched (m .pattern .n) c j ≡ false)
-        → (i ≡ j → isMatched (m .pattern .n) c i ≡ false → isMatched (m .pattern .n) c (placeRow m k) ≡ false)
+    stays : (i : ℕ) → (i ≡ rowOf (m .pattern) k → isMatched (m .pattern .n) c i ≡ false → isMatched (m .pattern .n) c j ≡ false)
+        → (i ≡ j → isMatched (m .pattern .n) c i ≡ false → isMatched (m .pattern .n) c (rowOf (m .pattern) k) ≡ false)
         → isMatched (m .pattern .n) c i ≡ false → sumsTo g (k + 1) i ≡ sumsTo g k i
-    stays i a b u = go (ℕ-discrete i (placeRow m k)) (ℕ-discrete i j)
+    stays i a b u = go (ℕ-discrete i (rowOf (m .pattern) k)) (ℕ-discrete i j)
       where
-        go : Dec (i ≡ placeRow m k) → Dec (i ≡ j) → sumsTo g (k + 1) i ≡ sumsTo g k i
-        go (yes e) d = subst (λ (x : ℕ). sumsTo g (k + 1) x ≡ sumsTo g k x) (sym e) (row-more ∙ no-more (placeRow m k) j (a e u))
-        go (no e) (yes f) = subst (λ (x : ℕ). sumsTo g (k + 1) x ≡ sumsTo g k x) (sym f) (column-more ∙ no-more j (placeRow m k) (b f u))
+        go : Dec (i ≡ rowOf (m .pattern) k) → Dec (i ≡ j) → sumsTo g (k + 1) i ≡ sumsTo g k i
+        go (yes e) d = subst (λ (x : ℕ). sumsTo g (k + 1) x ≡ sumsTo g k x) (sym e) (row-more ∙ no-more (rowOf (m .pattern) k) j (a e u))
+        go (no e) (yes f) = subst (λ (x : ℕ). sumsTo g (k + 1) x ≡ sumsTo g k x) (sym f) (column-more ∙ no-more j (rowOf (m .pattern) k) (b f u))
         go (no e) (no f) = others i e f
 
     pub entry-entered : (s : Slices) → Levelled (m .pattern .n) c (sumsTo g k) s
-        → Levelled (m .pattern .n) c (sumsTo g (k + 1)) (entered (eqb (getD (s .work) (placeRow m k) 0) 1) (eqb (getD (s .work) j 0) 1) (placeRow m k) j
+        → Levelled (m .pattern .n) c (sumsTo g (k + 1)) (entered (eqb (getD (s .work) (rowOf (m .pattern) k) 0) 1) (eqb (getD (s .work) j 0) 1)
+        (rowOf (m .pattern) k) j
         (getD logs k nan) s)
-    entry-entered s h = rw (tells (placeRow m k) row, tells j column)
-        (go (isMatched (m .pattern .n) c (placeRow m k)) refl (isMatched (m .pattern .n) c j) refl)
+    entry-entered s h = rw (tells (rowOf (m .pattern) k) row, tells j column)
+        (go (isMatched (m .pattern .n) c (rowOf (m .pattern) k)) refl (isMatched (m .pattern .n) c j) refl)
       where
-        row : placeRow m k < m .pattern .n
+        row : rowOf (m .pattern) k < m .pattern .n
         row = row-below m t p
 
         column : j < m .pattern .n
@@ -181,19 +183,19 @@ module _ (c : Match Float) (m : Matrix) (logs : List Float) (t : Triangle m) whe
         clash : {A : Type 0} {b : Bool} → b ≡ true → b ≡ false → A
         clash e f = absurd (true≢false (sym e ∙ f))
 
-        go : (x : Bool) → isMatched (m .pattern .n) c (placeRow m k) ≡ x → (y : Bool) → isMatched (m .pattern .n) c j ≡ y
-            → Levelled (m .pattern .n) c (sumsTo g (k + 1)) (entered x y (placeRow m k) j (getD logs k nan) s)
+        go : (x : Bool) → isMatched (m .pattern .n) c (rowOf (m .pattern) k) ≡ x → (y : Bool) → isMatched (m .pattern .n) c j ≡ y
+            → Levelled (m .pattern .n) c (sumsTo g (k + 1)) (entered x y (rowOf (m .pattern) k) j (getD logs k nan) s)
         go true e true f =
             levelled-same (m .pattern .n) c (sumsTo g k) (sumsTo g (k + 1)) s h
             (λ i l. stays i (λ q u. clash (ap (isMatched (m .pattern .n) c) q ∙ e) u) (λ q u. clash (ap (isMatched (m .pattern .n) c) q ∙ f) u))
         go false e false f = levelled-same (m .pattern .n) c (sumsTo g k) (sumsTo g (k + 1)) s h (λ i l. stays i (λ q u. f) (λ q u. e))
         go true e false f =
-            levelled-more (m .pattern .n) c (sumsTo g k) (sumsTo g (k + 1)) s h j (placeRow m k) (getD logs k nan) column row f e
-            (column-more ∙ one-more j (placeRow m k) e)
+            levelled-more (m .pattern .n) c (sumsTo g k) (sumsTo g (k + 1)) s h j (rowOf (m .pattern) k) (getD logs k nan) column row f e
+            (column-more ∙ one-more j (rowOf (m .pattern) k) e)
             (λ i l d. stays i (λ q u. f) (λ q u. absurd (d q)))
         go false e true f =
-            levelled-more (m .pattern .n) c (sumsTo g k) (sumsTo g (k + 1)) s h (placeRow m k) j (getD logs k nan) row column e f
-            (row-more ∙ one-more (placeRow m k) j f)
+            levelled-more (m .pattern .n) c (sumsTo g k) (sumsTo g (k + 1)) s h (rowOf (m .pattern) k) j (getD logs k nan) row column e f
+            (row-more ∙ one-more (rowOf (m .pattern) k) j f)
             (λ i l d. stays i (λ q u. absurd (d q)) (λ q u. e))
 
 -- ---- from place to place, for any match
@@ -208,8 +210,8 @@ module _ {m : Matrix} {logs : List Float} where
       → Enters m logs a (k + 1) s t
   enters-dropped tri {a} {k} {s} {t} z p = record { levels = λ c h. entry-dropped c m logs tri k t z (p .levels c h) }
 
-  pub enters-more : Triangle m → {a j k : ℕ} {s t after : Slices} → In m j k → eq (getD (m .values) k nan) Constants.zero ≡ false
-      → after ≡ entered (eqb (getD (t .work) (placeRow m k) 0) 1) (eqb (getD (t .work) j 0) 1) (placeRow m k) j (getD logs k nan) t
+  pub enters-more : Triangle m → {a j k : ℕ} {s t after : Slices} → InColumn (m .pattern) j k → eq (getD (m .values) k nan) Constants.zero ≡ false
+      → after ≡ entered (eqb (getD (t .work) (rowOf (m .pattern) k) 0) 1) (eqb (getD (t .work) j 0) 1) (rowOf (m .pattern) k) j (getD logs k nan) t
       → Enters m logs a k s t → Enters m logs a (k + 1) s after
   enters-more tri {a} {j} {k} {s} {t} {after} i z e p =
       record {

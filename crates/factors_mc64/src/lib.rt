@@ -88,7 +88,7 @@ pub fn mark_rows(n: usize, perm: &[u32], work: &mut [u32])
 }
 
 // The factor of an index whose row and column are both matched, or not.
-fn log_factor(both: bool, u: f64, v: f64, cmax: f64) -> f64
+pub fn log_factor(both: bool, u: f64, v: f64, cmax: f64) -> f64
     ensures { λ r. ⌜ r ≡ logFactor both u v cmax ⌝ }
 {
     let argument = ((u + v) - cmax) / 2.0;
@@ -182,7 +182,7 @@ pub fn log_factors(
 }
 
 // x held to -709..709, or 0.0 for a NaN.
-fn hold(x: f64) -> f64
+pub fn hold(x: f64) -> f64
     ensures { λ r. ⌜ r ≡ held x ⌝ }
 {
     if x != x {

@@ -37,7 +37,7 @@ size-at true a (negsuc w) l h = omega (arith, zero-mul unitsPerOne)
 size-at false a (pos w) l h = omega (arith, zero-mul unitsPerOne)
 size-at false a (negsuc w) l h = omega (arith, zero-mul unitsPerOne)
 
-whole-size : (x : Float) (z : ℤ) → Whole x z → magnitude x ≡ natAbs z * unitsPerOne
+pub whole-size : (x : Float) (z : ℤ) → Whole x z → magnitude x ≡ natAbs z * unitsPerOne
 unfolding position
 whole-size x z w = size-at (negative x) (magnitude x) z (mag-lt x (number-whole x z w)) (whole-key x z w)
 

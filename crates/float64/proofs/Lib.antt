@@ -9,3 +9,4 @@ pub mod Constants
 pub mod Bits
 pub mod Normalised
 pub mod Half
+pub mod Squares

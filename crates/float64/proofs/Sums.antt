@@ -5,7 +5,7 @@ use mathlib.Core.Path.{_≡_, refl, sym, ap, ap₂, _∙_, subst}
 use mathlib.Core.Logic.{_⊎_, inl, inr}
 use mathlib.Core.Bool.{Bool, true, false, not, _&&_, Bool·beq, cond}
 use Prim.Native.Nat.{ℕ, zero, suc, _+_, _-_, _*_, _/_, _%_, _^_, _≤_, _<_, compare, Ordering, Ordering·lt, Ordering·eq, Ordering·gt}
-use native.Mathlib.Nat.{le-trans, le-of-eq, le-refl, lt-of-le-of-lt, eq-or-lt-of-le, le-of-lt, mul-assoc, mul-comm, one-mul, add-mul, mul-sub}
+use native.Mathlib.Nat.{le-trans, le-of-eq, le-refl, lt-of-le-of-lt, eq-or-lt-of-le, mul-assoc, mul-comm, one-mul, add-mul, mul-sub}
 use native.Mathlib.Nat.{zero-mul, mul-pos, mul-le-mul-right, mul-div-cancel, div-add-mod', mod-lt, suc-mul}
 use native.Mathlib.Omega.{arith}
 use lib.Dec.{T, leb, ltb, eqb, leb→le, ltb→lt, nltb→le, isLe, isEq, nleb→lt, eqb→eq, lit<, lit≤}
@@ -15,10 +15,10 @@ use lib.Ieee.Digits.{size-le}
 use lib.Ieee.Fits.{kept-lt, nearest-le, down-pos, round-fits, round-is, core, neg-fits}
 use lib.Ieee.Exact.{HasValue, units-val, round-exact}
 use lib.Ieee.Nearest.{closest, closest-same}
-use lib.Ieee.Scale.{finite, round-same}
+use lib.Ieee.Scale.{round-same}
 use Rattle.float64.specs.Number.{Number, negative, unitsPerOne, origin, magnitude}
 use Rattle.float64.specs.inner.Keys.{place, position}
-use Rattle.float64.specs.inner.Arithmetic.{Apart, Arithmetic, NearArithmetic}
+use Rattle.float64.specs.inner.Arithmetic.{Apart, NearArithmetic}
 use Rattle.float64.proofs.Scale.{units-pos, mag-lt, mag-of-value, sign-of-value, finite-of-value}
 use Rattle.float64.proofs.Order.{scaled-lt, left-over, right-over}
 

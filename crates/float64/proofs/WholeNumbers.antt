@@ -2,7 +2,7 @@
 -- comparisons are those of the numbers.
 -- An exact sum that is a whole number of at most 53 digits is a double itself, so rounding leaves it.
 use mathlib.Core.Path.{_≡_, refl, sym, ap, ap₂, _∙_, subst}
-use mathlib.Core.Bool.{Bool, true, false, not}
+use mathlib.Core.Bool.{Bool, true, false}
 use Prim.Native.Nat.{ℕ, zero, suc, _+_, _-_, _*_, _/_, _≤_, _<_}
 use native.Mathlib.Nat.{lt-of-le-of-lt, le-of-mul-le-mul-right, mul-le-mul-right, mul-lt-mul-of-pos-right, lt-of-mul-lt-mul-right, mul-right-comm}
 use native.Mathlib.Nat.{mul-one, add-mul, zero-mul, eq-of-mul-eq-mul-right, zero-lt-suc, add-mul-div-right, mul-div-cancel}
@@ -10,7 +10,7 @@ use native.Mathlib.Omega.{arith}
 use lib.Dec.{T, leb, ltb, lit<}
 use lib.IntN.{ℤ, pos, negsuc, negℤ, natAbs, _+ℤ_, _-ℤ_, _*ℤ_}
 use lib.Signed.{ltZ, leZ}
-use lib.Ieee.{Float, nan, inf, fin, binary64, up, down, round, add, sub, neg, lt, le, eq, fits, isNan, ofInt}
+use lib.Ieee.{Float, nan, inf, fin, binary64, up, down, round, add, sub, neg, lt, le, fits, isNan, ofInt}
 use lib.Ieee.Fits.{round-fits}
 use lib.Ieee.Exact.{HasValue}
 use lib.Ieee.Back.{round-whole}
@@ -18,7 +18,7 @@ use lib.Ieee.Scale.{round-same}
 use lib.Ieee.Positive.{num, den, den-pos}
 use Rattle.float64.specs.Number.{Number, Whole, wholeOf, negative, signed, unitsPerOne, origin, magnitude}
 use Rattle.float64.specs.inner.Keys.{Ordered, place, position}
-use Rattle.float64.specs.inner.Arithmetic.{Apart, Arithmetic, WholeArithmetic, wholeLimit}
+use Rattle.float64.specs.inner.Arithmetic.{Apart, WholeArithmetic, wholeLimit}
 use Rattle.float64.specs.Number.{IsWhole}
 use Rattle.slices.proofs.Bools.{same-ltb, same-leb}
 use Rattle.float64.proofs.Integers.{plus, minus, same-integer, sum-parts, neg-parts, less-parts, at-most-parts, multiple-parts}
@@ -262,3 +262,13 @@ whole-arithmetic = record {
   minus = exact-minus;
   minus-near = exact-minus-near;
 }
+
+-- ---- the size of a signed number, and of a multiple
+pub size-signed : (s : Bool) (n : ℕ) → natAbs (signed s n) ≡ n
+size-signed true zero = refl
+size-signed true (suc n) = refl
+size-signed false n = refl
+
+pub size-multiple : (z : ℤ) (d : ℕ) → natAbs (z *ℤ pos d) ≡ natAbs z * d
+size-multiple (pos n) d = refl
+size-multiple (negsuc n) d = size-signed true (suc n * d)

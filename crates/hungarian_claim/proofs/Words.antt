@@ -1,5 +1,5 @@
 -- Laws that every phase uses: one more turn of a counting loop and none left, words of the regions by their place in the slice.
-use mathlib.Core.Path.{_≡_, refl, ap}
+use mathlib.Core.Path.{_≡_, refl}
 use mathlib.Core.Logic.{_⊎_}
 use mathlib.Core.List.{List}
 use Prim.Native.Nat.{ℕ, suc, _+_, _-_, _*_, _≤_, _<_}
@@ -7,7 +7,6 @@ use native.Mathlib.Nat.{le-refl}
 use native.Mathlib.Numerals.{add-one}
 use native.Mathlib.Omega.{arith}
 use lib.ListN.{getD, set}
-use lib.Ieee.{le}
 use Rattle.hungarian.specs.Loop.{steps, each}
 use Rattle.sparse.specs.Pattern.{rowOf, end, entries}
 use Rattle.hungarian.specs.Graph.{CostGraph}

@@ -20,7 +20,6 @@ use Rattle.hungarian.specs.Optimal.{LargestMatch, Optimal}
 use Rattle.hungarian.specs.Work.{Work}
 use Rattle.hungarian.proofs.Theorems.{match-largest, match-optimal, match-work}
 use Rattle.hungarian.specs.declared.Counts.{Counts}
-use Rattle.hungarian_match.specs.declared.Answer.{Answer}
 use Rattle.hungarian_match.specs.declared.Answer.the-variants.{Matched, Refused}
 use Rattle.hungarian_match.specs.Call.{Slices, matchLengths, matchFault, matchOutcome, finished, matchAfter}
 use Rattle.hungarian_match.specs.Call.{Answered, Matches}

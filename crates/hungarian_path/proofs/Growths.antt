@@ -15,7 +15,6 @@ use lib.Ieee.{Float, nan, binary64, add, sub, le}
 use Rattle.limits.specs.Limits.{none}
 use Rattle.float64.specs.Number.{Number, unitsPerOne}
 use Rattle.index_heap.specs.IndexHeap.{rowAt}
-use Rattle.index_heap.specs.inner.Slices.{Keyed}
 use Rattle.hungarian.specs.declared.HungarianStats.{HungarianStats}
 use Rattle.sparse.specs.Pattern.{rowOf, start, end, entries}
 use Rattle.hungarian.specs.Graph.{CostGraph, costOf}

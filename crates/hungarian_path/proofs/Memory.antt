@@ -1,6 +1,6 @@
 -- The heap in memory: stores before it leave its rows, a mark stands for no place, and a heap that is inverse has room for a row that is not in it. A
 -- part of a slice that is lent up to its end, and what comes back.
-use mathlib.Core.Path.{_≡_, refl, sym, ap, _∙_, subst}
+use mathlib.Core.Path.{_≡_, refl, ap, _∙_, subst}
 use mathlib.Core.Logic.{_≢_}
 use mathlib.Core.Bool.{Bool, true, false, cond}
 use mathlib.Core.List.{List, [], _++_, map, append-nil}

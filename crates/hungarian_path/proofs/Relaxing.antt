@@ -16,7 +16,7 @@ use lib.Seq.{getD-set-same, getD-set-other, take-suc-set}
 use lib.Ieee.{Float, nan, eq}
 use Rattle.limits.specs.Limits.{none}
 use Rattle.float64.specs.Constants.{rinf}
-use Rattle.index_heap.specs.IndexHeap.{Heap, rowAt, placeOf, setPlace, update, insert}
+use Rattle.index_heap.specs.IndexHeap.{Heap, placeOf, setPlace, update, insert}
 use Rattle.index_heap.specs.inner.Invariant.{Within, WithRow, SameRows}
 use Rattle.index_heap.specs.inner.Slices.{heapOf, Ready, Keyed, Holds, Updated}
 use Rattle.index_heap.proofs.Keys.{ready, keyed-opens, keyed-enters}
@@ -28,7 +28,7 @@ use Rattle.sparse.specs.Pattern.{rowOf}
 use Rattle.hungarian.specs.Graph.{CostGraph}
 use Rattle.hungarian.specs.inner.Layout.{region, ipermAt}
 use Rattle.hungarian.specs.Search.{Tree, relax}
-use Rattle.hungarian.proofs.Regions.{region-ends, region-length, region-at, region-set, region-other, region-apart, region-front}
+use Rattle.hungarian.proofs.Regions.{region-ends, region-length, region-at, region-set, region-apart, region-front}
 use Rattle.hungarian_path.specs.declared.Frontier.{Frontier}
 use Rattle.hungarian_path.specs.inner.Views.{unmarked, heapIn, treeOf, Kept}
 use Rattle.hungarian_path.specs.inner.Steps.{TouchReady, touchWords, touchPlaces, touchFrontier, RelaxReady, Relaxes}

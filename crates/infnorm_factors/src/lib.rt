@@ -1,7 +1,9 @@
 // The inf-norm factor of one row, iterated and one-pass: the size of an entry, the larger of two sizes, and the new
 // factor that a maximum gives.
-use square_root::Root;
 ghost use mathlib.Core.Path.{_≡_};
+ghost use mathlib.Core.Bool.{true};
+ghost use lib.Ieee.{lt};
+ghost use Rattle.float64.specs.Constants as Constants;
 ghost use Rattle.infnorm_factors.specs.Maxima as Maxima;
 ghost use Rattle.infnorm_factors.specs.Factors as Factors;
 
@@ -19,16 +21,6 @@ pub fn scaled_size(di: f64, value: f64, dj: f64) -> f64
     float64::size_of(di * value * dj)
 }
 
-// The root of a number that has one, from a guess, or from none (0).
-fn root(x: f64, guess: u64) -> f64
-    ensures { λ r. ⌜ r ≡ Factors.root x ⌝ }
-{
-    match square_root::sqrt_near(x, guess) {
-        Root::Is(y) => y,
-        Root::Refused(_) => float64::quiet_nan(),
-    }
-}
-
 // A new factor that is not finite or not positive is not taken.
 fn guarded(new: f64, old: f64) -> f64
     ensures { λ r. ⌜ r ≡ Factors.guarded new old ⌝ }
@@ -37,29 +29,24 @@ fn guarded(new: f64, old: f64) -> f64
     if fine & (new > 0.0) { new } else { old }
 }
 
-// One step d / sqrt(m), as the Rust's function of this name has it: guarded against what is no factor.
-fn kr_guarded_update(d: f64, m: f64) -> f64
-    ensures { λ r. ⌜ r ≡ Factors.krGuardedUpdate d m ⌝ }
-{
-    guarded(d / root(m, 0), d)
-}
-
-// A row of zeros keeps its factor.
-pub fn new_factor(d: f64, m: f64) -> f64
+// One step d / sqrt(m) by the root of m, guarded against what is no factor; a row of zeros keeps its factor.
+pub fn new_factor(d: f64, m: f64, root: f64) -> f64
+    requires { ⌜ (lt Constants.zero m ≡ true → root ≡ Factors.root m) ⌝ }
     ensures { λ r. ⌜ r ≡ Factors.newFactor d m ⌝ }
 {
     if m > 0.0 {
-        return kr_guarded_update(d, m);
+        return guarded(d / root, d);
     }
     d
 }
 
-// The one-pass factor 1 / sqrt(m); a row of zeros has 1.0.
-pub fn inv_sqrt_scale_guarded(m: f64, guess: u64) -> f64
+// The one-pass factor 1 / sqrt(m) by the root of m; a row of zeros has 1.0.
+pub fn inv_sqrt_scale_guarded(m: f64, root: f64) -> f64
+    requires { ⌜ (lt Constants.zero m ≡ true → root ≡ Factors.root m) ⌝ }
     ensures { λ r. ⌜ r ≡ Factors.invSqrtScaleGuarded m ⌝ }
 {
     if m > 0.0 {
-        return guarded(1.0 / root(m, guess), 1.0);
+        return guarded(1.0 / root, 1.0);
     }
     1.0
 }

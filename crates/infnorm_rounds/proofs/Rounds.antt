@@ -1,5 +1,5 @@
 -- One round and the rounds: what a loop over the rows leaves is the definition's list, and the rounds from here on are all rounds.
-use mathlib.Core.Path.{_≡_, refl, sym, ap, _∙_}
+use mathlib.Core.Path.{_≡_, refl, sym, ap, _∙_, subst}
 use mathlib.Core.Bool.{true, false, cond}
 use mathlib.Core.List.{List, [], _∷_}
 use Prim.Native.Nat.{ℕ, zero, suc, _+_, _-_, _≤_, _<_}
@@ -7,11 +7,14 @@ use native.Mathlib.Nat.{not-suc-le-zero}
 use native.Mathlib.Numerals.{add-one}
 use native.Mathlib.Omega.{arith}
 use lib.Ieee.{Float, nan, lt}
-use lib.ListN.{length, getD, drop, drop-of-length-le}
+use lib.ListN.{length, getD, set, drop, drop-of-length-le}
 use lib.Seq.{drop-cons}
 use Rattle.float64.specs.Constants as Constants
 use Rattle.sparse.specs.Matrix.{Matrix}
-use Rattle.infnorm_factors.specs.Factors.{Round, roundIs, roundFrom, deviating, deviatingAll, zipped, rounds}
+use Rattle.infnorm_factors.specs.Factors.{Round, roundIs, roundFrom, newFactor, deviating, deviatingAll, zipped, rounds}
+use Rattle.slices.specs.inner.Steps.{Front}
+use Rattle.slices.proofs.Fronts.{front-reads, front-next}
+use Rattle.infnorm_rounds.specs.inner.Blocks.{Updated}
 
 -- ---- f of the numbers of two lists of one length
 pub length-zipped : (f : Float → Float → Float) (l r : List Float) → length l ≡ length r → length (zipped f l r) ≡ length l
@@ -37,6 +40,23 @@ module _ {whole : Float} (largest : Float) (maxima : List Float) (i : ℕ) (e : 
   pub deviation-end : length maxima ≤ i → largest ≡ whole
   unfolding deviatingAll
   deviation-end h = sym (e ∙ ap (deviatingAll largest) (drop-of-length-le maxima h))
+
+-- ---- one row more
+pub updated-next : {work f g : List Float} {l k x more : Float} {from i : ℕ} → Updated work f l from g k i → length g ≡ length work → i < length work
+    → x ≡ newFactor (getD g i nan) (getD work i nan) → more ≡ deviating k (getD work i nan) → Updated work f l from (set g i x) more (i + 1)
+updated-next {work} {f} {g} {l} {k} {x} {more} {from} {i} s e h a b = record { come = λ before u. go before (s .come before u); left = deviation-next k work i (s .left) h b }
+  where
+    go : (before : List Float) → Front (zipped newFactor before work) before g i → Front (zipped newFactor before work) before (set g i x) (i + 1)
+    go before v =
+        let n : length before ≡ length work = sym (v .same) ∙ e in
+        front-next v (omega arith)
+        (a ∙ ap (λ (d : Float). newFactor d (getD work i nan)) (front-reads v) ∙ sym (getD-zipped newFactor before work i n (omega arith)))
+
+pub updated-to : {work f g : List Float} {l k : Float} {from i to : ℕ} → Updated work f l from g k i → i ≡ to → Updated work f l from g k to
+updated-to {work} {f} {g} {l} {k} {from} s e = subst (Updated work f l from g k) e s
+
+pub not-yet : {work f : List Float} {l : Float} {from : ℕ} → Updated work f l from f l from
+not-yet = record { come = λ before u. u; left = refl }
 
 -- ---- the rounds
 module _ (m : Matrix) where

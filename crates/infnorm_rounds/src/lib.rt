@@ -1,13 +1,49 @@
 // The rounds of the iterated inf-norm factors.
 ghost use mathlib.Core.Path.{_≡_};
+ghost use Prim.Native.Nat.{_+_, _≤_};
 ghost use lib.ListN.{length};
+ghost use Rattle.root_blocks.specs.inner.Blocks.{Roots};
 ghost use Rattle.sparse.specs.Matrix.{matrix};
 ghost use Rattle.infnorm_factors.specs.Factors as Factors;
 ghost use Rattle.infnorm_maxima.specs.inner.Steps.{Accepted};
+ghost use Rattle.infnorm_rounds.specs.inner.Blocks.{Updated};
 
 const INFNORM_MAX_ITER: usize = 10;
 
 const INFNORM_TOL: f64 = 1e-8;
+
+// New factors of a block from the maxima and their roots; the largest deviation from 1 so far.
+fn update_block(factors: &mut [f64], work: &[f64], from: usize, roots: &[f64], so_far: f64) -> f64
+    requires { ⌜ (length (now factors) ≡ length (now work)) × (from + 16 ≤ length (now work)) ⌝ }
+    requires { ⌜ (length (now roots) ≡ 16) × Roots (now work) from (now roots) 16 ⌝ }
+    ensures { λ r.
+        ⌜ Updated (now (work .entry)) (now (factors .entry)) «so_far» from (now (factors .exit)) r (from + 16) ⌝ }
+{
+    let mut largest = so_far;
+    for i in 0..root_blocks::BLOCK {
+        let at = from + i;
+        let m = work[at];
+        factors[at] = infnorm_factors::new_factor(factors[at], m, roots[i]);
+        largest = infnorm_factors::deviating(largest, m);
+    }
+    largest
+}
+
+// The same of the rows after the last block.
+fn update_rest(factors: &mut [f64], work: &[f64], from: usize, so_far: f64) -> f64
+    requires { ⌜ (length (now factors) ≡ length (now work)) × (from ≤ length (now work)) ⌝ }
+    ensures { λ r.
+        ⌜ Updated (now (work .entry)) (now (factors .entry)) «so_far» from (now (factors .exit)) r
+        (length (now (work .entry))) ⌝ }
+{
+    let mut largest = so_far;
+    for i in from..factors.len() {
+        let m = work[i];
+        factors[i] = infnorm_factors::new_factor(factors[i], m, root_blocks::root(m));
+        largest = infnorm_factors::deviating(largest, m);
+    }
+    largest
+}
 
 // New factors from the maxima; their largest deviation from 1.
 fn update_factors(factors: &mut [f64], work: &[f64]) -> f64
@@ -16,13 +52,15 @@ fn update_factors(factors: &mut [f64], work: &[f64]) -> f64
         ⌜ Factors.roundIs (now (factors .exit)) r
         ≡ Factors.roundWith (now (factors .entry)) (now (work .entry)) ⌝ }
 {
+    let mut roots = [0.0; root_blocks::BLOCK];
     let mut largest = 0.0;
-    for i in 0..factors.len() {
-        let m = work[i];
-        factors[i] = infnorm_factors::new_factor(factors[i], m);
-        largest = infnorm_factors::deviating(largest, m);
+    let mut from = 0;
+    while factors.len() - from >= root_blocks::BLOCK {
+        root_blocks::roots_of(work, from, &mut roots);
+        largest = update_block(factors, work, from, &roots, largest);
+        from += root_blocks::BLOCK;
     }
-    largest
+    update_rest(factors, work, from, largest)
 }
 
 // One round: its largest deviation.

@@ -23,6 +23,7 @@ use Rattle.float64.proofs.Bits.{spaced}
 use Rattle.float64.proofs.Sums.{near-arithmetic, number-neg, key-neg}
 use Rattle.float64.proofs.Integers.{plus, minus, neg-parts, sum-parts}
 use Rattle.float64.proofs.WholeNumbers.{key-whole, whole-key, whole-of, whole-add, whole-le, number-whole, ordered, whole-arithmetic}
+use Rattle.float64.proofs.Half.{whole-size}
 use Rattle.match_check.specs.Check.{isWhole, smallWhole}
 use Rattle.match_check.specs.Call.{FitDual}
 
@@ -44,24 +45,13 @@ whole-is x f h =
           (units-place (negative x) (magnitude x) (magnitude x / unitsPerOne) m (mag-lt x n)),
     )
 
-place-units : (s : Bool) (a : ℕ) (z : ℤ) → a < origin → place s a + minus z * unitsPerOne ≡ origin + plus z * unitsPerOne → a ≡ natAbs z * unitsPerOne
-unfolding place
-place-units true a (pos n) h e = omega (arith, zero-mul unitsPerOne)
-place-units true a (negsuc n) h e = omega (arith, zero-mul unitsPerOne)
-place-units false a (pos n) h e = omega (arith, zero-mul unitsPerOne)
-place-units false a (negsuc n) h e = omega (arith, zero-mul unitsPerOne)
-
-whole-mag : (x : Float) (z : ℤ) → Whole x z → magnitude x ≡ natAbs z * unitsPerOne
-unfolding position
-whole-mag x z w = place-units (negative x) (magnitude x) z (mag-lt x (number-whole x z w)) (whole-key x z w)
-
 pub is-whole : (x : Float) → IsWhole x → isWhole x ≡ true
 unfolding isWhole
 is-whole x w = rw (is-true (finite x) (w .1 .isFinite))
-    (eq-eqb (magnitude x % unitsPerOne) 0 (ap (λ (a : ℕ). a % unitsPerOne) (whole-mag x (w .0) (w .1)) ∙ mul-mod-left (natAbs (w .0)) unitsPerOne))
+    (eq-eqb (magnitude x % unitsPerOne) 0 (ap (λ (a : ℕ). a % unitsPerOne) (whole-size x (w .0) (w .1)) ∙ mul-mod-left (natAbs (w .0)) unitsPerOne))
 
 pub number-size : (x : Float) → IsWhole x → magnitude x ≡ natAbs (wholeOf x) * unitsPerOne
-number-size x w = whole-mag x (w .0) (w .1) ∙ ap (λ (z : ℤ). natAbs z * unitsPerOne) (sym (whole-of x (w .0) (w .1)))
+number-size x w = whole-size x (w .0) (w .1) ∙ ap (λ (z : ℤ). natAbs z * unitsPerOne) (sym (whole-of x (w .0) (w .1)))
 
 -- ---- the test of a dual says what it should
 pub fit-dual : (x : Float) → T (fits binary64 x) → smallWhole x ≡ true → FitDual x

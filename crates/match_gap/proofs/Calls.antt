@@ -1,19 +1,17 @@
 -- The call: what it has tested is what the sum asks for, and what it answers keeps the contract's clauses.
 use mathlib.Core.Path.{_≡_, refl, sym, ap, _∙_, subst}
 use mathlib.Core.Logic.{_≢_}
-use mathlib.Core.Bool.{Bool, true}
+use mathlib.Core.Bool.{true}
 use mathlib.Core.List.{List, [], _∷_}
-use Prim.Native.Nat.{ℕ, zero, suc, _+_, _-_, _*_, _^_, _≤_, _<_}
+use Prim.Native.Nat.{ℕ, zero, suc, _-_, _^_, _<_}
 use native.Mathlib.Omega.{arith}
 use lib.Dec.{T}
 use lib.Pow.{pow-pos}
-use lib.ListN.{length, getD}
-use lib.Ieee.{Float, nan, binary64, fits}
-use Rattle.refusal.specs.Refusal.{accepted}
+use lib.Ieee.{binary64, fits}
 use Rattle.refusal.specs.Listed.{listed, OneOf, gapNumbers}
 use Rattle.slices.specs.Outcome.{Outcome, outcomeIs, refusing}
 use Rattle.slices.proofs.Refusing.{refused-is}
-use Rattle.float64.specs.Number.{Number, unitsPerOne, magnitude}
+use Rattle.float64.specs.Number.{Number, unitsPerOne}
 use Rattle.cost_limit.specs.Range.{costLimit}
 use Rattle.hungarian.specs.Graph.{CostGraph, costOf}
 use Rattle.hungarian.specs.Accepted.{Doubles}
@@ -25,7 +23,7 @@ use Rattle.match_check.specs.declared.Verdict.the-variants as Verdict
 use Rattle.match_check.proofs.Certificate.{Doubled}
 use Rattle.match_check.proofs.Pairing.{complete}
 use Rattle.match_check.proofs.Calling.{ready, fit, graph-accepted, promises}
-use Rattle.match_gap.specs.Rounding.{zeroStep, step}
+use Rattle.match_gap.specs.Rounding.{step}
 use Rattle.match_gap.specs.Gap.{gapOf, gapFault}
 use Rattle.match_gap.specs.Call.{numberOf, gapOutcome, NearLeast, Near, NoGap, Promises}
 use Rattle.match_gap.specs.inner.Scans.{AllIn, Measurable}

@@ -5,17 +5,16 @@ use mathlib.Core.Bool.{Bool, true, false, cond}
 use Prim.Native.Nat.{ℕ, zero, suc, _+_, _-_, _*_, _^_, _≤_, _<_}
 use native.Mathlib.Nat.{add-mul, mul-assoc, mul-zero, zero-mul, one-mul, mul-div-cancel, div-eq-of-lt-le, mul-le-mul-right, le-of-mul-le-mul-right}
 use native.Mathlib.Omega.{arith}
-use borrow.Author.Tests.{leb-true, eq-eqb, eqb-true}
+use borrow.Author.Tests.{leb-true, eqb-true}
 use lib.Dec.{T, eqb}
 use lib.Pow.{pow-add, pow-pos}
-use lib.IntN.{ℤ, pos, negsuc, natAbs, _+ℤ_}
-use lib.Signed.{leZ, _≤ℤ_, ≤ℤ-refl}
+use lib.IntN.{ℤ, natAbs, _+ℤ_}
+use lib.Signed.{leZ}
 use lib.Ieee.{Float}
 use lib.Ieee.Bits.{is-true}
 use lib.Ieee.Fits.{eq→eqb}
 use Rattle.float64.specs.Number.{wholeOf, negative, signed, unitsPerOne, magnitude, IsWhole}
 use Rattle.float64.proofs.Integers.{plus, minus, sum-parts, at-most-parts}
-use Rattle.matching.specs.Sum.{sumTo}
 use Rattle.matching.specs.Pairing.{pairedEntries}
 use Rattle.matching.proofs.Sums.{sum-same, sum-const}
 use Rattle.cost_limit.specs.Range.{costLimit}

@@ -15,10 +15,10 @@ use Rattle.refusal.specs.Refusal.{indexRange, costRange, incompleteMatching, in
 use Rattle.refusal.specs.Listed.{listed, graphNumbers, gapNumbers}
 use Rattle.slices.proofs.Bools.{both}
 use Rattle.float64.specs.Number.{magnitude}
-use Rattle.sparse.specs.Fault.{unless, orElse}
+use Rattle.sparse.specs.Fault.{unless}
 use Rattle.sparse.specs.Validate.{sizeFault}
 use Rattle.sparse.proofs.Accepted.{sizes-accepted}
-use Rattle.sparse.proofs.First.{or-zero, unless-holds, answer-first, answer-second}
+use Rattle.sparse.proofs.First.{or-zero, unless-holds, answer-first}
 use Rattle.sparse.proofs.Listed.{Listed, test, or-listed, within, part}
 use Rattle.sparse.specs.Pattern.{Pattern}
 use Rattle.hungarian.specs.Graph.{CostGraph}
@@ -29,7 +29,7 @@ use Rattle.match_check.proofs.Every.{every-first}
 use Rattle.match_check.proofs.Calling.{fitting}
 use Rattle.match_gap.specs.Rounding.{zeroStep, step, inSteps}
 use Rattle.match_gap.specs.Gap.{maxDigits, allInSteps, gapLengths, pairsFault, gapFault}
-use Rattle.match_gap.specs.inner.Scans.{InSteps, AllIn}
+use Rattle.match_gap.specs.inner.Scans.{AllIn}
 
 -- ---- 30 and 31
 module _ (s : ℕ) (g : Pattern) (c : Claim) {pairing : Bool} (p : pairing ≡ pairingFits g (c .perm)) where

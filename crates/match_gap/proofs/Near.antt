@@ -1,19 +1,16 @@
 -- What an accepted call says: in each column the duals exceed the costs by at most its excess, and the pair's lack at most its lack, so that
 -- `exchange` bounds the total, in exact units.
-use mathlib.Core.Path.{_≡_, refl, sym, ap, _∙_, subst}
-use mathlib.Core.Bool.{Bool, true, false, cond}
-use Prim.Native.Nat.{ℕ, _+_, _-_, _*_, _^_, _≤_, _<_}
+use mathlib.Core.Path.{_≡_, refl, sym, ap, _∙_}
+use mathlib.Core.Bool.{Bool, true}
+use Prim.Native.Nat.{ℕ, _+_, _-_, _*_, _≤_, _<_}
 use native.Mathlib.Nat.{add-mul, mul-le-mul-right}
 use native.Mathlib.Omega.{arith}
 use borrow.Author.Tests.{eq-eqb}
 use lib.Dec.{T, eqb, eqb→eq}
-use lib.ListN.{getD}
-use lib.Ieee.{Float, nan}
-use Rattle.float64.specs.Number.{Number, unitsPerOne, origin, magnitude}
-use Rattle.float64.specs.inner.Keys.{position}
+use Rattle.float64.specs.Number.{Number, unitsPerOne, magnitude}
 use Rattle.cost_limit.specs.Range.{costLimit}
 use Rattle.matching.specs.Sum.{sumTo}
-use Rattle.matching.specs.Matching.{Complete, total}
+use Rattle.matching.specs.Matching.{Complete}
 use Rattle.matching.specs.Pairing.{pairedEntries}
 use Rattle.matching.proofs.Sums.{sum-add, sum-times}
 use Rattle.matching.proofs.Exchange.{exchange}
@@ -24,7 +21,7 @@ use Rattle.sparse.proofs.Columns.{in-column, in-range, row-below}
 use Rattle.match_check.specs.Check.{Claim, rowFor, rowDual, columnDual}
 use Rattle.match_check.specs.Call.{pairs}
 use Rattle.match_gap.specs.Rounding.{zeroStep, lower, upper}
-use Rattle.match_gap.specs.Gap.{excessAt, lackAt, mostOf, columnExcess, columnLack, gapOf}
+use Rattle.match_gap.specs.Gap.{excessAt, lackAt, columnExcess, columnLack, gapOf}
 use Rattle.match_gap.specs.Call.{unitsOf}
 use Rattle.match_gap.proofs.Places.{unitsAt, lower-below, upper-above, not-below}
 use Rattle.match_gap.proofs.Most.{most-span}

@@ -1,5 +1,5 @@
 -- The scan of a column, entry by entry: both are the largest of those before k. Start, step and end.
-use mathlib.Core.Path.{_≡_, refl, sym, ap, ap₂, _∙_, subst}
+use mathlib.Core.Path.{_≡_, sym, ap, _∙_, subst}
 use mathlib.Core.Bool.{cond}
 use mathlib.Core.List.{List}
 use Prim.Native.Nat.{ℕ, _+_, _-_, _*_, _^_, _≤_, _<_}
@@ -10,9 +10,7 @@ use lib.Ieee.{Float, nan}
 use Rattle.hungarian.specs.Counts.{larger}
 use Rattle.hungarian.proofs.Tree.{larger-most}
 use Rattle.match_gap.specs.Rounding.{zeroStep, lower, upper}
-use Rattle.match_gap.specs.Gap.{mostOf}
-use Rattle.match_gap.specs.inner.Scans.{InSteps, AllIn, Scannable, Scanned}
-use Rattle.match_gap.specs.declared.Column.{Column}
+use Rattle.match_gap.specs.inner.Scans.{InSteps, Scannable, Scanned}
 use Rattle.match_gap.proofs.Most.{Most, most-begins, most-goes-on, most-ends}
 
 abbrev excessIn : ℕ → List ℕ → List Float → List Float → Float → ℕ → ℕ

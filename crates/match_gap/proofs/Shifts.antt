@@ -1,6 +1,6 @@
 -- Sizes in steps of 2 ^ unit units, from a double's digits: a size is its digits times a power of two, dividing both by that power changes nothing,
 -- and digits below 2 ^ 60 reach no step that is 2 ^ 60 of them or more.
-use mathlib.Core.Path.{_≡_, refl, sym, ap, ap₂, _∙_, subst}
+use mathlib.Core.Path.{_≡_, refl, sym, ap, ap₂, _∙_}
 use mathlib.Core.Logic.{_⊎_, inl, inr}
 use Prim.Native.Nat.{ℕ, zero, suc, _+_, _-_, _*_, _/_, _%_, _^_, _≤_, _<_}
 use native.Mathlib.Nat.{mul-one, one-mul, mul-comm, mul-assoc, add-mul, div-eq-of-lt, div-eq-of-lt-le, div-mul-le-self, lt-div-mul-add}

@@ -27,7 +27,6 @@ use Rattle.sparse.proofs.Accepted.{sizes-accepted, pointers-accepted, general-c
 use Rattle.sparse.proofs.First.{or-zero, unless-holds, answer-first, answer-second}
 use Rattle.sparse.proofs.Listed.{Listed, test, or-listed, within, part}
 use Rattle.sparse.proofs.Theorems.{sizeNumbers, pointerNumbers, columnNumbers, sizes-listed, pointers-listed, general-columns-listed}
-use Rattle.matching.specs.Matching.{Largest}
 use Rattle.matching.specs.Pairing.{pairedEntries}
 use Rattle.float64.specs.Number.{Number, unitsPerOne}
 use Rattle.cost_limit.specs.Range.{costLimit}
@@ -43,8 +42,8 @@ use Rattle.hungarian_match.specs.declared.Answer.the-variants as Answer
 use Rattle.hungarian_match.proofs.Calls.{accepted-lengths}
 use Rattle.match_check.specs.inner.Steps.{AcceptedPattern}
 use Rattle.match_largest.specs.Marks.{rowAt, isFree, mark, pairsFit, isMet, markedColumns, markedRows, isLargest, patternFault, pairingFault}
-use Rattle.match_largest.specs.Call.{numberOf, Slices, slices, largestLengths, largestFault, pairCount, marksOf, largestOutcome, pairs}
-use Rattle.match_largest.specs.Call.{IsLargestOf, Room, Exactly, Shown, Shows, Ours, OursAccepted}
+use Rattle.match_largest.specs.Call.{numberOf, Slices, slices, largestLengths, largestFault, pairCount, marksOf, largestOutcome, pairs, Promises}
+use Rattle.match_largest.specs.Call.{IsLargestOf, Room, Exactly, Shown, Ours, OursAccepted}
 use Rattle.match_largest.specs.inner.Sweeps.{Searched}
 use Rattle.match_largest.specs.declared.Verdict.{Verdict}
 use Rattle.match_largest.specs.declared.Verdict.the-variants.{Accepted, Refused}
@@ -215,13 +214,9 @@ largest-listed g perm s =
 
 -- ---- the clauses, of any answer
 module _ (g : Pattern) (perm : List ℕ) (s : Slices) where
-  abbrev Follows : ℕ → Slices → Type 0
-  Follows number after = OneOf largestNumbers number × (Exactly g perm s number × (Shows g perm number after × OursAccepted g perm s number))
-
-  pub all-promised : {r : Verdict} {after : Slices} → outcomeIs r after ≡ largestOutcome g perm s → (outcomeIs r after ≡ largestOutcome g perm s)
-      × Follows (numberOf r) after
+  pub all-promised : {r : Verdict} {after : Slices} → outcomeIs r after ≡ largestOutcome g perm s → Promises g perm s r after
   unfolding largestOutcome
-  all-promised {r} {after} o = (o, go (largestFault g perm s) refl o)
+  all-promised {r} {after} o = go (largestFault g perm s) refl o
     where
       exactly : {number : ℕ} → number ≡ largestFault g perm s → Exactly g perm s number
       exactly e = (λ z. is-largest g perm s (passed g perm s (sym e ∙ z)), λ l. e ∙ largest-passes g perm s (l .0) (l .1))
@@ -232,17 +227,29 @@ module _ (g : Pattern) (perm : List ℕ) (s : Slices) where
       numbered : {number : ℕ} → number ≡ largestFault g perm s → OneOf largestNumbers number
       numbered e = subst (OneOf largestNumbers) (sym e) (largest-listed g perm s .is)
 
-      go : (f : ℕ) → largestFault g perm s ≡ f → outcomeIs r after ≡ refusing Refused f (outcomeIs Accepted (marksOf g perm)) s → Follows (numberOf r) after
+      go : (f : ℕ) → largestFault g perm s ≡ f → outcomeIs r after ≡ refusing Refused f (outcomeIs Accepted (marksOf g perm)) s → Promises g perm s r after
       go zero z e =
           let a : r ≡ Accepted = ap (λ (x : Outcome Verdict Slices). x .answer) e in
           let l : after ≡ marksOf g perm = ap (λ (x : Outcome Verdict Slices). x .after) e in
           let n : numberOf r ≡ largestFault g perm s = ap numberOf a ∙ sym z in
           let p = passed g perm s z in
-          (numbered n, (exactly n, (λ m. subst (Shown g perm) (sym l) (shown g perm (p .shape .columns) (good g perm s p) (p .rows)), ours n)))
+          record {
+            outcome = o;
+            number = numbered n;
+            exactly = exactly n;
+            shows = λ m. subst (Shown g perm) (sym l) (shown g perm (p .shape .columns) (good g perm s p) (p .rows));
+            ours = ours n;
+          }
       go (suc f) z e =
           let a : r ≡ Refused (suc f) = ap (λ (x : Outcome Verdict Slices). x .answer) e in
           let n : numberOf r ≡ largestFault g perm s = ap numberOf a ∙ sym z in
-          (numbered n, (exactly n, (λ m. let q : ⊥ = omega (arith, m, n, z) in absurd q, ours n)))
+          record {
+            outcome = o;
+            number = numbered n;
+            exactly = exactly n;
+            shows = λ m. let q : ⊥ = omega (arith, m, n, z) in absurd q;
+            ours = ours n;
+          }
 
 -- ---- the answers
 refused-by : (g : Pattern) (perm : List ℕ) (s : Slices) {fault : ℕ} → fault ≢ 0 → fault ≡ largestFault g perm s

@@ -1,6 +1,6 @@
 -- The definition on small patterns, by computing: two columns that share their only row, a path of three columns, and no columns at all.
 use mathlib.Core.Path.{_≡_, refl}
-use mathlib.Core.List.{List, [], _∷_}
+use mathlib.Core.List.{[], _∷_}
 use Rattle.limits.specs.Limits.{none}
 use Rattle.slices.specs.Lists.{tabulate}
 use Rattle.slices.specs.Outcome.{outcomeIs}

@@ -1,5 +1,5 @@
--- What `check_largest` answers and leaves, and what a caller may rely on: exactly the largest matchings are accepted,
--- and the marks show why no matching has more pairs.
+-- SPECIFICATION 5.18: What `check_largest` answers and leaves, and what a caller may rely on: exactly the largest
+-- matchings are accepted, and the marks show why no matching has more pairs.
 use mathlib.Core.Path.{_≡_}
 use mathlib.Core.Logic.{_↔_, _≢_}
 use mathlib.Core.Bool.{Bool, _&&_}
@@ -21,6 +21,7 @@ use Rattle.hungarian.specs.Graph.{withCosts}
 use Rattle.hungarian.specs.Accepted.{Doubles}
 use Rattle.hungarian.specs.Optimal.{IsEntry}
 use Rattle.hungarian_match.specs.Call.{Slices as MatchSlices, matchOutcome, numberOf as matchNumber}
+use Rattle.refusal.specs.Listed.{OneOf, largestNumbers}
 use Rattle.match_largest.specs.Marks.{rowAt, markedColumns, markedRows, patternFault, pairingFault}
 use Rattle.match_largest.specs.declared.Verdict.{Verdict}
 use Rattle.match_largest.specs.declared.Verdict.the-variants.{Accepted, Refused}
@@ -152,3 +153,16 @@ pub record Ours (g : Pattern) (perm : List ℕ) : Type 0 where
 
 abbrev pub OursAccepted : Pattern → List ℕ → Slices → ℕ → Type 0
 OursAccepted g perm s number = Ours g perm → Room g s → number ≡ accepted
+
+-- ---- all that `check_largest` promises, of the pattern, perm, the slices lent, its answer r and the slices left
+pub record Promises (g : Pattern) (perm : List ℕ) (before : Slices) (r : Verdict) (after : Slices) : Type 0 where
+  -- the answer and the slices left are the definition's
+  pub outcome : outcomeIs r after ≡ largestOutcome g perm before
+  -- the number is one of the call's list
+  pub number : OneOf largestNumbers (numberOf r)
+  -- 0 exactly for the largest matchings
+  pub exactly : Exactly g perm before (numberOf r)
+  -- the marks show why no matching has more pairs
+  pub shows : Shows g perm (numberOf r) after
+  -- our own matches are accepted
+  pub ours : OursAccepted g perm before (numberOf r)

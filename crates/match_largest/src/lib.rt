@@ -9,16 +9,13 @@ ghost use Prim.Native.Nat.{ℕ, _+_, _^_, _≤_, _<_};
 ghost use lib.Dec.{eqb, ltb};
 ghost use lib.ListN.{length, getD, replicate};
 ghost use Rattle.limits.specs.Limits.{none, maxColumns};
-ghost use Rattle.refusal.specs.Listed.{OneOf, largestNumbers};
 ghost use Rattle.slices.specs.Lists.{tabulate};
-ghost use Rattle.slices.specs.Outcome.{outcomeIs};
 ghost use Rattle.matching.specs.Pairing.{matchedCount};
 ghost use Rattle.match_check.specs.Check.{everyOf};
 ghost use Rattle.match_check.specs.inner.Steps.{AcceptedPattern};
 ghost use Rattle.sparse.specs.Pattern.{pattern};
 ghost use Rattle.match_largest.specs.Marks.{rowAt, pairFits, pairsFit, patternFault, pairingFault};
-ghost use Rattle.match_largest.specs.Call.{numberOf, slices, largestLengths, largestOutcome};
-ghost use Rattle.match_largest.specs.Call.{Exactly, Shows, OursAccepted};
+ghost use Rattle.match_largest.specs.Call.{slices, largestLengths, Promises};
 ghost use Rattle.match_largest.specs.inner.Sweeps.{Entered, Queued, Sweeping, Swept, Searched};
 
 // What `check_largest` answers: the pairing is a largest matching, or why it refuses.
@@ -303,24 +300,11 @@ pub fn check_largest(
     rows: &mut [u32],
     matched: &mut [u32],
 ) -> Verdict
-    ensures outcome { λ r.
+    ensures { λ r.
         let g = pattern n (now («col_ptr» .entry)) (now («row_idx» .entry)) in
         let before = slices (now (columns .entry)) (now (rows .entry)) (now (matched .entry)) in
         let after = slices (now (columns .exit)) (now (rows .exit)) (now (matched .exit)) in
-        ⌜ outcomeIs r after ≡ largestOutcome g (now (perm .entry)) before ⌝ }
-    ensures number { λ r. ⌜ OneOf largestNumbers (numberOf r) ⌝ }
-    ensures exactly { λ r.
-        let g = pattern n (now («col_ptr» .entry)) (now («row_idx» .entry)) in
-        let before = slices (now (columns .entry)) (now (rows .entry)) (now (matched .entry)) in
-        ⌜ Exactly g (now (perm .entry)) before (numberOf r) ⌝ }
-    ensures shows { λ r.
-        let g = pattern n (now («col_ptr» .entry)) (now («row_idx» .entry)) in
-        let after = slices (now (columns .exit)) (now (rows .exit)) (now (matched .exit)) in
-        ⌜ Shows g (now (perm .entry)) (numberOf r) after ⌝ }
-    ensures ours { λ r.
-        let g = pattern n (now («col_ptr» .entry)) (now («row_idx» .entry)) in
-        let before = slices (now (columns .entry)) (now (rows .entry)) (now (matched .entry)) in
-        ⌜ OursAccepted g (now (perm .entry)) before (numberOf r) ⌝ }
+        ⌜ Promises g (now (perm .entry)) before r after ⌝ }
 {
     let size = n as usize;
     let lengths = lengths_fit(size, col_ptr, perm, columns, rows, matched);

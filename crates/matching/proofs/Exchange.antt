@@ -1,6 +1,6 @@
 -- Of any graph: where duals exceed the costs by at most e in each column, and lack at most l on the entries of a complete matching, its total is at
 -- most that of any other complete matching with the sums of both added. Duals add up to the same over both.
-use mathlib.Core.Path.{_≡_, refl}
+use mathlib.Core.Path.{refl}
 use mathlib.Core.Bool.{Bool}
 use Prim.Native.Nat.{ℕ, _+_, _≤_, _<_}
 use native.Mathlib.Omega.{arith}

@@ -1,6 +1,6 @@
 -- A pairing is a matching with an entry for each column that holds one, and largest if a closed set of columns has every free column: the theorems of
 -- Matchings.antt, for what an algorithm keeps.
-use mathlib.Core.Path.{_≡_, refl, sym, ap, _∙_}
+use mathlib.Core.Path.{_≡_, sym, ap, _∙_}
 use mathlib.Core.Logic.{_≢_, _⊎_, inl, inr}
 use mathlib.Core.Bool.{Bool, true, false, not, _||_}
 use Prim.Native.Nat.{ℕ, _≤_, _<_}

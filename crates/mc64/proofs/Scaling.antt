@@ -13,7 +13,6 @@ use Rattle.limits.specs.Limits.{none}
 use Rattle.matching.specs.Match.{matchOf}
 use Rattle.hungarian.specs.Graph.{CostGraph}
 use Rattle.hungarian.specs.Accepted.{Accepted, Doubles}
-use Rattle.hungarian.specs.Match.{hungarianMatch}
 use Rattle.hungarian.proofs.Accepts.{near-setting}
 use Rattle.hungarian.proofs.Theorems.{match-largest}
 use Rattle.hungarian.specs.declared.Counts.{Counts}

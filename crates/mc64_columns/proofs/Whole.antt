@@ -1,6 +1,6 @@
 -- Logs that are made of values, read at a place. Columns of whole logs have whole costs: the largest log of a column is one of them, and a
 -- difference of whole numbers of at most 2 ^ 52 is exact.
-use mathlib.Core.Path.{_≡_, refl, sym, ap}
+use mathlib.Core.Path.{_≡_, refl, sym}
 use mathlib.Core.Bool.{Bool, true, false, cond}
 use mathlib.Core.List.{List, [], _∷_}
 use Prim.Native.Nat.{ℕ, zero, suc, _+_, _≤_, _<_, _^_}

@@ -8,7 +8,7 @@ use lib.Ieee.{Float, nan}
 use lib.ListN.{length, getD, take, drop, set, length-map, drop-of-length-le}
 use lib.Seq.{drop-at, drop-drop, take-at}
 use Rattle.sparse.specs.Columns.{Pointers}
-use Rattle.mc64_columns.specs.Columns.{largest, normalised}
+use Rattle.mc64_columns.specs.Columns.{normalised}
 use Rattle.sparse.specs.Matrix.{Matrix}
 use Rattle.mc64_columns.specs.Graphs.{joined, rowsOf, logsOf, keptBefore, graphRows, graphCosts}
 use Rattle.mc64_columns.proofs.Graphs.{one-more, kept-next, costs-length}

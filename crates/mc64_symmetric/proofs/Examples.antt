@@ -10,8 +10,10 @@ use Rattle.float64.specs.Number.{magnitude, unitsPerOne as unitsPerOne}
 use Rattle.cost_limit.specs.Range.{inLogRange}
 use Rattle.mc64_columns.specs.Columns.{largest, largestFrom, normalised}
 use Rattle.sparse.specs.Matrix.{Matrix, matrix}
+use Rattle.matching.specs.Sum.{sumTo}
+use Rattle.sparse.specs.Pattern.{columnOf}
 use Rattle.mc64_columns.specs.Graphs.{joined, graphPointers, graphRows, graphCosts, graphLargest}
-use Rattle.mc64_symmetric.specs.Graph.{atMost, placesTo, mirroredColumns}
+use Rattle.mc64_symmetric.specs.Graph.{placesTo, mirroredColumns}
 use Rattle.mc64_symmetric.specs.Call.{valuesFault}
 
 abbrev one : Float
@@ -41,19 +43,19 @@ abbrev logs : List Float
 logs = one ∷ five ∷ nan ∷ two ∷ []
 
 pointers : graphPointers (mirroredColumns small) 3 ≡ 0 ∷ 2 ∷ 2 ∷ 4 ∷ []
-unfolding joined placesTo atMost ofBits eq
+unfolding joined placesTo columnOf sumTo ofBits eq
 pointers = refl
 
 rows : graphRows (mirroredColumns small) 3 ≡ 0 ∷ 2 ∷ 0 ∷ 2 ∷ []
-unfolding joined placesTo atMost ofBits eq
+unfolding joined placesTo columnOf sumTo ofBits eq
 rows = refl
 
 costs : graphCosts (mirroredColumns small) logs 3 ≡ four ∷ Constants.zero ∷ Constants.zero ∷ three ∷ []
-unfolding joined placesTo atMost ofBits eq normalised largest largestFrom lt sub add neg sum round units odd climb size span
+unfolding joined placesTo columnOf sumTo ofBits eq normalised largest largestFrom lt sub add neg sum round units odd climb size span
 costs = refl
 
 tops : graphLargest (mirroredColumns small) logs 3 ≡ five ∷ Constants.minusInfinity ∷ five ∷ []
-unfolding joined placesTo atMost ofBits eq largest largestFrom lt
+unfolding joined placesTo columnOf sumTo ofBits eq largest largestFrom lt
 tops = refl
 
 -- the first of equal logs: 0.0 before -0.0, and the other way round

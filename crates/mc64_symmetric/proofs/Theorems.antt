@@ -6,8 +6,8 @@ use mathlib.Core.Path.{_≡_, refl, sym, ap, _∙_, subst, fun-ext}
 use mathlib.Core.Bool.{Bool, true, false, not, cond, _||_, false≢true}
 use mathlib.Core.List.{List}
 use mathlib.Core.Logic.{_⊎_, inl, inr, ⊎-elim}
-use Prim.Native.Nat.{ℕ, zero, suc, _+_, _-_, _≤_, _<_}
-use native.Mathlib.Nat.{le-refl, not-suc-le-zero}
+use Prim.Native.Nat.{ℕ, zero, suc, _-_, _≤_, _<_}
+use native.Mathlib.Nat.{not-suc-le-zero}
 use native.Mathlib.Decide.{ℕ-discrete, decLt}
 use native.Mathlib.Omega.{arith}
 use borrow.Author.Tests.{eqb-true, eq-eqb, ne-eqb}
@@ -17,12 +17,11 @@ use lib.Ieee.Scale.{finite}
 use lib.ListN.{length, getD, length-map}
 use Rattle.limits.specs.Limits.{maxSymmetric}
 use Rattle.float64.specs.Constants as Constants
-use Rattle.sparse.specs.Columns.{Pointers, Columns}
+use Rattle.sparse.specs.Columns.{Columns}
 use Rattle.sparse.specs.Validate.{generalFault, symmetricFault, sizeFault}
 use Rattle.sparse.specs.Fault.{unless, orElse, firstOf}
 use Rattle.sparse.proofs.First.{or-zero, all-zero, unless-holds}
 use Rattle.slices.proofs.Bools.{both}
-use Rattle.sparse.proofs.Accepted.{column-of}
 use Rattle.sparse.proofs.Listed.{Listed, test, or-listed, first-listed, within, part}
 use Rattle.sparse.proofs.Theorems.{sizeNumbers, sizes-listed, symmetric-listed}
 use Rattle.refusal.specs.Refusal.{costRange, valueNotFinite}
@@ -32,64 +31,54 @@ use Rattle.hungarian.specs.Accepted.{Accepted}
 use Rattle.hungarian.specs.Graph.{graphOf}
 use Rattle.cost_limit.specs.Range.{inLogRange}
 use Rattle.sparse.specs.Matrix.{Matrix, matrix}
+use Rattle.sparse.specs.Pattern.{rowOf, columnOf, InColumn}
+use Rattle.sparse.proofs.Columns.{pointers-rise, in-column, rows-apart}
 use Rattle.mc64_columns.specs.Graphs.{Slices, slicesFit, numberOf, AnswersBy, outcome, rowsOf, logsAt, keptBefore, graphPointers, graphRows, graphCosts}
 use Rattle.mc64_columns.specs.declared.Built.{Built}
 use Rattle.mc64_columns.proofs.Kept.{keep-all, keep-rises, keep-alike}
 use Rattle.mc64_columns.proofs.Graphs.{row-at, columns-rise, columns-accepted, columns-match}
 use Rattle.mc64_columns.proofs.Calls.{in-list, outcome-listed, outcome-alike}
-use Rattle.mc64_symmetric.specs.Graph.{placeRow, placeColumn, kept, touches, placesTo, placesOf, otherEnd, mirroredColumns}
+use Rattle.mc64_symmetric.specs.Graph.{kept, touches, placesTo, placesOf, otherEnd, mirroredColumns}
 use Rattle.mc64_symmetric.specs.Call.{lengthsFit, valueFault, placeFault, valuesFault, inputFault, costGraphFault, costGraph, Promises}
 use Rattle.mc64_columns.proofs.Agree.{Agree, agree-at}
 use Rattle.mc64_symmetric.specs.inner.Steps.{Triangle}
-use Rattle.mc64_symmetric.proofs.Places.{In, pointers-up, col-is, row-lower, pointer-few}
+use Rattle.mc64_symmetric.proofs.Places.{row-lower, pointer-few}
 use Rattle.mc64_symmetric.proofs.Building.{pointer-entries}
 use Rattle.mc64_symmetric.proofs.Calling.{ready}
 
 -- ---- stored places
 module _ (m : Matrix) (t : Triangle m) where
   -- every place stands in its column
-  pub stands : (k : ℕ) → k < length (m .pattern .rowIdx) → In m (placeColumn m k) k
-  stands k h =
-      let f = column-of (t .columns .pointers) k (m .pattern .n) (le-refl (m .pattern .n)) (rw (t .columns .pointers .last) h) in
-      let i : In m (f .0) k = record { column = f .1; from = f .2; to = f .3 } in
-      subst (λ (j : ℕ). In m j k) (sym (col-is m t i)) i
+  pub stands : (k : ℕ) → k < length (m .pattern .rowIdx) → InColumn (m .pattern) (columnOf (m .pattern) k) k
+  stands k h = in-column (m .pattern) (t .columns) k h
 
   -- later places do not stand in earlier columns
-  columns-climb : {a b p q : ℕ} → In m a p → In m b q → p < q → a ≤ b
+  columns-climb : {a b p q : ℕ} → InColumn (m .pattern) a p → InColumn (m .pattern) b q → p < q → a ≤ b
   columns-climb {a} {b} i j l = go (decLt b a)
     where
       go : Dec (b < a) → a ≤ b
-      go (yes h) = let u = pointers-up m t (suc b) a h (omega (arith, i .column)) in let z : ⊥ = omega (arith, u, i .from, j .to) in absurd z
+      go (yes h) =
+          let u = pointers-rise (m .pattern) (t .columns) (suc b) a h (omega (arith, i .column)) in
+          let z : ⊥ = omega (arith, u, i .above, j .below) in
+          absurd z
       go (no h) = omega arith
 
   -- and in one column they have higher rows
-  rows-climb : (j p d : ℕ) → In m j p → In m j (p + suc d) → placeRow m p < placeRow m (p + suc d)
-  rows-climb j p zero i k =
-      let e : p + 1 ≡ suc p = omega arith in
-      rw e (t .columns .rising j p (i .column) (i .from) (omega (arith, k .to)))
-  rows-climb j p (suc d) i k =
-      let e : p + suc (suc d) ≡ suc (p + suc d) = omega arith in
-      let last : In m j (p + suc d) = record { column = i .column; from = omega (arith, i .from); to = omega (arith, k .to) } in
-      rw e
-      (omega
-      (arith, rows-climb j p d i last, t .columns .rising j (p + suc d) (i .column) (last .from) (omega (arith, k .to))))
-
-  higher-row : {j p q : ℕ} → In m j p → In m j q → p < q → placeRow m p < placeRow m q
-  higher-row {j} {p} {q} i k l =
-      let e : p + suc (q - suc p) ≡ q = omega arith in
-      subst (λ (x : ℕ). placeRow m p < placeRow m x) e (rows-climb j p (q - suc p) i (subst (λ (x : ℕ). In m j x) (sym e) k))
+  higher-row : {j p q : ℕ} → InColumn (m .pattern) j p → InColumn (m .pattern) j q → p < q → rowOf (m .pattern) p < rowOf (m .pattern) q
+  higher-row {j} {p} {q} i k l = rows-apart (m .pattern) (t .columns) j p q i k l
 
 -- ---- the places of one column
 -- it takes the place from its row or from its column
 abbrev pub Takes : Matrix → ℕ → ℕ → Type 0
-Takes m c k = (placeRow m k ≡ c) ⊎ (placeColumn m k ≡ c)
+Takes m c k = (rowOf (m .pattern) k ≡ c) ⊎ (columnOf (m .pattern) k ≡ c)
 
 takes : (m : Matrix) (c k : ℕ) → touches m c k ≡ true → Takes m c k
-takes m c k e = go (eqb (placeRow m k) c) refl (both (kept m k) _ e .1)
+takes m c k e = go (eqb (rowOf (m .pattern) k) c) refl (both (kept m k) _ e .1)
   where
-    go : (b : Bool) → eqb (placeRow m k) c ≡ b → (b || eqb (placeColumn m k) c) ≡ true → (placeRow m k ≡ c) ⊎ (placeColumn m k ≡ c)
-    go true q h = inl (eqb-true (placeRow m k) c q)
-    go false q h = inr (eqb-true (placeColumn m k) c h)
+    go : (b : Bool) → eqb (rowOf (m .pattern) k) c ≡ b → (b || eqb (columnOf (m .pattern) k) c) ≡ true
+        → (rowOf (m .pattern) k ≡ c) ⊎ (columnOf (m .pattern) k ≡ c)
+    go true q h = inl (eqb-true (rowOf (m .pattern) k) c q)
+    go false q h = inr (eqb-true (columnOf (m .pattern) k) c h)
 
 module _ (m : Matrix) (c : ℕ) where
   pub taken : (k i : ℕ) → i < length (placesTo m c k) → (getD (placesTo m c k) i 0 < k) × Takes m c (getD (placesTo m c k) i 0)
@@ -114,43 +103,43 @@ strict {x} {y} h n = go (ℕ-discrete x y)
     go (no e) = omega arith
 
 module _ (m : Matrix) (t : Triangle m) (c : ℕ) where
-  mirrored : (p : ℕ) → placeRow m p ≡ c → otherEnd m c p ≡ placeColumn m p
-  mirrored p e = rw (eq-eqb (placeRow m p) c e)
+  mirrored : (p : ℕ) → rowOf (m .pattern) p ≡ c → otherEnd m c p ≡ columnOf (m .pattern) p
+  mirrored p e = rw (eq-eqb (rowOf (m .pattern) p) c e)
 
-  stored : (p : ℕ) → (placeRow m p ≡ c → ⊥) → otherEnd m c p ≡ placeRow m p
-  stored p e = rw (ne-eqb (placeRow m p) c e)
+  stored : (p : ℕ) → (rowOf (m .pattern) p ≡ c → ⊥) → otherEnd m c p ≡ rowOf (m .pattern) p
+  stored p e = rw (ne-eqb (rowOf (m .pattern) p) c e)
 
   -- a later place has a higher row
   higher : (p q : ℕ) → p < q → q < length (m .pattern .rowIdx) → Takes m c p → Takes m c q → otherEnd m c p < otherEnd m c q
-  higher p q l h a b = go (ℕ-discrete (placeRow m p) c) (ℕ-discrete (placeRow m q) c)
+  higher p q l h a b = go (ℕ-discrete (rowOf (m .pattern) p) c) (ℕ-discrete (rowOf (m .pattern) q) c)
     where
-      i : In m (placeColumn m p) p
+      i : InColumn (m .pattern) (columnOf (m .pattern) p) p
       i = stands m t p (omega arith)
 
-      j : In m (placeColumn m q) q
+      j : InColumn (m .pattern) (columnOf (m .pattern) q) q
       j = stands m t q h
 
-      climb : placeColumn m p ≤ placeColumn m q
+      climb : columnOf (m .pattern) p ≤ columnOf (m .pattern) q
       climb = columns-climb m t i j l
 
-      together : placeColumn m p ≡ placeColumn m q → placeRow m p < placeRow m q
-      together e = higher-row m t i (subst (λ (x : ℕ). In m x q) (sym e) j) l
+      together : columnOf (m .pattern) p ≡ columnOf (m .pattern) q → rowOf (m .pattern) p < rowOf (m .pattern) q
+      together e = higher-row m t i (subst (λ (x : ℕ). InColumn (m .pattern) x q) (sym e) j) l
 
-      own : (k : ℕ) → (placeRow m k ≡ c) ⊎ (placeColumn m k ≡ c) → (placeRow m k ≡ c → ⊥) → placeColumn m k ≡ c
+      own : (k : ℕ) → (rowOf (m .pattern) k ≡ c) ⊎ (columnOf (m .pattern) k ≡ c) → (rowOf (m .pattern) k ≡ c → ⊥) → columnOf (m .pattern) k ≡ c
       own k x n = ⊎-elim (λ e. absurd (n e)) (λ e. e) x
 
-      apart : placeRow m p ≡ c → placeRow m q ≡ c → placeColumn m p ≡ placeColumn m q → ⊥
+      apart : rowOf (m .pattern) p ≡ c → rowOf (m .pattern) q ≡ c → columnOf (m .pattern) p ≡ columnOf (m .pattern) q → ⊥
       apart e f s = omega (arith, together s)
 
-      below : placeRow m p ≡ c → placeColumn m p ≤ c
+      below : rowOf (m .pattern) p ≡ c → columnOf (m .pattern) p ≤ c
       below e = omega (arith, row-lower m t i)
 
-      crossed : (placeRow m p ≡ c → ⊥) → placeRow m q ≡ c → placeColumn m p ≡ c → ⊥
+      crossed : (rowOf (m .pattern) p ≡ c → ⊥) → rowOf (m .pattern) q ≡ c → columnOf (m .pattern) p ≡ c → ⊥
       crossed e f s =
-          let v : placeColumn m p ≡ placeColumn m q = omega (arith, row-lower m t j, climb) in
+          let v : columnOf (m .pattern) p ≡ columnOf (m .pattern) q = omega (arith, row-lower m t j, climb) in
           omega (arith, together v, row-lower m t i)
 
-      go : Dec (placeRow m p ≡ c) → Dec (placeRow m q ≡ c) → otherEnd m c p < otherEnd m c q
+      go : Dec (rowOf (m .pattern) p ≡ c) → Dec (rowOf (m .pattern) q ≡ c) → otherEnd m c p < otherEnd m c q
       go (yes e) (yes f) = rw (mirrored p e, mirrored q f) (strict climb (apart e f))
       go (yes e) (no f) = rw (mirrored p e, stored q f) (let s = own q b f in let r = strict (row-lower m t j) (λ z. f (sym z ∙ s)) in omega (arith, below e))
       go (no e) (yes f) = absurd (crossed e f (own p a e))
@@ -166,7 +155,7 @@ module _ (m : Matrix) (t : Triangle m) where
       let b = taken m c (length (m .pattern .rowIdx)) i u .0 in
       let r = t .columns .inside k b in
       let s = stands m t k b .column in
-      rw (row-at (mirroredColumns m) c i u) (go (eqb (placeRow m k) c) r s)
+      rw (row-at (mirroredColumns m) c i u) (go (eqb (rowOf (m .pattern) k) c) r s)
     where
       go : {x y : ℕ} (b : Bool) → x < m .pattern .n → y < m .pattern .n → cond b y x < m .pattern .n
       go true h k = k

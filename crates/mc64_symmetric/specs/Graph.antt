@@ -1,28 +1,17 @@
 -- SPECIFICATION 6.1: The cost graph of a symmetric matrix whose lower triangle is stored by columns: which places each
 -- of its columns has, and the row of each.
 use mathlib.Core.Bool.{Bool, not, cond, _&&_, _||_}
-use mathlib.Core.List.{List, [], _∷_, _++_}
-use Prim.Native.Nat.{ℕ, zero, suc, _+_}
-use lib.Dec.{leb, eqb}
+use mathlib.Core.List.{List, [], _++_}
+use Prim.Native.Nat.{ℕ, zero, suc}
+use lib.Dec.{eqb}
 use lib.Ieee.{nan, eq}
-use lib.ListN.{length, getD, drop}
+use lib.ListN.{getD}
 use Rattle.float64.specs.Constants as Constants
 use Rattle.slices.specs.Lists.{keep}
 use Rattle.mc64_columns.specs.Columns.{largest}
+use Rattle.sparse.specs.Pattern.{rowOf, columnOf, entries}
 use Rattle.sparse.specs.Matrix.{Matrix}
 use Rattle.mc64_columns.specs.Graphs.{GraphColumns}
-
--- how many of the numbers are at most k
-unfoldable pub atMost : List ℕ → ℕ → ℕ
-atMost [] k = 0
-atMost (p ∷ l) k = cond (leb p k) 1 0 + atMost l k
-
--- the row of a place, and its column: as many columns end at or before it
-abbrev pub placeRow : Matrix → ℕ → ℕ
-placeRow m k = getD (m .pattern .rowIdx) k 0
-
-abbrev pub placeColumn : Matrix → ℕ → ℕ
-placeColumn m k = atMost (drop 1 (m .pattern .colPtr)) k
 
 -- ---- one column of the graph
 -- a place whose value is not zero is kept
@@ -31,7 +20,7 @@ kept m k = not (eq (getD (m .values) k nan) Constants.zero)
 
 -- column c has the kept places of row c and of column c
 abbrev pub touches : Matrix → ℕ → ℕ → Bool
-touches m c k = kept m k && (eqb (placeRow m k) c || eqb (placeColumn m k) c)
+touches m c k = kept m k && (eqb (rowOf (m .pattern) k) c || eqb (columnOf (m .pattern) k) c)
 
 -- those among the first k, in stored order
 unfoldable pub placesTo : Matrix → ℕ → ℕ → List ℕ
@@ -40,11 +29,11 @@ placesTo m c (suc k) = placesTo m c k ++ keep (touches m c k) k
 
 -- all of them
 abbrev pub placesOf : Matrix → ℕ → List ℕ
-placesOf m c = placesTo m c (length (m .pattern .rowIdx))
+placesOf m c = placesTo m c (entries (m .pattern))
 
 -- a place of row c is mirrored: there its column is the row
 abbrev pub otherEnd : Matrix → ℕ → ℕ → ℕ
-otherEnd m c k = cond (eqb (placeRow m k) c) (placeColumn m k) (placeRow m k)
+otherEnd m c k = cond (eqb (rowOf (m .pattern) k) c) (columnOf (m .pattern) k) (rowOf (m .pattern) k)
 
 -- the columns of the graph: an empty one has minus infinity as its largest log
 abbrev pub mirroredColumns : Matrix → GraphColumns

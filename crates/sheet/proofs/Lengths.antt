@@ -1,6 +1,6 @@
 -- How long parts, records and files are: a record has the length that its map says, and a patch takes at most 29 bytes. By the lengths of
 -- appended lists, and by induction on the patches.
-use mathlib.Core.Path.{_≡_, sym, ap, _∙_}
+use mathlib.Core.Path.{_≡_, sym, _∙_}
 use mathlib.Core.List.{List}
 use Prim.Native.Nat.{ℕ, zero, suc, _+_, _*_, _≤_, _<_}
 use native.Mathlib.Nat.{mul-zero, mul-one}
@@ -10,7 +10,7 @@ use Rattle.limits.specs.Limits.{none}
 use Rattle.matching.specs.Match.{Match}
 use Rattle.byte_numbers.proofs.Words.{bytes-length}
 use Rattle.sheet.specs.declared.Record.{Record}
-use Rattle.sheet.specs.Format.{rowBit, uBit, vBit, cmaxBit, recordSize, part, recordBytes, stands, bitsOf, recordFor, unlessEmpty, patchBytes}
+use Rattle.sheet.specs.Format.{rowBit, uBit, vBit, cmaxBit, recordSize, part, recordBytes, bitsOf, recordFor, unlessEmpty, patchBytes}
 use Rattle.sheet.specs.Format.{recordsTo, sheetBytes}
 use Rattle.sheet.proofs.Fields.{stands-bit}
 

@@ -1,7 +1,7 @@
 -- What was read from a file that is taken can be written: its rows and the bits of its numbers are in range. So an old sheet that is read and written
 -- again is canonical. By induction on the records.
 use mathlib.Core.Path.{_≡_, refl, sym, ap, _∙_, subst}
-use mathlib.Core.Bool.{Bool, true}
+use mathlib.Core.Bool.{true}
 use mathlib.Core.List.{List, [], _∷_}
 use Prim.Native.Nat.{ℕ, zero, suc, _^_, _≤_, _<_}
 use native.Mathlib.Nat.{not-suc-le-zero}
@@ -14,7 +14,6 @@ use lib.Seq.{getD-set-same, getD-set-other}
 use Rattle.limits.specs.Limits.{none}
 use Rattle.slices.proofs.Bools.{both}
 use Rattle.refusal.specs.Refusal.{sheetCut, sheetIndex}
-use Rattle.sparse.specs.Fault.{unless}
 use Rattle.sparse.proofs.First.{or-zero, unless-holds}
 use Rattle.matching.specs.Match.{Match}
 use Rattle.byte_numbers.specs.Bytes.{numberAt}

@@ -9,12 +9,10 @@ use native.Mathlib.Nat.{add-zero, zero-add, add-suc, suc-add}
 use native.Mathlib.Decide.{ℕ-discrete}
 use native.Mathlib.Omega.{arith}
 use borrow.Author.Tests.{ne-eqb, le-leb, lt-ltb, ltb-true}
-use lib.Dec.{eqb, ltb, leb}
 use lib.ListN.{length, getD, set, take, drop, replicate, length-append}
 use lib.Seq.{take-suc, take-all, set-at, length-take-le, getD-set-other}
 use Rattle.limits.specs.Limits.{none}
 use Rattle.slices.proofs.Lists.{zeros}
-use Rattle.sparse.specs.Fault.{unless}
 use Rattle.matching.specs.Match.{Match, matchOf}
 use Rattle.byte_numbers.specs.Bytes.{bytesOf}
 use Rattle.byte_numbers.proofs.ReadBack.{number-back}

@@ -10,7 +10,7 @@ use native.Mathlib.Omega.{arith}
 use borrow.Author.Tests.{leb-true, eqb-true}
 use lib.Dec.{leb, eqb}
 use lib.ListN.{length, getD, take, drop}
-use lib.Seq.{sets, sets-eq, take-at}
+use lib.Seq.{sets-eq, take-at}
 use Rattle.limits.specs.Limits.{maxColumns}
 use Rattle.refusal.specs.Listed.{OneOf, writeSheetNumbers}
 use Rattle.refusal.specs.Refusal.{matchingRange, tooManyColumns}

@@ -2,12 +2,12 @@
 -- `take` and `drop`.
 use mathlib.Core.Path.{_≡_, refl, sym, ap, _∙_}
 use mathlib.Core.List.{List}
-use Prim.Native.Nat.{ℕ, zero, suc, _+_, _≤_, _<_}
+use Prim.Native.Nat.{ℕ, suc, _+_, _≤_, _<_}
 use native.Mathlib.Nat.{add-zero}
 use native.Mathlib.Numerals.{add-one}
 use native.Mathlib.Omega.{arith}
 use lib.Ieee.{Float, nan}
-use lib.ListN.{length, getD, set, take, drop, length-set}
+use lib.ListN.{length, getD, set, drop, length-set}
 use lib.Seq.{take-all, take-suc, take-suc-set, drop-set-lt, drop-drop, getD-drop}
 use Rattle.slices.specs.inner.Steps.{Front}
 

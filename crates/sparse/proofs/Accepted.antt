@@ -1,6 +1,6 @@
 -- What the answer 0 means: `validate` answers it exactly for matrices within the limits, with the right lengths, whose pointers and rows
 -- are in order. From the laws of the first fault, test by test; each place lies in the column whose pointers enclose it.
-use mathlib.Core.Path.{_≡_, refl, _∙_, subst}
+use mathlib.Core.Path.{_≡_, _∙_, subst}
 use mathlib.Core.Bool.{Bool, true, false, _||_, true≢false}
 use mathlib.Core.List.{List}
 use mathlib.Core.Logic.{_↔_}

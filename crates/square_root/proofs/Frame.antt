@@ -12,10 +12,11 @@ use lib.Ieee.Fits.{odd-fits, inf-fits}
 use lib.Ieee.Exact.{HasValue, units-val}
 use lib.Ieee.Bits.{ofBits-toBits}
 use Rattle.float64.specs.Number.{Number, negative, magnitude, unitsPerOne}
+use Rattle.float64.proofs.Squares.{root-lt}
 use Rattle.square_root.specs.Root.{square, wholeRoot, rootOf}
 use Rattle.float64.specs.inner.Digits.{Scaling}
 use Rattle.square_root.specs.inner.Steps.{WholeRoot}
-use Rattle.square_root.proofs.Whole.{root-lt, root-unique, root-found}
+use Rattle.square_root.proofs.Whole.{root-unique, root-found}
 use Rattle.float64.proofs.Scale.{mag-of-value, sign-of-value, finite-of-value}
 use Rattle.float64.proofs.Bits.{pattern, bits-are}
 use Rattle.float64.proofs.Normalised.{size-is}

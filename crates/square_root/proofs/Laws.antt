@@ -14,10 +14,11 @@ use lib.Ieee.{Float, nan, inf, fin, binary64, fits, ofBits, toBits}
 use lib.Ieee.Bits.{ofBits-toBits}
 use Rattle.refusal.specs.Listed.{listed, OneOf, rootNumbers}
 use Rattle.float64.specs.Number.{Number, negative, magnitude}
+use Rattle.float64.proofs.Squares.{square-lt}
 use Rattle.square_root.specs.Root.{numberOf, rootFault, square, Nearest, Answer, rootOf, sqrtOf}
 use Rattle.square_root.specs.declared.Root.{Root}
 use Rattle.square_root.specs.declared.Root.the-variants.{Is}
-use Rattle.square_root.proofs.Whole.{square-lt, over-half, under-half}
+use Rattle.square_root.proofs.Whole.{over-half, under-half}
 use Rattle.float64.proofs.Bits.{same-double, some-bits, bits-in, spaced}
 use Rattle.float64.proofs.Normalised.{scaling}
 use Rattle.square_root.proofs.Frame.{scaled-square, Rounded, rounded}

@@ -6,11 +6,12 @@ use mathlib.Core.Path.{_≡_, sym, ap, _∙_, subst}
 use mathlib.Core.Bool.{Bool, true, false, not, cond}
 use mathlib.Core.Logic.{_⊎_, inl, inr, _≢_}
 use Prim.Native.Nat.{ℕ, zero, suc, _+_, _-_, _*_, _/_, _%_, _^_, _≤_, _<_, zero-le}
-use native.Mathlib.Nat.{eq-or-lt-of-le, lt-of-le-of-lt, lt-of-lt-of-le, lt-of-not-le, not-le-of-lt, add-assoc, mul-add, add-mul, mul-comm, mul-assoc}
-use native.Mathlib.Nat.{mul-right-comm, mul-mul-mul-comm, mul-le-mul, mul-le-mul-left, mul-lt-mul-of-pos-right, le-of-mul-le-mul-right, div-add-mod'}
-use native.Mathlib.Nat.{mod-lt, pow-suc, le-of-lt, le-refl}
+use native.Mathlib.Nat.{eq-or-lt-of-le, lt-of-le-of-lt, lt-of-lt-of-le, add-assoc, mul-add, add-mul, mul-comm, mul-assoc}
+use native.Mathlib.Nat.{mul-right-comm, mul-mul-mul-comm, mul-le-mul, mul-le-mul-left, le-of-mul-le-mul-right, div-add-mod'}
+use native.Mathlib.Nat.{mod-lt, pow-suc, le-refl}
 use native.Mathlib.Omega.{arith}
 use lib.Dec.{T, leb, leb→le, nleb→lt}
+use Rattle.float64.proofs.Squares.{square-lt, root-lt}
 use Rattle.square_root.specs.Root.{longer, wholeRoot}
 use Rattle.square_root.specs.inner.Steps.{WholeRoot}
 
@@ -19,18 +20,12 @@ use Rattle.square_root.specs.inner.Steps.{WholeRoot}
 square-mono : (a b : ℕ) → a ≤ b → a * a ≤ b * b
 square-mono a b h = mul-le-mul h h
 
-pub square-lt : (a b : ℕ) → a < b → a * a < b * b
-square-lt a b h = lt-of-le-of-lt (mul-le-mul-left a (le-of-lt h)) (mul-lt-mul-of-pos-right h (omega arith))
-
-pub root-lt : (a b : ℕ) → a * a < b * b → a < b
-root-lt a b h = lt-of-not-le (λ (g : b ≤ a). not-le-of-lt h (square-mono b a g))
-
 -- a number whose square is above another is above 0
 pub root-pos : (n s : ℕ) → n < s * s → 0 < s
 root-pos n s h = root-lt 0 s (lt-of-le-of-lt zero-le h)
 
 -- (a + b) squared
-expanded : (a b : ℕ) → (a + b) * (a + b) ≡ a * a + 2 * (a * b) + b * b
+pub expanded : (a b : ℕ) → (a + b) * (a + b) ≡ a * a + 2 * (a * b) + b * b
 expanded a b =
     let e : (a + b) * (a + b) ≡ a * a + (a * b + (a * b + b * b)) = simp (mul-add, add-mul, mul-comm, add-assoc) in
     omega arith

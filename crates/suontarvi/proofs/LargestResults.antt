@@ -9,17 +9,17 @@ use lib.ListN.{length}
 use Rattle.limits.specs.Limits.{maxGeneral}
 use Rattle.refusal.specs.Refusal.{accepted}
 use Rattle.refusal.specs.Listed.{OneOf, largestNumbers}
-use Rattle.slices.specs.Outcome.{Outcome, outcomeIs, refusing, asNumber}
+use Rattle.slices.specs.Outcome.{Outcome, refusing, asNumber}
 use Rattle.sparse.specs.Validate.{sizeFault}
 use Rattle.sparse.proofs.Accepted.{sizes-accepted}
 use Rattle.sparse.specs.Pattern.{Pattern, entries}
 use Rattle.hungarian.specs.Graph.{CostGraph, withCosts}
 use Rattle.hungarian_match.specs.Call.{matchOutcome, matchFault, finished}
 use Rattle.match_largest.specs.declared.Verdict.{Verdict}
-use Rattle.match_largest.specs.Call.{numberOf, Slices, largestOutcome, Exactly, Shows}
+use Rattle.match_largest.specs.Call.{numberOf, Slices, Exactly, Shows}
 use Rattle.match_largest.specs.Call as native
 use Rattle.suontarvi.specs.Match.{matchResultOf, matchResult, Lent, lent, resultFault}
-use Rattle.suontarvi.specs.Largest.{Ours, OursAccepted}
+use Rattle.suontarvi.specs.Largest.{Ours, LargestPromises}
 use Rattle.suontarvi.proofs.MatchResults.{match-over}
 
 -- a result that answers 0 is the native call's
@@ -53,18 +53,14 @@ left-natively g perm o = go (eqb (length (o .counts)) 8) (o .number) (o .left)
         let f = sizeFault (g .n) maxGeneral (entries g) false in
         absurd (true≢false (sym (sizes-accepted (g .n) maxGeneral (entries g) false .0 (sym (number-is f) ∙ z) .2)))
 
--- what is promised of a number beside the answer, natively and over C
-abbrev Native : Pattern → List ℕ → Slices → Slices → ℕ → Type 0
-Native g perm s after number = OneOf largestNumbers number × (Exactly g perm s number × (Shows g perm number after × native.OursAccepted g perm s number))
-
-abbrev Follows : Pattern → List ℕ → Slices → Slices → ℕ → Type 0
-Follows g perm s after number = OneOf largestNumbers number × (Exactly g perm s number × (Shows g perm number after × OursAccepted g perm s number))
-
-pub largest-number : (g : Pattern) (perm : List ℕ) (s : Slices) {r : Verdict} {after : Slices} {number : ℕ}
-    → (outcomeIs r after ≡ largestOutcome g perm s) × Native g perm s after (numberOf r) → numberOf r ≡ number
-    → (number ≡ numberOf (largestOutcome g perm s .answer)) × ((after ≡ largestOutcome g perm s .after) × Follows g perm s after number)
-largest-number g perm s {after = after} {number = number} p e =
-    let f : Native g perm s after number = subst (Native g perm s after) e (p .1) in (
-      sym e ∙ ap (λ (o : Outcome Verdict Slices). numberOf (o .answer)) (p .0),
-      (ap (λ (o : Outcome Verdict Slices). o .after) (p .0), (f .0, (f .1 .0, (f .1 .1 .0, λ o. f .1 .1 .1 (left-natively g perm o))))),
-    )
+-- the promises of a number: those of the answer, with our own matches over C
+pub largest-number : (g : Pattern) (perm : List ℕ) (s : Slices) {r : Verdict} {after : Slices} {number : ℕ} → native.Promises g perm s r after
+    → numberOf r ≡ number → LargestPromises g perm s number after
+largest-number g perm s {after = after} p e = record {
+  answer = sym e ∙ ap (λ (o : Outcome Verdict Slices). numberOf (o .answer)) (p .outcome);
+  left = ap (λ (o : Outcome Verdict Slices). o .after) (p .outcome);
+  number = subst (OneOf largestNumbers) e (p .number);
+  exactly = subst (Exactly g perm s) e (p .exactly);
+  shows = subst (λ (k : ℕ). Shows g perm k after) e (p .shows);
+  ours = λ o room. sym e ∙ p .ours (left-natively g perm o) room;
+}

@@ -1,10 +1,8 @@
 // Whether a pairing that anyone made is a largest matching of a pattern, over the C interface, with native slices.
 use match_largest::Verdict;
-ghost use mathlib.Core.Path.{_≡_};
-ghost use Rattle.refusal.specs.Listed.{OneOf, largestNumbers};
 ghost use Rattle.sparse.specs.Pattern.{pattern};
-ghost use Rattle.match_largest.specs.Call.{numberOf, slices, largestOutcome, Exactly, Shows};
-ghost use Rattle.suontarvi.specs.Largest.{OursAccepted};
+ghost use Rattle.match_largest.specs.Call.{slices};
+ghost use Rattle.suontarvi.specs.Largest.{LargestPromises};
 
 // Into columns and rows 1 for each that an alternating path leads to from a column without a row, else 0; into
 // matched[0] the number of pairs. Answers 0 or the refusal; a refused call leaves every slice as it is.
@@ -18,28 +16,11 @@ pub extern "C" fn suontarvi_check_largest(
     rows: &mut [u32],
     matched: &mut [u32],
 ) -> u32
-    ensures answer { λ r.
-        let g = pattern n (now («col_ptr» .entry)) (now («row_idx» .entry)) in
-        let before = slices (now (columns .entry)) (now (rows .entry)) (now (matched .entry)) in
-        ⌜ r ≡ numberOf (largestOutcome g (now (perm .entry)) before .answer) ⌝ }
-    ensures left { λ r.
+    ensures { λ r.
         let g = pattern n (now («col_ptr» .entry)) (now («row_idx» .entry)) in
         let before = slices (now (columns .entry)) (now (rows .entry)) (now (matched .entry)) in
         let after = slices (now (columns .exit)) (now (rows .exit)) (now (matched .exit)) in
-        ⌜ after ≡ largestOutcome g (now (perm .entry)) before .after ⌝ }
-    ensures number { λ r. ⌜ OneOf largestNumbers r ⌝ }
-    ensures exactly { λ r.
-        let g = pattern n (now («col_ptr» .entry)) (now («row_idx» .entry)) in
-        let before = slices (now (columns .entry)) (now (rows .entry)) (now (matched .entry)) in
-        ⌜ Exactly g (now (perm .entry)) before r ⌝ }
-    ensures shows { λ r.
-        let g = pattern n (now («col_ptr» .entry)) (now («row_idx» .entry)) in
-        let after = slices (now (columns .exit)) (now (rows .exit)) (now (matched .exit)) in
-        ⌜ Shows g (now (perm .entry)) r after ⌝ }
-    ensures ours { λ r.
-        let g = pattern n (now («col_ptr» .entry)) (now («row_idx» .entry)) in
-        let before = slices (now (columns .entry)) (now (rows .entry)) (now (matched .entry)) in
-        ⌜ OursAccepted g (now (perm .entry)) before r ⌝ }
+        ⌜ LargestPromises g (now (perm .entry)) before r after ⌝ }
 {
     let verdict = match_largest::check_largest(n, col_ptr, row_idx, perm, columns, rows, matched);
     match verdict {

@@ -1,10 +1,9 @@
 // Whole-number logarithms, and cost graphs from them, over the C interface.
 use mc64_columns::Built;
-ghost use mathlib.Core.Path.{_≡_};
-ghost use Rattle.refusal.specs.Listed.{OneOf, storedLogNumbers, wholeSymmetricNumbers, wholeGeneralNumbers};
+ghost use Rattle.refusal.specs.Listed.{wholeSymmetricNumbers, wholeGeneralNumbers};
 ghost use Rattle.sparse.specs.Matrix.{matrix};
 ghost use Rattle.mc64_columns.specs.Graphs.{slices};
-ghost use Rattle.whole_log.specs.Stored.{storedFault, storedLog, Stored};
+ghost use Rattle.whole_log.specs.Stored.{Promises};
 ghost use Rattle.whole_graphs.specs.Graphs.{wholeSymmetricGraph, wholeGeneralGraph};
 ghost use Rattle.suontarvi.specs.Graphs.{WholeGraphPromises};
 
@@ -12,10 +11,7 @@ ghost use Rattle.suontarvi.specs.Graphs.{WholeGraphPromises};
 // refusal; a refused call leaves the number as it is.
 #[no_mangle]
 pub extern "C" fn suontarvi_whole_log(x: f64, p: &mut [i32]) -> u32
-    ensures fault { λ r. ⌜ r ≡ storedFault x (now (p .entry)) ⌝ }
-    ensures slice { λ r. ⌜ now (p .exit) ≡ storedLog x (now (p .entry)) ⌝ }
-    ensures bounds { λ r. ⌜ Stored x r (now (p .exit)) ⌝ }
-    ensures number { λ r. ⌜ OneOf storedLogNumbers r ⌝ }
+    ensures { λ r. ⌜ Promises x (now (p .entry)) r (now (p .exit)) ⌝ }
 {
     whole_log::store_log(x, p)
 }

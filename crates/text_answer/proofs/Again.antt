@@ -26,11 +26,12 @@ use Rattle.text_pairs_read.proofs.Theorems.{read-again}
 use Rattle.text_pairs_match.specs.PairGraph.{pairGraph}
 use Rattle.text_pairs_match.proofs.AllMatched.{ranged-rows}
 use Rattle.text_pairs_match.proofs.Theorems.{ranged-counted, match-again, count-again}
+use Rattle.text_report.specs.inner.Steps.{outputLength}
 use Rattle.text_answer.specs.Answer.{ReportAnswer, reportAnswer, reportWritten, entriesGraph, graphText, textOf}
 use Rattle.text_answer.specs.Answer.{answerText, fileRows, ReadAgain, Again}
-use Rattle.text_answer.specs.inner.Steps.{outputLength, Reportable}
+use Rattle.text_answer.specs.inner.Steps.{Reportable}
 use Rattle.text_answer.proofs.Graphs.{has-text, order-is}
-use Rattle.text_answer.proofs.Files.{entries-sound, repeated-same}
+use Rattle.text_answer.proofs.Files.{entries-sound}
 
 -- a file of which no pair stands twice
 once-read : {kind : Kind} {n : ℕ} {entries : List Entry} (r : Reading) → unrepeated r ≡ file kind n entries → (r ≡ file kind n entries)
@@ -59,7 +60,7 @@ module _ (input : List ℕ) {kind : Kind} {n : ℕ} {entries : List Entry} (e : 
   unfolding fileOf
   reportable =
       let o = once-read (readingOf input) e in
-      has-text kind (entries-sound input (o .0) (length-replicate {A = ℕ} outputLength 0)) (sym (repeated-same entries) ∙ o .1)
+      has-text kind (entries-sound input (o .0) (length-replicate {A = ℕ} outputLength 0)) (o .1)
 
   ranged : LargestMatch (g .pattern) m
   ranged = match-optimal g (reportable .accepted) (reportable .wholeCosts) .ranged

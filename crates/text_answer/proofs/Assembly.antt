@@ -16,11 +16,12 @@ use Rattle.triplets.specs.Built.{Triplets, triplets, Slices, built, keptCount, 
 use Rattle.triplets.specs.inner.Steps.{Built, Sized, Roomy}
 use Rattle.hungarian.specs.Graph.{CostGraph, graphOf}
 use Rattle.text_matrix_market.specs.declared.banner.Kind.the-variants.{General}
-use Rattle.text_graph.specs.Graph.{repeats, costValues, fileGraph}
+use Rattle.text_graph.specs.Graph.{costValues, fileGraph}
 use Rattle.text_graph.proofs.KeptCount.{kept-count}
 use Rattle.text_symmetric_graph.proofs.Calls.{nothing-left}
 use Rattle.text_report.specs.declared.Form.{Form}
 use Rattle.text_report.specs.Report.{refusedText}
+use Rattle.text_matrix_market.specs.File.{repeats}
 use Rattle.text_answer.specs.Answer.{graphText}
 use Rattle.text_answer.specs.inner.Steps.{Entries, entriesText, Reportable}
 use Rattle.text_answer.proofs.Graphs.{has-text}

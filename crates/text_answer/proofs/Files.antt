@@ -1,6 +1,6 @@
 -- From a reading to its entries: the lists that hold them are within the limits, and their text is the reading's.
-use mathlib.Core.Path.{_≡_, refl, sym, ap, ap₂, subst, _∙_}
-use mathlib.Core.Bool.{Bool, true, false, cond, _||_}
+use mathlib.Core.Path.{_≡_, refl, sym, ap, subst, _∙_}
+use mathlib.Core.Bool.{Bool, true, false, cond}
 use mathlib.Core.List.{List, [], _∷_, map}
 use Prim.Native.Nat.{ℕ, zero, suc, _≤_, _<_}
 use native.Mathlib.Omega.{arith}
@@ -14,33 +14,23 @@ use Rattle.text_matrix_market.specs.declared.banner.Kind.{Kind}
 use Rattle.text_matrix_market.specs.declared.banner.Kind.the-variants.{General, Symmetric, Pattern}
 use Rattle.text_matrix_market.specs.declared.stages.Entry.{Entry}
 use Rattle.text_matrix_market.specs.declared.Verdict.{Verdict}
-use Rattle.text_matrix_market.specs.File.{maxInput, maxEntries, Reading, file, refusal, samePair, hasPair, repeated, unrepeated, fileOf, readingOf}
+use Rattle.text_matrix_market.specs.File.{maxInput, maxEntries, Reading, file, refusal, repeated, unrepeated, fileOf, readingOf}
 use Rattle.text_matrix_market.specs.File.{weightFits, isUpper}
 use Rattle.text_matrix_market.specs.inner.Steps.{Lists, firstEntries, readingFrom, Places}
 use Rattle.text_matrix_market.specs.File.{entryRow, entryColumn, entryWeight}
 use Rattle.text_matrix_market.proofs.Accepted.{accepted, each-at, Limits, Sound, Each, WeightWithin, Stored}
 use Rattle.text_matrix_market.proofs.Filling.{length-first, front}
 use Rattle.triplets.specs.Order.{Below}
-use Rattle.text_graph.specs.Graph.{repeats, costValues}
+use Rattle.text_graph.specs.Graph.{costValues}
 use Rattle.text_graph.specs.Graph as graph
 use Rattle.text_report.specs.declared.Form.{Form}
 use Rattle.text_report.specs.Report.{refusedText}
 use Rattle.text_tie_file.proofs.Theorems.{file-exactly, refused-exactly}
+use Rattle.text_report.specs.inner.Steps.{outputLength}
 use Rattle.text_answer.specs.Answer.{ReportAnswer, reportWritten, Whole, ByInput, bufferLength, entriesGraph}
 use Rattle.text_answer.specs.Answer.{textOf, graphText, answerText}
-use Rattle.text_answer.specs.inner.Steps.{FileEntries, Entries, entriesText, outputLength}
+use Rattle.text_answer.specs.inner.Steps.{FileEntries, Entries, entriesText}
 use Rattle.text_answer.proofs.Graphs.{as-general}
-
--- ---- a pair is repeated among entries exactly where it is among their lists
-among-same : (t : Entry) (ts : List Entry) → hasPair t ts ≡ graph.pairAmong (t .row) (t .column) (map entryRow ts) (map entryColumn ts)
-unfolding hasPair graph.pairAmong
-among-same t [] = refl
-among-same t (s ∷ ts) = ap (λ (x : Bool). samePair s t || x) (among-same t ts)
-
-pub repeated-same : (ts : List Entry) → repeated ts ≡ repeats (map entryRow ts) (map entryColumn ts)
-unfolding repeated repeats
-repeated-same [] = refl
-repeated-same (t ∷ ts) = ap₂ (λ (x y : Bool). x || y) (among-same t ts) (repeated-same ts)
 
 -- ---- what was read, by the verdict
 pub by-verdict : {v w : Verdict} {r : Reading} (l : Lists) → v ≡ w → readingFrom v l ≡ r → readingFrom w l ≡ r
@@ -119,8 +109,7 @@ module _ {kind : Kind} {n : ℕ} (count : ℕ) (input : List ℕ) (l : Lists) (e
   pub text-is : (form : Form) → entriesText form kind n (take count (l .rows)) (take count (l .columns)) (take count (l .weights)) ≡ answerText form input
   unfolding entriesText answerText textOf fileOf
   text-is form = rw (rows-are, columns-are, weights-are)
-      (sym (ap (λ (r : Reading). textOf form (unrepeated r)) (sym e) ∙ go (repeated entries)
-      ∙ ap (λ (b : Bool). cond b (refusedText repeatedPair) whole) (repeated-same entries)))
+      (sym (ap (λ (r : Reading). textOf form (unrepeated r)) (sym e) ∙ go (repeated entries)))
     where
       whole : List ℕ
       whole = graphText form (entriesGraph kind n entries)

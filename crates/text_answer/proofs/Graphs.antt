@@ -9,11 +9,12 @@ use borrow.Author.Tests.{ltb-true, ltb-false}
 use Rattle.triplets.specs.Order.{Below}
 use Rattle.text_matrix_market.specs.declared.banner.Kind.{Kind}
 use Rattle.text_matrix_market.specs.declared.banner.Kind.the-variants.{General, Symmetric, Pattern}
-use Rattle.text_graph.specs.Graph.{CostsFit, repeats, fileGraph}
+use Rattle.text_graph.specs.Graph.{CostsFit, fileGraph}
 use Rattle.text_graph.proofs.GraphCosts.{costs-small, graph-whole}
 use Rattle.text_graph.proofs.GraphAccepted.{graph-accepted}
 use Rattle.text_symmetric_graph.specs.Graph.{SymmetricEntries}
 use Rattle.text_symmetric_graph.proofs.Whole.{symmetric-whole}
+use Rattle.text_matrix_market.specs.File.{repeats}
 use Rattle.text_answer.specs.Answer.{kindGraph}
 use Rattle.text_answer.specs.inner.Steps.{FileEntries, Reportable}
 

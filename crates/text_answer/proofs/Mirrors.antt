@@ -9,13 +9,14 @@ use Rattle.refusal.specs.Refusal.{repeatedPair}
 use Rattle.triplets.specs.Built.{triplets}
 use Rattle.text_matrix_market.specs.declared.banner.Kind.the-variants.{Symmetric}
 use Rattle.hungarian.specs.Graph.{CostGraph, graphOf}
-use Rattle.text_graph.specs.Graph.{repeats, costValues}
+use Rattle.text_graph.specs.Graph.{costValues}
 use Rattle.text_symmetric_graph.specs.declared.Mirrored.{Mirrored}
 use Rattle.text_symmetric_graph.specs.declared.Mirrored.the-variants.{Graph, Repeated}
 use Rattle.text_symmetric_graph.specs.Graph.{SymmetricValues, tripletGraph, symmetricGraph}
 use Rattle.text_symmetric_graph.specs.inner.Steps.{HoldsGraph, Answers}
 use Rattle.text_report.specs.declared.Form.{Form}
 use Rattle.text_report.specs.Report.{refusedText}
+use Rattle.text_matrix_market.specs.File.{repeats}
 use Rattle.text_answer.specs.Answer.{graphText}
 use Rattle.text_answer.specs.inner.Steps.{Entries, entriesText, Reportable}
 use Rattle.text_answer.proofs.Graphs.{as-symmetric, has-text}

@@ -14,16 +14,12 @@ ghost use Rattle.hungarian.specs.Graph.{graphOf};
 ghost use Rattle.triplets.specs.Order.{Below};
 ghost use Rattle.text_matrix_market.specs.declared.banner.Kind.the-variants.{General, Symmetric};
 ghost use Rattle.text_graph.specs.Graph.{costValues};
-ghost use Rattle.text_answer.specs.Answer.{reportAnswer, reportWritten, answerText, graphText};
-ghost use Rattle.text_answer.specs.inner.Steps.{outputLength, entriesText};
-ghost use Rattle.text_answer.specs.Answer.{Promises};
-ghost use Rattle.text_answer.specs.inner.Steps.{Reportable, FileEntries, Entries, EntriesReported};
+ghost use Rattle.text_report.specs.inner.Steps.{outputLength};
+ghost use Rattle.text_answer.specs.Answer.{reportAnswer, reportWritten, answerText, graphText, Promises};
+ghost use Rattle.text_answer.specs.inner.Steps.{Reportable, FileEntries, Entries, EntriesReported, entriesText};
 
 // One byte more than an input may have.
 pub const BUFFER_LENGTH: usize = 32769;
-
-// A text of 64 lines fits it.
-pub const OUTPUT_LENGTH: usize = 4096;
 
 // What the match asks for: twelve words for each column and one more, and two doubles for each.
 const MATCH_WORDS: usize = 12 * COLUMNS + 1;
@@ -243,7 +239,7 @@ pub fn answer(
     form: Form,
     buffer: &[u8; BUFFER_LENGTH],
     count: usize,
-    output: &mut [u8; OUTPUT_LENGTH],
+    output: &mut [u8; text_report::OUTPUT_LENGTH],
 ) -> usize
     ensures { λ r.
         ⌜ Promises form count (now (buffer .entry)) (now (output .entry)) r (now (output .exit)) ⌝ }

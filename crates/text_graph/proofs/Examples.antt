@@ -7,7 +7,8 @@ use lib.Ieee.{ofBits, ofInt, add, round}
 use Rattle.slices.specs.Lists.{tabulate}
 use Rattle.triplets.specs.Built.{filled, sumAt, columnRows, rowsBefore, valuesBefore}
 use Rattle.hungarian.specs.Graph.{CostGraph}
-use Rattle.text_graph.specs.Graph.{repeats, costValues, fileGraph}
+use Rattle.text_matrix_market.specs.File.{repeats}
+use Rattle.text_graph.specs.Graph.{costValues, fileGraph}
 
 abbrev fileRows : List ℕ
 fileRows = 0 ∷ 1 ∷ 0 ∷ 1 ∷ 2 ∷ 0 ∷ 1 ∷ 2 ∷ []

@@ -19,7 +19,8 @@ use Rattle.sparse.specs.Pattern.{entries}
 use Rattle.hungarian.specs.Graph.{CostGraph}
 use Rattle.hungarian.specs.Test.{graphFault, graphLengths, costFault}
 use Rattle.hungarian.specs.Accepted.{Accepted}
-use Rattle.text_graph.specs.Graph.{Inside, CostsFit, repeats, fileTriplets, fileGraph}
+use Rattle.text_matrix_market.specs.File.{repeats}
+use Rattle.text_graph.specs.Graph.{Inside, CostsFit, fileTriplets, fileGraph}
 use Rattle.text_graph.proofs.KeptCount.{kept-few}
 use Rattle.text_graph.proofs.GraphColumns.{graph-columns}
 use Rattle.text_graph.proofs.GraphCosts.{values-length, graph-range}

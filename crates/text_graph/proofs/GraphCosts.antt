@@ -24,7 +24,8 @@ use Rattle.triplets.specs.Order.{Below}
 use Rattle.sparse.specs.Pattern.{entries}
 use Rattle.hungarian.specs.Graph.{costOf}
 use Rattle.hungarian.specs.Optimal.{WholeCosts}
-use Rattle.text_graph.specs.Graph.{Inside, CostsFit, pairAmong, repeats, costValues, fileGraph}
+use Rattle.text_matrix_market.specs.File.{repeats, pairAmong}
+use Rattle.text_graph.specs.Graph.{Inside, CostsFit, costValues, fileGraph}
 use Rattle.text_graph.proofs.KeptCount.{filled-first}
 use Rattle.text_graph.proofs.GraphColumns.{part-at, Entry, entry-at}
 

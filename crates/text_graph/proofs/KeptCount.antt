@@ -14,7 +14,8 @@ use Rattle.slices.specs.Lists.{keep}
 use Rattle.triplets.specs.Built.{Triplets, stands, filled, columnRows, rowsBefore, keptCount}
 use Rattle.matching.specs.Sum.{sumTo, orZero}
 use Rattle.matching.proofs.Sums.{sum-same, sum-const, sum-change}
-use Rattle.text_graph.specs.Graph.{Inside, pairAmong, repeats}
+use Rattle.text_matrix_market.specs.File.{repeats, pairAmong}
+use Rattle.text_graph.specs.Graph.{Inside}
 
 -- ---- a position is filled where its pair is among the entries
 pub filled-first : (row col : ℕ) (rows cols : List ℕ) (i j k : ℕ) → filled (row ∷ rows) (col ∷ cols) i j

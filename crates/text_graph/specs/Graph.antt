@@ -1,10 +1,8 @@
 -- SPECIFICATION 11.4: The cost graph that a tie file becomes: its entries as triplets, assembled as a general matrix.
 -- Entry k is (row k, column k, cost k), indices from 0.
 use mathlib.Core.Path.{_≡_}
-use mathlib.Core.Bool.{Bool, false, _&&_, _||_}
-use mathlib.Core.List.{List, [], _∷_, map}
+use mathlib.Core.List.{List, map}
 use Prim.Native.Nat.{ℕ, suc, _*_, _^_, _<_}
-use lib.Dec.{eqb}
 use lib.IntN.{pos}
 use lib.Ieee.{Float, binary64, ofInt}
 use lib.ListN.{length, getD}
@@ -24,19 +22,6 @@ pub record Inside (n : ℕ) (rows cols : List ℕ) : Type 0 where
 pub record CostsFit (n : ℕ) (rows costs : List ℕ) : Type 0 where
   pub sameLength : length costs ≡ length rows
   pub costsIn : (k : ℕ) → k < length costs → n * getD costs k 0 < 2 ^ 48
-
--- whether the pair (i, j) is among these
-unfoldable pub pairAmong : ℕ → ℕ → List ℕ → List ℕ → Bool
-pairAmong i j [] cols = false
-pairAmong i j (row ∷ rows) [] = false
-pairAmong i j (row ∷ rows) (col ∷ cols) = (eqb row i && eqb col j) || pairAmong i j rows cols
-
--- 25: whether some pair stands twice: the first among the rest, or one of the rest
-unfoldable pub repeats : List ℕ → List ℕ → Bool
-unfolding pairAmong
-repeats [] cols = false
-repeats (row ∷ rows) [] = false
-repeats (row ∷ rows) (col ∷ cols) = pairAmong row col rows cols || repeats rows cols
 
 -- ---- the graph
 -- each cost as a double

@@ -1,7 +1,7 @@
 -- SPECIFICATION 11.2 and 11.3: The file that an input holds, or the number of its refusal. Lines are read from the top,
 -- as the banner's kind asks.
 use mathlib.Core.Bool.{Bool, false, cond, _&&_, _||_}
-use mathlib.Core.List.{List, [], _∷_, _++_}
+use mathlib.Core.List.{List, [], _∷_, _++_, map}
 use Prim.Native.Nat.{ℕ, _-_, _*_, _^_}
 use lib.Dec.{eqb, leb, ltb}
 use lib.ListN.{length}
@@ -144,29 +144,6 @@ readingOf input = cond (leb (length input) maxInput) (readingAtEnd (readLines st
     (refusal inputLimit)
 
 -- ---- a pair (row, column) repeated, which is tested last
--- one row and one column
-abbrev pub samePair : Entry → Entry → Bool
-samePair s t = eqb (s .row) (t .row) && eqb (s .column) (t .column)
-
--- an entry's pair is that of one of the entries
-unfoldable pub hasPair : Entry → List Entry → Bool
-hasPair s [] = false
-hasPair s (t ∷ entries) = samePair t s || hasPair s entries
-
--- two entries have the same pair
-unfoldable pub repeated : List Entry → Bool
-repeated [] = false
-repeated (t ∷ entries) = hasPair t entries || repeated entries
-
--- 25 in place of a file with such entries
-abbrev pub unrepeated : Reading → Reading
-unrepeated (file kind n entries) = cond (repeated entries) (refusal repeatedPair) (file kind n entries)
-unrepeated (refusal number) = refusal number
-
--- what SPECIFICATION 11.3 says of an input, whole
-unfoldable pub fileOf : List ℕ → Reading
-fileOf input = unrepeated (readingOf input)
-
 -- what each list holds of an entry
 abbrev pub entryRow : Entry → ℕ
 entryRow e = e .row
@@ -176,3 +153,29 @@ entryColumn e = e .column
 
 abbrev pub entryWeight : Entry → ℕ
 entryWeight e = e .weight
+
+-- the pair (i, j) is among these
+unfoldable pub pairAmong : ℕ → ℕ → List ℕ → List ℕ → Bool
+pairAmong i j [] cols = false
+pairAmong i j (row ∷ rows) [] = false
+pairAmong i j (row ∷ rows) (col ∷ cols) = (eqb row i && eqb col j) || pairAmong i j rows cols
+
+-- some pair stands twice: the first among the rest, or one of the rest
+unfoldable pub repeats : List ℕ → List ℕ → Bool
+unfolding pairAmong
+repeats [] cols = false
+repeats (row ∷ rows) [] = false
+repeats (row ∷ rows) (col ∷ cols) = pairAmong row col rows cols || repeats rows cols
+
+-- two entries have the same pair
+abbrev pub repeated : List Entry → Bool
+repeated entries = repeats (map entryRow entries) (map entryColumn entries)
+
+-- 25 in place of a file with such entries
+abbrev pub unrepeated : Reading → Reading
+unrepeated (file kind n entries) = cond (repeated entries) (refusal repeatedPair) (file kind n entries)
+unrepeated (refusal number) = refusal number
+
+-- what SPECIFICATION 11.3 says of an input, whole
+unfoldable pub fileOf : List ℕ → Reading
+fileOf input = unrepeated (readingOf input)

@@ -20,8 +20,8 @@ use Rattle.sparse.specs.Pattern.{rowOf, columnOf, start, end, entries, InColumn
 use Rattle.hungarian.specs.Accepted.{Accepted}
 use Rattle.hungarian.specs.Optimal.{WholeCosts}
 use Rattle.sparse.proofs.Columns.{in-column}
-use Rattle.text_matrix_market.specs.File.{entryRow, entryColumn, entryWeight}
-use Rattle.text_graph.specs.Graph.{Inside, CostsFit, repeats, fileTriplets}
+use Rattle.text_matrix_market.specs.File.{entryRow, entryColumn, entryWeight, repeats}
+use Rattle.text_graph.specs.Graph.{Inside, CostsFit, fileTriplets}
 use Rattle.text_graph.proofs.KeptCount.{kept-count}
 use Rattle.text_graph.proofs.GraphColumns.{part-at, graph-columns}
 use Rattle.text_graph.proofs.GraphCosts.{graph-whole}

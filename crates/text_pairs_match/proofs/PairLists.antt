@@ -18,8 +18,7 @@ use Rattle.triplets.specs.Built.{filled, columnRows, rowsBefore}
 use Rattle.matching.specs.Sum.{sumTo, orZero}
 use Rattle.matching.specs.Pairing.{matchedCount}
 use Rattle.text_matrix_market.specs.declared.stages.Entry.{Entry}
-use Rattle.text_matrix_market.specs.File.{entryRow, entryColumn}
-use Rattle.text_graph.specs.Graph.{pairAmong}
+use Rattle.text_matrix_market.specs.File.{entryRow, entryColumn, pairAmong}
 use Rattle.text_graph.proofs.KeptCount.{filled-among, keep-length}
 use Rattle.text_pairs_read.specs.Pairs.{pairEntry, pairEntries, Rows}
 

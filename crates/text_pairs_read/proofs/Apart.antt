@@ -1,14 +1,14 @@
 -- The columns of the entries rise, so no pair is repeated (`pairs-apart`). By induction on the columns.
 use mathlib.Core.Path.{_≡_, refl, sym, subst}
 use mathlib.Core.Bool.{Bool, true, false, cond, and-false}
-use mathlib.Core.List.{List, [], _∷_, _++_, append-nil}
+use mathlib.Core.List.{List, [], _∷_, _++_, append-nil, map}
 use Prim.Native.Nat.{ℕ, zero, suc, _<_}
 use native.Mathlib.Omega.{arith}
 use borrow.Author.Tests.{ne-eqb}
 use lib.Dec.{eqb}
 use lib.ListN.{getD}
 use Rattle.text_matrix_market.specs.declared.stages.Entry.{Entry}
-use Rattle.text_matrix_market.specs.File.{hasPair, repeated}
+use Rattle.text_matrix_market.specs.File.{entryRow, entryColumn, pairAmong, repeats, repeated}
 use Rattle.text_pairs_read.specs.Pairs.{pairEntry, pairEntries}
 
 -- each entry is in a column above c
@@ -44,14 +44,15 @@ columns-rise (suc k) perm = go (eqb (getD perm k 0) 4294967295) (columns-rise k 
     go false p = rising-more (getD perm k 0) k (pairEntries k perm) p
 
 -- ---- an entry and those behind it
-after-other : (t : Entry) (entries : List Entry) → After (t .column) entries → hasPair t entries ≡ false
-unfolding hasPair
+after-other : (t : Entry) (entries : List Entry) → After (t .column) entries
+    → pairAmong (t .row) (t .column) (map entryRow entries) (map entryColumn entries) ≡ false
+unfolding pairAmong
 after-other t [] p = refl
 after-other t (s ∷ entries) p =
     rw (ne-eqb (s .column) (t .column) (λ e. omega (arith, p .0)), and-false, after-other t entries (p .1))
 
 rising-apart : (k : ℕ) (entries : List Entry) → Rising k entries → repeated entries ≡ false
-unfolding repeated
+unfolding repeats
 rising-apart k [] p = refl
 rising-apart k (t ∷ entries) p = rw (after-other t entries (p .1), rising-apart k entries (p .2))
 

@@ -12,7 +12,7 @@ use Rattle.text_matrix_market.specs.Text.{cut, nonEmpty, linesOf, wordsOf, isBl
 use Rattle.text_matrix_market.specs.Numbers.{decimalValue, numberRead, threeOf, twoOf, numbersOf}
 use Rattle.text_matrix_market.specs.Banner.{sameWord, sameWords, codes, isBanner, bannerKind}
 use Rattle.text_matrix_market.specs.File.{maxInput, lineEntry, State, start, sizing, entering, content, readLine, readLines, file, readingAtEnd, readingOf}
-use Rattle.text_matrix_market.specs.File.{hasPair, repeated, unrepeated, fileOf}
+use Rattle.text_matrix_market.specs.File.{pairAmong, repeats, unrepeated, fileOf}
 use Rattle.text_matrix_market.proofs.Entries.{banner-there, a-size, short}
 use Rattle.text_report.specs.Decimal.{digits, decimal}
 use Rattle.text_report.specs.Pairs.{patternBanner, patternSize, matchedPair, matchedPairs, pairsText}
@@ -95,5 +95,5 @@ module _ (n : ℕ) (perm : List ℕ) (r : Rows n perm) where
 -- ---- an example
 three-pairs : fileOf (pairsText 3 3 (2 ∷ 0 ∷ 1 ∷ [])) ≡ file Pattern 3 (pairEntry 2 0 ∷ pairEntry 0 1 ∷ pairEntry 1 2 ∷ [])
 unfolding digits decimal patternSize matchedPair matchedPairs pairsText cut nonEmpty linesOf wordsOf isBlankLine beginsPercent decimalValue numberRead
-    threeOf twoOf numbersOf sameWord sameWords isBanner bannerKind lineEntry content readLine readLines readingAtEnd readingOf hasPair repeated fileOf
+    threeOf twoOf numbersOf sameWord sameWords isBanner bannerKind lineEntry content readLine readLines readingAtEnd readingOf pairAmong repeats fileOf
 three-pairs = refl

@@ -11,7 +11,6 @@ use lib.IntN.{ℤ, pos, negsuc, natAbs}
 use lib.ListN.{length, take, drop, length-take, length-drop}
 use lib.Signed.{ltZ, nonNeg}
 use Rattle.libc.specs.Io.{Moved}
-use Rattle.text_program.specs.declared.Input.{Input}
 use Rattle.text_program.specs.declared.Input.the-variants.{More, All, Failed}
 use Rattle.text_answer.specs.Answer.{bufferLength}
 use Rattle.text_program.specs.Input.{inputAfter}

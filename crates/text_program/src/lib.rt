@@ -64,7 +64,7 @@ fn tell(
     form: Form,
     buffer: &[u8; text_answer::BUFFER_LENGTH],
     input: Input,
-    output: &mut [u8; text_answer::OUTPUT_LENGTH],
+    output: &mut [u8; text_report::OUTPUT_LENGTH],
 ) -> Told
     ensures told { λ r.
         ⌜ telling r (now (output .exit)) ≡ toldOf form input (now (buffer .entry)) (now (output .entry)) ⌝ }
@@ -81,7 +81,7 @@ fn tell(
 // No contract says which bytes a read brings or a write takes, and so none says what this does.
 pub fn run(form: Form, unread: &[u8], unwritten: &[u8]) {
     let mut buffer = [0u8; text_answer::BUFFER_LENGTH];
-    let mut output = [0u8; text_answer::OUTPUT_LENGTH];
+    let mut output = [0u8; text_report::OUTPUT_LENGTH];
     let input = read_input(&mut buffer);
     let Told::Text(length) = tell(form, &buffer, input, &mut output) else {
         io::write_all(2, unread);

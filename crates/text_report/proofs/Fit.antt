@@ -11,7 +11,7 @@ use lib.Ieee.{Float, nan}
 use Rattle.float64.specs.Number.{wholeOf}
 use Rattle.text_report.specs.Decimal.{signedText}
 use Rattle.text_report.specs.Report.{matchedLine, pairLine, pairLines, rowNumber, numbers, countsLine}
-use Rattle.text_report.specs.inner.Steps.{Printable, AllPrintable}
+use Rattle.text_report.specs.inner.Steps.{Printable, AllPrintable, outputLength}
 use Rattle.text_report.proofs.Digits.{decimal-length}
 use Rattle.text_report.proofs.Lines.{matched-length, pair-length, line-length, number-length, counts-length}
 
@@ -66,6 +66,6 @@ module _ (counts : List ℕ) (small : (k : ℕ) → getD counts k 0 < 2 ^ 64) wh
 
 pub parts-within : (n : ℕ) (perm : List ℕ) (u v : List Float) (counts : List ℕ) → n ≤ 64 → ((k : ℕ) → getD perm k 0 < 2 ^ 32) → AllPrintable n u
     → AllPrintable n v → ((k : ℕ) → getD counts k 0 < 2 ^ 64)
-    → length (matchedLine (getD counts 0 0) n) + length (pairLines n perm u v) + length (countsLine counts) ≤ 4096
+    → length (matchedLine (getD counts 0 0) n) + length (pairLines n perm u v) + length (countsLine counts) ≤ outputLength
 parts-within n perm u v counts h rows p q small =
     omega (arith, matched-within (getD counts 0 0) n (small 0) h, lines-within n perm u v h rows p q n (omega arith), counts-within counts small)

@@ -10,6 +10,7 @@ use native.Mathlib.Omega.{arith}
 use borrow.Author.Tests.{eq-eqb, ne-eqb}
 use lib.Dec.{eqb}
 use lib.ListN.{length, getD, length-append}
+use Rattle.text_report.specs.inner.Steps.{outputLength}
 use Rattle.text_report.specs.Decimal.{decimal}
 use Rattle.text_report.specs.Pairs.{patternSize, matchedPair, columnPair, matchedPairs}
 use Rattle.text_report.proofs.Digits.{decimal-length}
@@ -64,6 +65,6 @@ pairs-within n perm h rows (suc k) l =
     omega (arith, pairs-length perm k, pairs-within n perm h rows k (omega arith), pair-within (getD perm k 0) k (rows k l) (omega arith))
 
 pub text-within : (n pairs : ℕ) (perm : List ℕ) → n ≤ 64 → pairs < 2 ^ 64 → ((k : ℕ) → k < n → getD perm k 0 < 2 ^ 32)
-    → 49 + length (patternSize n pairs) + length (matchedPairs n perm) ≤ 4096
+    → 49 + length (patternSize n pairs) + length (matchedPairs n perm) ≤ outputLength
 text-within n pairs perm h p rows =
     omega (arith, size-length n pairs, decimal-length 1 n (omega arith), decimal-length 19 pairs (omega arith), pairs-within n perm h rows n (omega arith))

@@ -1,37 +1,28 @@
 -- A whole double's size as an unsigned integer, and its text by its sign: what `put_whole` asks. By the size as a fraction whose division leaves no
 -- rest, and by the order of whole numbers.
 use mathlib.Core.Path.{_≡_, refl, sym, ap, _∙_, subst}
-use mathlib.Core.Bool.{Bool, true, false, not, _&&_, true≢false}
+use mathlib.Core.Bool.{true, false, not, _&&_, true≢false}
 use mathlib.Core.List.{_∷_}
-use Prim.Native.Nat.{ℕ, zero, suc, _*_, _/_, _%_, _^_, _≤_}
+use Prim.Native.Nat.{ℕ, zero, _*_, _/_, _%_, _^_, _≤_}
 use native.Mathlib.Nat.{mul-mod-left}
 use native.Mathlib.Omega.{arith}
 use borrow.Author.Tests.{ltb-true}
 use lib.Dec.{T, eqb, leb, ltb, le→leb, lt→ltb}
-use lib.IntN.{ℤ, pos, negsuc, natAbs, _*ℤ_}
+use lib.IntN.{ℤ, pos, negsuc, natAbs}
 use lib.Signed.{ltZ}
 use lib.Ieee.{Float, nan, inf, fin, binary64, up, down, lt, inUnsigned, toUnsigned, whole}
 use lib.Ieee.Fits.{and-i}
 use lib.Ieee.Casts.{toUnsigned-cut}
 use lib.Ieee.Positive.{num, den}
-use Rattle.float64.specs.Number.{Whole, negative, wholeOf, signed as withSign}
+use Rattle.float64.specs.Number.{Whole, negative, wholeOf}
 use Rattle.float64.specs.Constants as constants
 use Rattle.float64.specs.Functions.{absolute}
-use Rattle.float64.proofs.WholeNumbers.{whole-lt, whole-of}
+use Rattle.float64.proofs.WholeNumbers.{whole-lt, whole-of, size-signed, size-multiple}
 use Rattle.float64.proofs.Constants.{zero-whole}
 use Rattle.text_report.specs.Decimal.{decimal, signedText}
 use Rattle.text_report.specs.inner.Steps.{Printable}
 
 -- ---- the size
-
-size-signed : (s : Bool) (n : ℕ) → natAbs (withSign s n) ≡ n
-size-signed true zero = refl
-size-signed true (suc n) = refl
-size-signed false n = refl
-
-size-multiple : (z : ℤ) (d : ℕ) → natAbs (z *ℤ pos d) ≡ natAbs z * d
-size-multiple (pos n) d = refl
-size-multiple (negsuc n) d = size-signed true (suc n * d)
 
 -- the size is the fraction divided, and nothing is left over
 size-quotient : (x : Float) → natAbs (wholeOf x) ≡ num x / den x

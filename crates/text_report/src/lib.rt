@@ -9,11 +9,13 @@ ghost use Rattle.float64.specs.Constants.{zero};
 ghost use Rattle.float64.specs.Number.{wholeOf};
 ghost use Rattle.text_report.specs.Decimal.{decimal, signedText};
 ghost use Rattle.text_report.specs.Report.{spaced, matchedLine, rowNumber, pairLine, pairLines, countsLine};
-ghost use Rattle.text_report.specs.Report.{matchText};
-ghost use Rattle.text_report.specs.Report.{refusedText};
-ghost use Rattle.text_report.specs.inner.Steps.{Printable, AllPrintable, Wrote};
+ghost use Rattle.text_report.specs.Report.{matchText, refusedText};
+ghost use Rattle.text_report.specs.inner.Steps.{outputLength, Printable, AllPrintable, Wrote};
 ghost use Rattle.text_report.specs.Pairs.{patternSize, matchedPair, columnPair, matchedPairs, pairsText};
 ghost use Rattle.text_report.specs.Form.{formText};
+
+// The bytes that any text fits: 64 lines.
+pub const OUTPUT_LENGTH: usize = 4096;
 
 // What is printed of a match: its report, or its pairs as a pattern file.
 pub enum Form {
@@ -170,7 +172,7 @@ fn put_match(n: usize, perm: &[u32], u: &[f64], v: &[f64], counts: &[u64], out: 
     requires u { ⌜ length (now u) ≡ n ⌝ }
     requires v { ⌜ length (now v) ≡ n ⌝ }
     requires counts { ⌜ length (now counts) ≡ 8 ⌝ }
-    requires room { ⌜ 4096 ≤ length (now out) ⌝ }
+    requires room { ⌜ outputLength ≤ length (now out) ⌝ }
     requires rows { ⌜ AllPrintable n (now u) ⌝ }
     requires columns { ⌜ AllPrintable n (now v) ⌝ }
     ensures text { λ r.
@@ -179,7 +181,7 @@ fn put_match(n: usize, perm: &[u32], u: &[f64], v: &[f64], counts: &[u64], out: 
     ensures length { λ r.
         let text = matchText n (now (perm .entry)) (now (u .entry)) (now (v .entry)) (now (counts .entry)) in
         ⌜ r ≡ length text ⌝ }
-    ensures fits { λ r. ⌜ r ≤ 4096 ⌝ }
+    ensures fits { λ r. ⌜ r ≤ outputLength ⌝ }
 {
     let after_first = put_matched_line(out, 0, counts[0], n);
     let after_pairs = put_lines(out, after_first, n, perm, u, v);
@@ -240,10 +242,10 @@ fn put_columns(out: &mut [u8], at: usize, n: usize, perm: &[u32]) -> usize
 fn put_pairs(n: usize, pairs: u64, perm: &[u32], out: &mut [u8]) -> usize
     requires small { ⌜ n ≤ 64 ⌝ }
     requires perm { ⌜ length (now perm) ≡ n ⌝ }
-    requires room { ⌜ 4096 ≤ length (now out) ⌝ }
+    requires room { ⌜ outputLength ≤ length (now out) ⌝ }
     ensures text { λ r. ⌜ now (out .exit) ≡ sets (now (out .entry)) 0 (pairsText n pairs (now (perm .entry))) ⌝ }
     ensures length { λ r. ⌜ r ≡ length (pairsText n pairs (now (perm .entry))) ⌝ }
-    ensures fits { λ r. ⌜ r ≤ 4096 ⌝ }
+    ensures fits { λ r. ⌜ r ≤ outputLength ⌝ }
 {
     let after_banner = put_bytes(
         out,
@@ -269,7 +271,7 @@ pub fn put_form(
     requires u { ⌜ length (now u) ≡ n ⌝ }
     requires v { ⌜ length (now v) ≡ n ⌝ }
     requires counts { ⌜ length (now counts) ≡ 8 ⌝ }
-    requires room { ⌜ 4096 ≤ length (now out) ⌝ }
+    requires room { ⌜ outputLength ≤ length (now out) ⌝ }
     requires rows { ⌜ AllPrintable n (now u) ⌝ }
     requires columns { ⌜ AllPrintable n (now v) ⌝ }
     ensures text { λ r.
@@ -278,7 +280,7 @@ pub fn put_form(
     ensures length { λ r.
         let text = formText form n (now (perm .entry)) (now (u .entry)) (now (v .entry)) (now (counts .entry)) in
         ⌜ r ≡ length text ⌝ }
-    ensures fits { λ r. ⌜ r ≤ 4096 ⌝ }
+    ensures fits { λ r. ⌜ r ≤ outputLength ⌝ }
 {
     match form {
         Form::Report => put_match(n, perm, u, v, counts, out),
@@ -288,10 +290,10 @@ pub fn put_form(
 
 // The text of a refusal into the slice, whose rest stays. Answers the length of the text.
 pub fn put_refused(number: u32, out: &mut [u8]) -> usize
-    requires { ⌜ 4096 ≤ length (now out) ⌝ }
+    requires { ⌜ outputLength ≤ length (now out) ⌝ }
     ensures text { λ r. ⌜ now (out .exit) ≡ sets (now (out .entry)) 0 (refusedText number) ⌝ }
     ensures length { λ r. ⌜ r ≡ length (refusedText number) ⌝ }
-    ensures fits { λ r. ⌜ r ≤ 4096 ⌝ }
+    ensures fits { λ r. ⌜ r ≤ outputLength ⌝ }
 {
     let after_word = put_bytes(out, 0, b"refused ");
     let last = put_decimal(out, after_word, number as u64);

@@ -24,8 +24,8 @@ use Rattle.mc64_symmetric.proofs.Building.{pointer-entries}
 use Rattle.mc64_symmetric.proofs.Places.{pointer-few}
 use Rattle.whole_graphs.specs.Graphs.{wholeSymmetricFault}
 use Rattle.whole_graphs.proofs.Theorems.{Doubles, left-is}
-use Rattle.text_graph.specs.Graph.{repeats}
 use Rattle.text_graph.proofs.KeptCount.{kept-count}
+use Rattle.text_matrix_market.specs.File.{repeats}
 use Rattle.text_symmetric_graph.specs.declared.Mirrored.the-variants.{Graph}
 use Rattle.text_symmetric_graph.specs.Graph.{SymmetricValues, tripletMatrix, mirroredGraph, tripletGraph}
 use Rattle.text_symmetric_graph.specs.inner.Steps.{GraphRoom, HoldsGraph, GraphSlices, graphSlices, graphLeft}

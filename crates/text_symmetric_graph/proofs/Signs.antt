@@ -33,8 +33,9 @@ use Rattle.mc64_columns.specs.Columns.{valueLogs, largest}
 use Rattle.mc64_columns.specs.Graphs.{GraphColumns, graphPointers, graphRows, graphCosts}
 use Rattle.mc64_columns.proofs.Whole.{value-log-at}
 use Rattle.mc64_symmetric.specs.Graph.{touches, placesTo, placesOf, otherEnd}
-use Rattle.text_graph.specs.Graph.{repeats, costValues}
+use Rattle.text_graph.specs.Graph.{costValues}
 use Rattle.text_graph.proofs.GraphCosts.{map-at, values-length, values-hold}
+use Rattle.text_matrix_market.specs.File.{repeats}
 use Rattle.text_symmetric_graph.specs.Graph.{SymmetricEntries, Signed, tripletMatrix, mirroredGraph, tripletGraph, symmetricGraph}
 use Rattle.text_symmetric_graph.proofs.Whole.{zero-plus}
 

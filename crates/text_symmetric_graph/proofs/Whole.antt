@@ -32,10 +32,11 @@ use Rattle.mc64_columns.proofs.Calls.{Fitting}
 use Rattle.mc64_symmetric.specs.Graph.{mirroredColumns}
 use Rattle.whole_graphs.specs.Graphs.{finiteFault, symmetricInputFault, wholeSymmetricFault, wholeSymmetricGraph, graphLeft, WholeGraph}
 use Rattle.whole_graphs.proofs.Theorems.{Doubles, left-is, symmetric-optimal}
-use Rattle.text_graph.specs.Graph.{repeats, costValues}
+use Rattle.text_graph.specs.Graph.{costValues}
 use Rattle.text_graph.proofs.KeptCount.{kept-count}
 use Rattle.text_graph.proofs.GraphColumns.{graph-columns}
 use Rattle.text_graph.proofs.GraphCosts.{map-at, values-length, values-hold}
+use Rattle.text_matrix_market.specs.File.{repeats}
 use Rattle.text_symmetric_graph.specs.Graph.{SymmetricEntries, SymmetricValues, tripletMatrix, mirroredGraph, symmetricGraph}
 use Rattle.text_symmetric_graph.proofs.Triangle.{matrix-lower}
 

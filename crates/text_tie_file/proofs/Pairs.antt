@@ -1,8 +1,8 @@
 -- A pair stands twice exactly where the reader's test finds it, by induction on the entries.
 use mathlib.Core.Path.{_≡_, refl, sym}
-use mathlib.Core.Bool.{Bool, true, false, _||_, or-true}
+use mathlib.Core.Bool.{Bool, true, false, _&&_, _||_, or-true}
 use mathlib.Core.Logic.{_↔_}
-use mathlib.Core.List.{List, [], _∷_}
+use mathlib.Core.List.{List, [], _∷_, map}
 use Prim.Native.Nat.{ℕ, zero, suc, _<_}
 use native.Mathlib.Omega.{arith}
 use borrow.Author.Tests.{eq-eqb, eqb-true}
@@ -10,9 +10,16 @@ use lib.Dec.{eqb}
 use lib.ListN.{length}
 use Rattle.slices.proofs.Bools.{both}
 use Rattle.text_matrix_market.specs.declared.stages.Entry.{Entry}
-use Rattle.text_matrix_market.specs.File.{samePair, hasPair, repeated}
+use Rattle.text_matrix_market.specs.File.{entryRow, entryColumn, pairAmong, repeats, repeated}
 use Rattle.text_tie_file.specs.File.{entryOf, PairTwice}
 use Rattle.text_tie_file.proofs.Bytes.{never}
+
+-- the test of two entries, and of an entry and a list
+abbrev samePair : Entry → Entry → Bool
+samePair t s = eqb (t .row) (s .row) && eqb (t .column) (s .column)
+
+abbrev hasPair : Entry → List Entry → Bool
+hasPair s entries = pairAmong (s .row) (s .column) (map entryRow entries) (map entryColumn entries)
 
 -- an entry of a list has this pair
 record Has (s : Entry) (entries : List Entry) : Type 0 where
@@ -29,7 +36,7 @@ same-test : (t s : Entry) → t .row ≡ s .row → t .column ≡ s .column → 
 same-test t s r c = rw (eq-eqb (t .row) (s .row) r, eq-eqb (t .column) (s .column) c)
 
 has-found : (s : Entry) (entries : List Entry) → hasPair s entries ≡ true → Has s entries
-unfolding hasPair
+unfolding pairAmong
 has-found s [] e = never cc
 has-found s (t ∷ entries) e = first (samePair t s) refl e (has-found s entries)
   where
@@ -39,13 +46,13 @@ has-found s (t ∷ entries) e = first (samePair t s) refl e (has-found s entries
 
 has-test : (s : Entry) (entries : List Entry) (k : ℕ) → k < length entries → entryOf entries k .row ≡ s .row → entryOf entries k .column ≡ s .column
     → hasPair s entries ≡ true
-unfolding hasPair
+unfolding pairAmong
 has-test s [] k h r c = let z : ⊥ = omega arith in absurd z
 has-test s (t ∷ entries) zero h r c = rw (same-test t s r c)
 has-test s (t ∷ entries) (suc k) h r c = rw (has-test s entries k (omega arith) r c) (or-true (samePair t s))
 
 twice-found : (entries : List Entry) → repeated entries ≡ true → PairTwice entries
-unfolding repeated
+unfolding repeats
 twice-found [] e = never cc
 twice-found (t ∷ entries) e = first (hasPair t entries) refl e (twice-found entries)
   where
@@ -67,7 +74,7 @@ twice-found (t ∷ entries) e = first (hasPair t entries) refl e (twice-found en
 
 twice-test : (entries : List Entry) (i j : ℕ) → i < j → j < length entries → entryOf entries i .row ≡ entryOf entries j .row
     → entryOf entries i .column ≡ entryOf entries j .column → repeated entries ≡ true
-unfolding repeated
+unfolding repeats
 twice-test [] i j a h r c = let z : ⊥ = omega arith in absurd z
 twice-test (t ∷ entries) i zero a h r c = let z : ⊥ = omega arith in absurd z
 twice-test (t ∷ entries) zero (suc j) a h r c = rw (has-test t entries j (omega arith) (sym r) (sym c))

@@ -9,9 +9,11 @@ use Rattle.float64.specs.Constants as Constants
 use Rattle.sparse.specs.Fault.{firstOf}
 use Rattle.sparse.specs.Matrix.{Matrix, matrix}
 use Rattle.whole_log.specs.Log.{wholeLog}
+use Rattle.matching.specs.Sum.{sumTo}
+use Rattle.sparse.specs.Pattern.{columnOf}
 use Rattle.mc64_columns.specs.Columns.{valueLogs, largest, largestFrom, normalised}
 use Rattle.mc64_columns.specs.Graphs.{joined, graphRows, graphCosts}
-use Rattle.mc64_symmetric.specs.Graph.{atMost, placesTo, mirroredColumns}
+use Rattle.mc64_symmetric.specs.Graph.{placesTo, mirroredColumns}
 use Rattle.whole_graphs.specs.Graphs.{finiteFault}
 
 -- -8, 3 and 1024
@@ -23,14 +25,14 @@ unfolding wholeLog magnitude unitsPerOne
 logs = refl
 
 rows : graphRows (mirroredColumns small) 3 ≡ 1 ∷ 2 ∷ 0 ∷ 2 ∷ 0 ∷ 1 ∷ []
-unfolding joined placesTo atMost ofBits eq
+unfolding joined placesTo columnOf sumTo ofBits eq
 rows = refl
 
 -- each column's largest logarithm minus its own: exact, and +0.0 for the largest
 costs : graphCosts (mirroredColumns small) (valueLogs (small .values)) 3
     ≡ ofInt binary64 (pos 0) ∷ ofInt binary64 (pos 92736) ∷ ofInt binary64 (pos 458752) ∷ ofInt binary64 (pos 0) ∷ ofInt binary64
     (pos 551488) ∷ ofInt binary64 (pos 0) ∷ []
-unfolding wholeLog magnitude unitsPerOne joined placesTo atMost ofBits ofInt eq normalised largest largestFrom lt sub add neg sum round units odd climb
+unfolding wholeLog magnitude unitsPerOne joined placesTo columnOf sumTo ofBits ofInt eq normalised largest largestFrom lt sub add neg sum round units odd climb
     size span
 costs = refl
 

@@ -3,12 +3,13 @@
 -- A square keeps that with 3 * d + 1 for d (`step`), and after all the room d is still far below what the bounds leave (`log-from`).
 use mathlib.Core.Path.{_≡_, sym, ap, _∙_, subst}
 use Prim.Native.Nat.{ℕ, zero, suc, _+_, _-_, _*_, _/_, _^_, _≤_, _<_}
-use native.Mathlib.Nat.{le-trans, le-of-eq, le-of-lt, lt-of-lt-of-le, lt-of-le-of-lt, lt-of-not-le, not-le-of-lt, add-mul, mul-add, add-assoc}
+use native.Mathlib.Nat.{le-trans, le-of-eq, lt-of-lt-of-le, lt-of-le-of-lt, add-mul, mul-add, add-assoc}
 use native.Mathlib.Nat.{mul-comm, mul-assoc, mul-one, one-mul}
-use native.Mathlib.Nat.{two-mul, mul-mul-mul-comm, mul-le-mul, mul-le-mul-left, mul-le-mul-right, mul-lt-mul-of-pos-right, le-of-mul-le-mul-right}
+use native.Mathlib.Nat.{two-mul, mul-mul-mul-comm, mul-le-mul, mul-le-mul-left, mul-le-mul-right, le-of-mul-le-mul-right}
 use native.Mathlib.Nat.{lt-of-mul-lt-mul-right, div-mul-le-self, lt-div-mul-add, le-div-iff-mul-le, div-lt-iff-lt-mul, pow-suc, pow-zero}
 use native.Mathlib.Omega.{arith}
 use lib.Pow.{pow-add, pow-pos}
+use Rattle.float64.proofs.Squares.{square-lt, root-lt}
 use Rattle.whole_log.specs.Log.{digitOf, squared, logFrom, Bounds}
 
 pub record Held (d m e Y : ℕ) : Type 0 where
@@ -23,12 +24,6 @@ record Cut (m b : ℕ) : Type 0 where
   near : 2 * m + 2 ^ 28 ≤ 3 * 2 ^ (31 + b)
   from : 2 ^ 31 * 2 ^ (31 + b) ≤ m * m
   to : m * m < 2 ^ 32 * 2 ^ (31 + b)
-
-pub square-lt : (a b : ℕ) → a < b → a * a < b * b
-square-lt a b h = lt-of-le-of-lt (mul-le-mul-left a (le-of-lt h)) (mul-lt-mul-of-pos-right h (omega arith))
-
-root-lt : (a b : ℕ) → a * a < b * b → a < b
-root-lt a b h = lt-of-not-le (λ (g : b ≤ a). not-le-of-lt h (mul-le-mul g g))
 
 cut : (m : ℕ) → 2 ^ 31 ≤ m → m < 2 ^ 32 → Cut m (digitOf m)
 cut m lo hi = go (digitOf m) (omega arith)

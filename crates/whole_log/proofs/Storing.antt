@@ -13,7 +13,9 @@ use lib.ListN.{length, set}
 use Rattle.refusal.specs.Refusal.{accepted, sliceLength, valueNotFinite}
 use Rattle.refusal.specs.Listed.{listed, OneOf, storedLogNumbers}
 use Rattle.whole_log.specs.Log.{numberOf, valueOf, logFault, wholeLog, Answer}
-use Rattle.whole_log.specs.Stored.{storedFault, storedBy, storedLog, Stored}
+use Rattle.slices.specs.Outcome.{outcomeIs, asNumber}
+use Rattle.slices.proofs.Refusing.{refused-is, done-is}
+use Rattle.whole_log.specs.Stored.{storedFault, Promises}
 use Rattle.whole_log.specs.declared.Log.{Log}
 use Rattle.whole_log.specs.declared.Log.the-variants.{Is, Refused}
 use Rattle.whole_log.proofs.Theorems.{number-is, log-correct}
@@ -30,10 +32,6 @@ stored-listed x p = go (eqb (length p) 1) x
     go true (fin s zero e) = refl
     go true (fin s (suc m) e) = refl
 
--- what the call promises of its number and its slice
-abbrev pub Promised : Float → List ℤ → ℕ → List ℤ → Type 0
-Promised x p number after = (number ≡ storedFault x p) × ((after ≡ storedLog x p) × (Stored x number after × OneOf storedLogNumbers number))
-
 -- a store into a list of one place
 only : (p : List ℤ) (z : ℤ) → length p ≡ 1 → set p 0 z ≡ z ∷ []
 only [] z h = let w : ⊥ = omega arith in absurd w
@@ -44,26 +42,30 @@ in-list : (x : Float) (p : List ℤ) {number : ℕ} → number ≡ storedFault x
 in-list x p e = subst (OneOf storedLogNumbers) (sym e) (stored-listed x p)
 
 -- a refusal leaves the slice
-refusing : (x : Float) (p : List ℤ) (fault : ℕ) → suc fault ≡ storedFault x p → Promised x p (suc fault) p
-refusing x p fault e = (e, (ap (λ (n : ℕ). storedBy n (valueOf (wholeLog x)) p) e, (λ h. let w : ⊥ = omega arith in absurd w, in-list x p e)))
+by-refusal : (x : Float) (p : List ℤ) (fault : ℕ) → suc fault ≡ storedFault x p → Promises x p (suc fault) p
+by-refusal x p fault e = record {
+  outcome = refused-is asNumber (outcomeIs accepted (valueOf (wholeLog x) ∷ [])) p e (λ z. let w : ⊥ = omega (arith, z) in absurd w);
+  bounds = λ h. let w : ⊥ = omega arith in absurd w;
+  number = in-list x p e;
+}
 
-pub other-length : (x : Float) (p : List ℤ) → length p ≢ 1 → Promised x p sliceLength p
-other-length x p h = refusing x p 2 (sym (ap (λ (b : Bool). cond b (logFault x) sliceLength) (ne-eqb (length p) 1 h)))
+pub other-length : (x : Float) (p : List ℤ) → length p ≢ 1 → Promises x p sliceLength p
+other-length x p h = by-refusal x p 2 (sym (ap (λ (b : Bool). cond b (logFault x) sliceLength) (ne-eqb (length p) 1 h)))
 
 -- with one place the fault is that of x
 one-place : (x : Float) (p : List ℤ) → length p ≡ 1 → storedFault x p ≡ logFault x
 one-place x p h = ap (λ (b : Bool). cond b (logFault x) sliceLength) (eq-eqb (length p) 1 h)
 
-pub found : (x : Float) (p : List ℤ) (log z : ℤ) → T (fits binary64 x) → length p ≡ 1 → wholeLog x ≡ Is log → z ≡ log → Promised x p accepted (set p 0 z)
+pub found : (x : Float) (p : List ℤ) (log z : ℤ) → T (fits binary64 x) → length p ≡ 1 → wholeLog x ≡ Is log → z ≡ log → Promises x p accepted (set p 0 z)
 found x p log z t h e k =
     let n : storedFault x p ≡ accepted = one-place x p h ∙ sym (number-is x) ∙ ap numberOf e in
-    let s : set p 0 z ≡ log ∷ [] = only p z h ∙ ap (λ (a : ℤ). a ∷ []) k in (
-      sym n,
-      (
-        s ∙ sym (ap (λ (a : ℕ). storedBy a (valueOf (wholeLog x)) p) n ∙ ap (λ (a : Log). valueOf a ∷ []) e),
-        (λ _. (log, s, subst (Answer x) e (log-correct x t)), in-list x p (sym n)),
-      ),
-    )
+    let s : set p 0 z ≡ log ∷ [] = only p z h ∙ ap (λ (a : ℤ). a ∷ []) k in
+    let v : set p 0 z ≡ valueOf (wholeLog x) ∷ [] = s ∙ sym (ap (λ (a : Log). valueOf a ∷ []) e) in
+    record {
+      outcome = done-is asNumber (outcomeIs accepted (valueOf (wholeLog x) ∷ [])) p n (ap (λ (a : List ℤ). outcomeIs accepted a) v);
+      bounds = λ _. (log, s, subst (Answer x) e (log-correct x t));
+      number = in-list x p (sym n);
+    }
 
 -- and a refusal's is 9
 nine : (x : Float) (number : ℕ) → wholeLog x ≡ Refused number → number ≡ valueNotFinite
@@ -80,7 +82,7 @@ nine (fin s (suc m) k) number e = absurd (is-no-refusal e)
     is-no-refusal : {p : ℤ} → Is p ≡ Refused number → ⊥
     is-no-refusal e = true≢false (ap is-log e)
 
-pub refused : (x : Float) (p : List ℤ) (number : ℕ) → length p ≡ 1 → wholeLog x ≡ Refused number → Promised x p number p
+pub refused : (x : Float) (p : List ℤ) (number : ℕ) → length p ≡ 1 → wholeLog x ≡ Refused number → Promises x p number p
 refused x p number h e =
     let n : valueNotFinite ≡ storedFault x p = sym (nine x number e) ∙ sym (ap numberOf e) ∙ number-is x ∙ sym (one-place x p h) in
-    subst (λ (k : ℕ). Promised x p k p) (sym (nine x number e)) (refusing x p 8 n)
+    subst (λ (k : ℕ). Promises x p k p) (sym (nine x number e)) (by-refusal x p 8 n)

@@ -3,11 +3,11 @@
 ghost use mathlib.Core.Path.{_≡_};
 ghost use Prim.Native.Nat.{_*_, _^_, _≤_, _<_};
 ghost use lib.Ieee.{binary64, ofBits};
-ghost use Rattle.refusal.specs.Listed.{OneOf, logNumbers, storedLogNumbers};
+ghost use Rattle.refusal.specs.Listed.{OneOf, logNumbers};
 ghost use Rattle.float64.specs.Number.{magnitude};
 ghost use Rattle.whole_log.specs.Log.{numberOf, doubleOf, logFault, wholeLog, Answer};
 ghost use Rattle.whole_log.specs.Log.{logOf, logFrom, fromUnits};
-ghost use Rattle.whole_log.specs.Stored.{storedFault, storedLog, Stored};
+ghost use Rattle.whole_log.specs.Stored.{Promises};
 
 // The logarithm of a number, or the number of the refusal.
 pub enum Log {
@@ -34,10 +34,7 @@ pub fn whole_log(x: f64) -> Log
 // The logarithm of x into a slice of one number. Answers 0 or the number of the refusal; a refused call leaves the
 // slice as it is.
 pub fn store_log(x: f64, p: &mut [i32]) -> u32
-    ensures fault { λ r. ⌜ r ≡ storedFault x (now (p .entry)) ⌝ }
-    ensures slice { λ r. ⌜ now (p .exit) ≡ storedLog x (now (p .entry)) ⌝ }
-    ensures bounds { λ r. ⌜ Stored x r (now (p .exit)) ⌝ }
-    ensures number { λ r. ⌜ OneOf storedLogNumbers r ⌝ }
+    ensures { λ r. ⌜ Promises x (now (p .entry)) r (now (p .exit)) ⌝ }
 {
     if p.len() != 1 {
         return refusal::SLICE_LENGTH;

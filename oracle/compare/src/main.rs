@@ -1,8 +1,8 @@
 //! The proved library and programs against the original, on random and damaged inputs: the answer of every call,
 //! every bit of every lent slice, every byte printed. Ends with a line for each call; status 1 if anything differs.
 //! `compare sparse|match|check|gap|largest|rows|sheets|ties|pairs|graphs|factors|exponents|flat|
-//! infnorm|scaling|logs|symmetric [COUNT] [SEED]`; `compare list` writes the list that the program `evidence_replay` reads. What
-//! the original has not is held to its rules, restated here.
+//! infnorm|scaling|logs|symmetric [COUNT] [SEED]`; `compare list` writes the list that the program `evidence_replay`
+//! reads. What the original lacks is compared with its rules, restated here.
 
 mod check;
 mod differs;

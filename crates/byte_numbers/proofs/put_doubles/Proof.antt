@@ -18,11 +18,8 @@ abbrev μ-loop : tie.MeasureT-loop
 μ-loop values out₀ i₀ out i = length values - i
 
 -- places of the proof, each from a later one
-abbrev bits-of-of-slice-known2 : tie.After-slice-known2 Inv-loop μ-loop → tie.After-bits-of Inv-loop μ-loop
-bits-of-of-slice-known2 c = c .before .before .before
-
 abbrev loop-of-slice-known2 : tie.After-slice-known2 Inv-loop μ-loop → tie.At-loop Inv-loop μ-loop
-loop-of-slice-known2 c = bits-of-of-slice-known2 c .before .before .before .before
+loop-of-slice-known2 c = c .before .before .before .before .before .before
 
 abbrev entry-of-slice-known2 : tie.After-slice-known2 Inv-loop μ-loop → tie.Start Inv-loop μ-loop
 entry-of-slice-known2 c = loop-of-slice-known2 c .before .before .before
@@ -30,20 +27,17 @@ entry-of-slice-known2 c = loop-of-slice-known2 c .before .before .before
 loop-holds : tie.Need-loop-holds Inv-loop μ-loop
 loop-holds c = (omega arith, refl, lay-none 8 (bitsOf (c .before .before .args .values .now)) (c .before .before .args .out .now))
 
-mul-put-u64 : tie.Need-mul-put-u64 Inv-loop μ-loop
-mul-put-u64 c = omega arith
+mul-put-double : tie.Need-mul-put-double Inv-loop μ-loop
+mul-put-double c = omega arith
 
-mul-bits-of : tie.Need-mul-bits-of Inv-loop μ-loop
-mul-bits-of c = omega arith
+mul-put-double-2 : tie.Need-mul-put-double-2 Inv-loop μ-loop
+mul-put-double-2 c = omega arith
 
-shared-slice-read-bits-of : tie.Need-shared-slice-read-bits-of Inv-loop μ-loop
-shared-slice-read-bits-of c = omega arith
+shared-slice-read-put-double : tie.Need-shared-slice-read-put-double Inv-loop μ-loop
+shared-slice-read-put-double c = omega arith
 
-bits-of-requires : tie.Need-bits-of-requires Inv-loop μ-loop
-bits-of-requires c κs = omega arith
-
-put-u64-requires : tie.Need-put-u64-requires Inv-loop μ-loop
-put-u64-requires c κs = omega arith
+put-double-requires : tie.Need-put-double-requires Inv-loop μ-loop
+put-double-requires c κs = omega arith
 
 add-i : tie.Need-add-i Inv-loop μ-loop
 add-i c = omega arith
@@ -58,9 +52,9 @@ loop-again c =
     let n : length (bitsOf (args .values .now)) ≡ length (args .values .now) = bits-length (args .values .now) in
     let h : length (args .out .now) ≡ 8 * length (bitsOf (args .values .now)) = omega arith in (
       omega arith,
-      c .before .before .put-u64 .kept .0 ∙ l .inv .1,
-      c .before .before .put-u64 .ensures ∙ ap (λ (v : ℕ). sets (l .out) (8 * l .i) (bytesOf 8 v))
-          (bits-of-of-slice-known2 c .bits-of .ensures ∙ sym (bits-at (args .values .now) (l .i)))
+      c .before .before .put-double .kept .0 ∙ l .inv .1,
+      c .before .before .put-double .ensures ∙ ap (λ (v : ℕ). sets (l .out) (8 * l .i) (bytesOf 8 v))
+          (sym (bits-at (args .values .now) (l .i)))
           ∙ ap (λ (x : List ℕ). sets x (8 * l .i) (bytesOf 8 (getD (bitsOf (args .values .now)) (l .i) (toBits binary64 nan)))) (l .inv .2)
           ∙ lay-more 8 (bitsOf (args .values .now)) (args .out .now) (l .i) (toBits binary64 nan) (omega arith) (sym (ap length (l .inv .2)) ∙ l .inv .1 ∙ h),
     )
@@ -84,11 +78,10 @@ put-doubles-spec =
     Inv-loop
     μ-loop
     loop-holds
-    mul-put-u64
-    mul-bits-of
-    shared-slice-read-bits-of
-    bits-of-requires
-    put-u64-requires
+    mul-put-double
+    mul-put-double-2
+    shared-slice-read-put-double
+    put-double-requires
     add-i
     loop-less
     loop-again

@@ -4,7 +4,6 @@ use Prim.Native.Nat.{_-_, _≤_}
 use native.Mathlib.Omega.{arith}
 use lib.ListN.{length, length-set}
 use Rattle.byte_numbers.specs.Bytes.{doubles}
-use lib.Ieee.{binary64, ofBits}
 use borrow.Author.Needs.{needs}
 use Rattle.byte_numbers.proofs.Words.{filled, fill-none, fill-more, fill-all, doubleAt, doubles-are}
 use Rattle.byte_numbers.proofs.read_doubles.Statement.{statement}
@@ -20,20 +19,17 @@ abbrev μ-loop : tie.MeasureT-loop
 abbrev entry-of-after-loop : tie.After-loop Inv-loop μ-loop → tie.Start Inv-loop μ-loop
 entry-of-after-loop c = c .before .before .before .before
 
-abbrev entry-of-double-of : tie.After-double-of Inv-loop μ-loop → tie.Start Inv-loop μ-loop
-entry-of-double-of c = c .before .before .before .before .before .before
+abbrev entry-of-get-double : tie.After-get-double Inv-loop μ-loop → tie.Start Inv-loop μ-loop
+entry-of-get-double c = c .before .before .before .before .before
 
 loop-holds : tie.Need-loop-holds Inv-loop μ-loop
 loop-holds c = (omega arith, refl, fill-none (doubleAt (c .before .before .args .bytes .now)) (c .before .before .args .out .now))
 
-mul-get-u64 : tie.Need-mul-get-u64 Inv-loop μ-loop
-mul-get-u64 c = omega arith
+mul-get-double : tie.Need-mul-get-double Inv-loop μ-loop
+mul-get-double c = omega arith
 
-get-u64-requires : tie.Need-get-u64-requires Inv-loop μ-loop
-get-u64-requires c κs = search needs
-
-double-of-requires : tie.Need-double-of-requires Inv-loop μ-loop
-double-of-requires c κs = search needs
+get-double-requires : tie.Need-get-double-requires Inv-loop μ-loop
+get-double-requires c κs = search needs
 
 mul-out : tie.Need-mul-out Inv-loop μ-loop
 mul-out c = omega arith
@@ -49,15 +45,14 @@ loop-less c = omega arith
 
 loop-again : tie.Need-loop-again Inv-loop μ-loop
 loop-again c =
-    let l = c .before .before .before .loop in (
+    let l = c .before .before .loop in (
       omega arith,
       simp length-set (l .inv .1),
       rw (
         l .inv .2,
-        c .double-of .ensures ∙ ap (ofBits binary64)
-            (c .before .get-u64 .ensures),
-      ) (fill-more (doubleAt (entry-of-double-of c .args .bytes .now))
-          (entry-of-double-of c .args .out .now) (l .i) (omega arith)),
+        c .get-double .ensures,
+      ) (fill-more (doubleAt (entry-of-get-double c .args .bytes .now))
+          (entry-of-get-double c .args .out .now) (l .i) (omega arith)),
     )
 
 same-length : tie.Need-same-length Inv-loop μ-loop
@@ -79,9 +74,8 @@ read-doubles-spec =
     Inv-loop
     μ-loop
     loop-holds
-    mul-get-u64
-    get-u64-requires
-    double-of-requires
+    mul-get-double
+    get-double-requires
     mul-out
     slice-write-out
     add-i

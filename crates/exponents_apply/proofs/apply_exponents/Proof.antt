@@ -1,5 +1,5 @@
 -- `apply_exponents` meets its contract: each refusal is the first fault of the chain and leaves the values; after all tests the values are scaled.
-use mathlib.Core.Path.{_≡_, sym, ap, _∙_}
+use mathlib.Core.Path.{_≡_, sym, _∙_}
 use mathlib.Core.List.{List}
 use Prim.Native.Nat.{ℕ, _+_}
 use lib.Dec.{eqb}

@@ -1,5 +1,5 @@
 -- `enter_column` meets its contract. The loop's invariant: the entries before k have entered.
-use mathlib.Core.Path.{_≡_, refl, sym, _∙_, subst}
+use mathlib.Core.Path.{_≡_, refl, _∙_, subst}
 use Prim.Native.Nat.{ℕ, _+_, _≤_, _<_, _-_}
 use native.Mathlib.Numerals.{add-one}
 use native.Mathlib.Omega.{arith}
@@ -7,7 +7,9 @@ use mathlib.Core.List.{List}
 use lib.Ieee.{Float}
 use lib.ListN.{length, getD}
 use Rattle.sparse.specs.Matrix.{matrix}
-use Rattle.mc64_symmetric.proofs.Places.{In, place-below, row-below, pointers-up}
+use Rattle.sparse.specs.Pattern.{pattern, InColumn}
+use Rattle.sparse.proofs.Columns.{pointers-rise}
+use Rattle.mc64_symmetric.proofs.Places.{place-below, row-below}
 use Rattle.factors_mc64.specs.Calls.{slices}
 use Rattle.factors_flat.specs.inner.Steps.{Enters}
 use Rattle.factors_flat.proofs.Sums.{enters-none, enters-dropped, enters-more}
@@ -58,11 +60,11 @@ entry-of-slice-known4 c = entry-of-in-loop (in-loop-of-slice-known4 c)
 
 -- the place k stands in column j
 in-column : (c : tie.In-loop Inv-loop μ-loop) → let a = entry-of-in-loop c .args in
-    In (matrix (length (a .factors .now)) (a .col-ptr .now) (a .row-idx .now) (a .values .now)) (a .j) (c .before .loop .k)
+    InColumn (pattern (length (a .factors .now)) (a .col-ptr .now) (a .row-idx .now)) (a .j) (c .before .loop .k)
 in-column c = record {
   column = entry-of-in-loop c .pre .0 .0;
-  from = c .before .loop .inv .0;
-  to =
+  above = c .before .loop .inv .0;
+  below =
       rw add-one at (c .loop-test .taken);
 }
 
@@ -121,7 +123,7 @@ loop-holds c =
     let p = entry-of-shared-slice-known6 c .pre in (
       omega arith,
       subst (λ (i : ℕ). getD (a .col-ptr .now) (a .j) 0 ≤ getD (a .col-ptr .now) i 0) (omega arith)
-          (pointers-up (matrix (length (a .factors .now)) (a .col-ptr .now) (a .row-idx .now) (a .values .now)) (p .1 .triangle) (a .j) (a .j + 1) (omega arith)
+          (pointers-rise (pattern (length (a .factors .now)) (a .col-ptr .now) (a .row-idx .now)) (p .1 .triangle .columns) (a .j) (a .j + 1) (omega arith)
           (omega (arith, p .0 .0))),
       refl,
       refl,

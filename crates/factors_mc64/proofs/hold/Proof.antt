@@ -1,7 +1,6 @@
 -- `hold` meets its contract: only a NaN differs from itself.
 use mathlib.Core.Path.{_≡_, refl}
 use mathlib.Core.Bool.{true, false, true≢false}
-use lib.Dec.{T}
 use lib.Ieee.{Float, nan, inf, fin, isNan, ne}
 use lib.Ieee.Compare.{differs-from-itself}
 use Rattle.factors_mc64.specs.Factors.{held}

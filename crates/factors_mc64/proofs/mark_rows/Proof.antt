@@ -1,10 +1,8 @@
 -- `mark_rows` meets its contract. The loop's invariant: the rows among the first k of perm are marked.
 use mathlib.Core.Path.{_≡_, subst}
 use mathlib.Core.Logic.{⊎-elim}
-use mathlib.Core.List.{List}
 use Prim.Native.Nat.{ℕ, _-_, _≤_}
 use native.Mathlib.Omega.{arith}
-use lib.ListN.{length}
 use Rattle.factors_mc64.specs.inner.Steps.{Marked}
 use Rattle.factors_mc64.proofs.Loops.{row-inside, mark-none, mark-row}
 use Rattle.factors_mc64.proofs.mark_rows.Statement.{statement}

@@ -1,8 +1,6 @@
 -- `write_factors` meets its contract: cleared work is marked, the factors are filled, the work is cleared again.
 use mathlib.Core.Path.{refl}
-use mathlib.Core.List.{List}
 use native.Mathlib.Omega.{arith}
-use lib.ListN.{length}
 use Rattle.factors_mc64.proofs.Loops.{no-marks}
 use borrow.Author.Needs.{needs}
 use Rattle.factors_mc64.proofs.write_factors.Statement.{statement}

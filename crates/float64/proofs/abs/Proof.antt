@@ -2,7 +2,6 @@
 use mathlib.Core.Path.{sym, subst, _∙_}
 use borrow.Author.Needs.{needs}
 use lib.Dec.{T}
-use lib.Ieee.{eq}
 use Rattle.float64.specs.Constants as Constants
 use Rattle.float64.proofs.Functions.{size-zero, size-other}
 use Rattle.float64.proofs.abs.Statement.{statement}

@@ -2,7 +2,6 @@
 use mathlib.Core.Path.{_∙_}
 use borrow.Author.Needs.{needs}
 use native.Mathlib.Omega.{arith}
-use lib.ListN.{length}
 use Rattle.hungarian.specs.Graph.{graphOf}
 use Rattle.hungarian_claim.specs.inner.Memory.{Sound}
 use Rattle.hungarian_init.proofs.Begins.{sound, claimable, begun-early, improvable, begun-late}

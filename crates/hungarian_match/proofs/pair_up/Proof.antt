@@ -1,5 +1,5 @@
 -- `pair_up` meets its contract: the start leaves what the searches ask, and either end leaves the last pairs.
-use mathlib.Core.Path.{sym, _∙_}
+use mathlib.Core.Path.{_∙_}
 use Rattle.hungarian_match.proofs.pair_up.Statement.{statement}
 use Rattle.hungarian_match.proofs.pair_up.Tie as tie
 use Rattle.hungarian_match.proofs.Calls.{searchable, paired-early, paired-late}

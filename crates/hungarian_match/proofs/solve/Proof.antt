@@ -1,7 +1,6 @@
 -- `solve` meets its contract: the last pairs can be finished, and what is finished from them is the match.
 use mathlib.Core.Path.{ap, _∙_}
 use Prim.Native.Nat.{ℕ}
-use borrow.Author.Needs.{needs}
 use native.Mathlib.Omega.{arith}
 use lib.ListN.{replicate}
 use Rattle.float64.specs.Constants.{zero as fzero}

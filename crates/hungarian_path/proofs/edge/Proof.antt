@@ -1,6 +1,5 @@
 -- `hungarian_path::edge` meets its contract: each return is a law of Edges, from the tests on its way.
 use native.Mathlib.Omega.{arith}
-use lib.Ieee.{le}
 use Rattle.hungarian_path.proofs.Edges.{edge-far, edge-popped, edge-reach, edge-relax, unpopped}
 use Rattle.hungarian_path.proofs.edge.Statement.{statement}
 use Rattle.hungarian_path.proofs.edge.Tie as tie

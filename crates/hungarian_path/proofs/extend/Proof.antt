@@ -2,7 +2,7 @@
 use mathlib.Core.Path.{refl, _∙_}
 use Prim.Native.Nat.{_+_, _*_}
 use native.Mathlib.Omega.{arith}
-use lib.ListN.{length, getD}
+use lib.ListN.{getD}
 use Rattle.hungarian_path.proofs.Growths.{first-row, pop-asks, code-ranges, code-asks, code-done}
 use Rattle.hungarian_path.proofs.extend.Statement.{statement}
 use Rattle.hungarian_path.proofs.extend.Tie as tie

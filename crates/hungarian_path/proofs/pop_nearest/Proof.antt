@@ -1,9 +1,8 @@
 -- `hungarian_path::pop_nearest` meets its contract: what the heap's `pop` promises and two stores, by Popping.
 use borrow.Author.Needs.{needs}
-use mathlib.Core.Path.{_≡_, _∙_}
 use Prim.Native.Nat.{_<_}
 use native.Mathlib.Omega.{arith}
-use lib.ListN.{length, length-set}
+use lib.ListN.{length-set}
 use Rattle.hungarian_path.proofs.Popping.{code-asks, code-row, code-popped}
 use Rattle.hungarian_path.proofs.pop_nearest.Statement.{statement}
 use Rattle.hungarian_path.proofs.pop_nearest.Tie as tie

@@ -1,5 +1,5 @@
 -- `hungarian_path::scan` meets its contract: the loop's invariant is `ScanAt`, whose laws are in Scans; the measure is what is left of the column.
-use mathlib.Core.Path.{_≡_, ap, subst}
+use mathlib.Core.Path.{_≡_, subst}
 use Prim.Native.Nat.{ℕ, suc, _+_, _-_, _≤_, _<_}
 use native.Mathlib.Numerals.{add-one}
 use native.Mathlib.Omega.{arith}

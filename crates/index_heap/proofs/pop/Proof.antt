@@ -1,5 +1,5 @@
 -- `index_heap::pop` meets its contract: the store takes the top out, and `sift_down` puts the last row at its place, unless it was the only one.
-use mathlib.Core.Path.{_≡_, _∙_}
+use mathlib.Core.Path.{_∙_}
 use Prim.Native.Nat.{_<_}
 use native.Mathlib.Nat.{le-refl}
 use native.Mathlib.Omega.{arith}

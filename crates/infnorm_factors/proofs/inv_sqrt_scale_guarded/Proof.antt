@@ -6,19 +6,16 @@ use borrow.Author.Needs.{needs}
 use Rattle.infnorm_factors.proofs.inv_sqrt_scale_guarded.Statement.{statement}
 use Rattle.infnorm_factors.proofs.inv_sqrt_scale_guarded.Tie as tie
 
-root-requires : tie.Need-root-requires
-root-requires c κs = search needs
-
 guarded-requires : tie.Need-guarded-requires
 guarded-requires c κs = search needs
 
 returns : tie.Need-returns
 unfolding invSqrtScaleGuarded ofBits
-returns c = rw (c .before .before .if1 .taken, c .guarded .ensures, c .before .root .ensures) refl
+returns c = rw (c .before .if1 .taken, c .guarded .ensures, c .before .before .pre (c .before .if1 .taken)) refl
 
 returns-2 : tie.Need-returns-2
 unfolding invSqrtScaleGuarded
 returns-2 c = rw (c .if1 .left) refl
 
 pub inv-sqrt-scale-guarded-spec : {M : Type 1} → statement M
-inv-sqrt-scale-guarded-spec = tie.close (tie.spec root-requires guarded-requires returns returns-2)
+inv-sqrt-scale-guarded-spec = tie.close (tie.spec guarded-requires returns returns-2)

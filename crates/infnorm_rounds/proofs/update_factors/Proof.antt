@@ -1,93 +1,103 @@
--- `update_factors` meets its contract. The loop's invariant: the rows below i have their factors, and the deviations from i on are those that are left.
-use mathlib.Core.Path.{_≡_, refl, sym, ap, ap₂, _∙_}
-use Prim.Native.Nat.{_≤_, _-_}
+-- `update_factors` meets its contract. The loop's invariant: the rows below `from` have their factors, and the deviations from there on are left.
+use mathlib.Core.Path.{_≡_, refl, sym, ap₂, _∙_}
+use Prim.Native.Nat.{_-_, _≤_}
+use native.Mathlib.Nat.{le-refl}
 use native.Mathlib.Omega.{arith}
-use lib.Ieee.{Float, nan}
-use lib.ListN.{length, getD, drop}
+use lib.ListN.{length, drop}
 use Rattle.float64.specs.Constants as Constants
 use Rattle.infnorm_factors.specs.Factors.{newFactor, zipped, deviatingAll, roundIs}
 use Rattle.slices.specs.inner.Steps.{Front}
-use Rattle.slices.proofs.Fronts.{front-start, front-reads, front-next, front-end}
-use Rattle.infnorm_rounds.proofs.Rounds.{length-zipped, getD-zipped, deviation-next, deviation-end}
+use Rattle.slices.proofs.Fronts.{front-start, front-end}
+use Rattle.infnorm_rounds.proofs.Rounds.{length-zipped, deviation-end}
 use Rattle.infnorm_rounds.proofs.update_factors.Statement.{statement}
 use Rattle.infnorm_rounds.proofs.update_factors.Tie as tie
 
 abbrev Inv-loop : tie.InvT-loop
-Inv-loop factors₀ work largest₀ i₀ i-end factors largest i = (i ≤ length factors₀) × Front (zipped newFactor factors₀ work) factors₀ factors i
-    × (deviatingAll Constants.zero work ≡ deviatingAll largest (drop i work))
+Inv-loop factors₀ work roots₀ largest₀ from₀ factors roots largest from = (from ≤ length work) × (length factors₀ ≡ length work) × (length roots ≡ 16)
+    × Front (zipped newFactor factors₀ work) factors₀ factors from × (deviatingAll Constants.zero work ≡ deviatingAll largest (drop from work))
 
 abbrev μ-loop : tie.MeasureT-loop
-μ-loop factors₀ work largest₀ i₀ i-end factors largest i = length factors₀ - i
+μ-loop factors₀ work roots₀ largest₀ from₀ factors roots largest from = length work - from
 
 -- places of the proof, each from a later one
-abbrev loop-of-new-factor : tie.After-new-factor Inv-loop μ-loop → tie.At-loop Inv-loop μ-loop
-loop-of-new-factor c = c .before .before .before .before
+abbrev entry-of-loop : tie.At-loop Inv-loop μ-loop → tie.Start Inv-loop μ-loop
+entry-of-loop c = c .before .before .before
 
-abbrev loop-of-deviating : tie.After-deviating Inv-loop μ-loop → tie.At-loop Inv-loop μ-loop
-loop-of-deviating c = loop-of-new-factor (c .before)
+abbrev loop-of-roots-of : tie.After-roots-of Inv-loop μ-loop → tie.At-loop Inv-loop μ-loop
+loop-of-roots-of c = c .before .before .before
 
-abbrev entry-of-deviating : tie.After-deviating Inv-loop μ-loop → tie.Start Inv-loop μ-loop
-entry-of-deviating c = loop-of-deviating c .before .before .before
+abbrev roots-of-of-update-block : tie.After-update-block Inv-loop μ-loop → tie.After-roots-of Inv-loop μ-loop
+roots-of-of-update-block c = c .before .before .before .before
+
+abbrev loop-of-update-rest : tie.After-update-rest Inv-loop μ-loop → tie.At-loop Inv-loop μ-loop
+loop-of-update-rest c = c .before .before .before
 
 loop-holds : tie.Need-loop-holds Inv-loop μ-loop
-loop-holds c = (
-  omega arith,
-  front-start _ _ (length-zipped newFactor (c .before .before .args .factors .now) (c .before .before .args .work .now) (c .before .before .pre)),
-  refl,
-)
+loop-holds c =
+    let entry = c .before .before in
+    (omega arith, entry .pre, refl, front-start _ _ (length-zipped newFactor (entry .args .factors .now) (entry .args .work .now) (entry .pre)), refl)
 
-mul-m : tie.Need-mul-m Inv-loop μ-loop
-mul-m c = omega (arith, c .before .loop .inv .1 .same)
+sub-loop : tie.Need-sub-loop Inv-loop μ-loop
+sub-loop c = omega (arith, c .loop .inv .3 .same)
 
-shared-slice-read-m : tie.Need-shared-slice-read-m Inv-loop μ-loop
-shared-slice-read-m c = omega (arith, c .before .before .loop .inv .1 .same)
+slice-aggregate-roots-of : tie.Need-slice-aggregate-roots-of Inv-loop μ-loop
+slice-aggregate-roots-of c = sym (c .before .before .loop .inv .2)
 
-mul-new-factor : tie.Need-mul-new-factor Inv-loop μ-loop
-mul-new-factor c = omega (arith, c .before .before .loop .inv .1 .same)
+roots-of-requires : tie.Need-roots-of-requires Inv-loop μ-loop
+roots-of-requires c κs =
+    let loop = c .before .before .loop in
+    (omega (arith, loop .inv .3 .same), loop .inv .2)
 
-slice-read-new-factor : tie.Need-slice-read-new-factor Inv-loop μ-loop
-slice-read-new-factor c = omega (arith, c .before .before .before .loop .inv .1 .same)
+slice-aggregate-update-block : tie.Need-slice-aggregate-update-block Inv-loop μ-loop
+slice-aggregate-update-block c =
+    let roots-of = c .before .before .before in
+    sym (roots-of .roots-of .kept .1 .1 .0 ∙ loop-of-roots-of roots-of .loop .inv .2)
 
-new-factor-requires : tie.Need-new-factor-requires Inv-loop μ-loop
-new-factor-requires c κs = tt
+update-block-requires : tie.Need-update-block-requires Inv-loop μ-loop
+update-block-requires c κs =
+    let roots-of = c .before .before .before in
+    let loop = loop-of-roots-of roots-of .loop in (
+      (loop .inv .3 .same ∙ loop .inv .1, omega (arith, roots-of .before .before .loop-test .taken, loop .inv .3 .same)),
+      (roots-of .roots-of .kept .1 .1 .0 ∙ loop .inv .2, roots-of .roots-of .ensures),
+    )
 
-mul-factors : tie.Need-mul-factors Inv-loop μ-loop
-mul-factors c = omega (arith, loop-of-new-factor c .loop .inv .1 .same)
-
-slice-write-factors : tie.Need-slice-write-factors Inv-loop μ-loop
-slice-write-factors c = omega (arith, loop-of-new-factor c .loop .inv .1 .same)
-
-deviating-requires : tie.Need-deviating-requires Inv-loop μ-loop
-deviating-requires c κs = tt
-
-add-i : tie.Need-add-i Inv-loop μ-loop
-add-i c = omega (arith, loop-of-deviating c .loop .inv .1 .same)
+add-from : tie.Need-add-from Inv-loop μ-loop
+add-from c =
+    let roots-of = roots-of-of-update-block (c .before .before) in
+    omega (arith, roots-of .before .before .loop-test .taken, loop-of-roots-of roots-of .loop .inv .3 .same)
 
 loop-less : tie.Need-loop-less Inv-loop μ-loop
-loop-less c = omega (arith, loop-of-deviating c .loop .inv .1 .same)
+loop-less c =
+    let roots-of = roots-of-of-update-block (c .before .before) in
+    omega (arith, roots-of .before .before .loop-test .taken, loop-of-roots-of roots-of .loop .inv .3 .same)
 
 loop-again : tie.Need-loop-again Inv-loop μ-loop
 loop-again c =
-    let args = entry-of-deviating c .args in (
-      omega arith,
-      front-next (loop-of-deviating c .loop .inv .1) (omega arith)
-          (c .before .new-factor .ensures ∙ ap (λ (d : Float). newFactor d
-          (getD (args .work .now) (loop-of-deviating c .loop .i) nan))
-          (front-reads (loop-of-deviating c .loop .inv .1)) ∙ sym
-          (getD-zipped newFactor (args .factors .now) (args .work .now) (loop-of-deviating c .loop .i)
-          (entry-of-deviating c .pre) (omega arith))),
-      deviation-next
-          (loop-of-deviating c .loop .largest) (args .work .now)
-          (loop-of-deviating c .loop .i) (loop-of-deviating c .loop .inv .2)
-          (omega arith) (c .deviating .ensures),
+    let roots-of = roots-of-of-update-block (c .before .before) in
+    let loop = loop-of-roots-of roots-of .loop in (
+      omega (arith, roots-of .before .before .loop-test .taken, loop .inv .3 .same),
+      loop .inv .1,
+      roots-of .roots-of .kept .1 .1 .0 ∙ loop .inv .2,
+      c .before .before .update-block .ensures .come _ (loop .inv .3),
+      loop .inv .4 ∙ c .before .before .update-block .ensures .left,
     )
 
+update-rest-requires : tie.Need-update-rest-requires Inv-loop μ-loop
+update-rest-requires c κs =
+    let loop = c .before .before .loop in
+    (loop .inv .3 .same ∙ loop .inv .1, loop .inv .0)
+
 same-length : tie.Need-same-length Inv-loop μ-loop
-same-length c = c .before .loop .inv .1 .same
+same-length c =
+    let rest = c .before .before in
+    rest .update-rest .kept .0 ∙ loop-of-update-rest rest .loop .inv .3 .same
 
 returns : tie.Need-returns Inv-loop μ-loop
-returns c = ap₂ roundIs (front-end (c .before .loop .inv .1) (omega arith))
-    (deviation-end (c .before .loop .largest) (c .before .before .before .before .args .work .now) (c .before .loop .i) (c .before .loop .inv .2) (omega arith))
+returns c =
+    let rest = c .before .before in
+    let loop = loop-of-update-rest rest .loop in
+    ap₂ roundIs (front-end (rest .update-rest .ensures .come _ (loop .inv .3)) (omega arith))
+    (deviation-end _ (entry-of-loop (loop-of-update-rest rest) .args .work .now) _ (loop .inv .4 ∙ rest .update-rest .ensures .left) (le-refl _))
 
 pub update-factors-spec : {M : Type 1} → statement M
 update-factors-spec =
@@ -96,16 +106,14 @@ update-factors-spec =
     Inv-loop
     μ-loop
     loop-holds
-    mul-m
-    shared-slice-read-m
-    mul-new-factor
-    slice-read-new-factor
-    new-factor-requires
-    mul-factors
-    slice-write-factors
-    deviating-requires
-    add-i
+    sub-loop
+    slice-aggregate-roots-of
+    roots-of-requires
+    slice-aggregate-update-block
+    update-block-requires
+    add-from
     loop-less
     loop-again
+    update-rest-requires
     same-length
     returns)

@@ -1,5 +1,5 @@
 -- `digits_of` meets its contract: its test is the definition's.
-use mathlib.Core.Path.{_≡_, sym}
+use mathlib.Core.Path.{sym}
 use native.Mathlib.Omega.{arith}
 use borrow.Author.Needs.{needs}
 use Rattle.match_gap.proofs.Shifts.{small-digits, large-digits}

@@ -1,5 +1,4 @@
 -- `gap_fault` meets its contract: each return is the first fault of the chain.
-use mathlib.Core.Path.{_∙_}
 use borrow.Author.Needs.{needs}
 use borrow.Author.Tests.{not-true, not-false}
 use Rattle.match_check.proofs.Calling.{ready}

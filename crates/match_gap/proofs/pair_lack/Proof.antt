@@ -1,6 +1,4 @@
 -- `pair_lack` meets its contract: its test is the definition's.
-use mathlib.Core.Path.{refl}
-use native.Mathlib.Omega.{arith}
 use borrow.Author.Needs.{needs}
 use Rattle.match_gap.proofs.pair_lack.Statement.{statement}
 use Rattle.match_gap.proofs.pair_lack.Tie as tie

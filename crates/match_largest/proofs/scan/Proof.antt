@@ -4,9 +4,9 @@ use mathlib.Core.List.{List}
 use Prim.Native.Nat.{ℕ, suc, _+_, _-_, _≤_, _<_}
 use native.Mathlib.Numerals.{add-one}
 use native.Mathlib.Omega.{arith}
-use lib.ListN.{length, getD}
+use lib.ListN.{getD}
 use Rattle.sparse.specs.Pattern.{pattern, end}
-use Rattle.match_check.proofs.Columns.{rises, within}
+use Rattle.match_check.proofs.Columns.{rises}
 use Rattle.match_largest.specs.inner.Sweeps.{unmet, Sweeping}
 use Rattle.match_largest.proofs.Queueing.{byte-most}
 use Rattle.match_largest.proofs.Sweeps.{Scanning, last-few, scan-begins, scan-ends, row-below, entry-within, step}

@@ -1,7 +1,8 @@
 -- `lowered` meets its contract. The invariant keeps every square within 64 bits; the measure is the number itself.
 use Prim.Native.Nat.{_<_, _^_}
 use native.Mathlib.Omega.{arith}
-use Rattle.square_root.proofs.Whole.{square-lt, root-pos}
+use Rattle.float64.proofs.Squares.{square-lt}
+use Rattle.square_root.proofs.Whole.{root-pos}
 use Rattle.square_root.proofs.lowered.Statement.{statement}
 use Rattle.square_root.proofs.lowered.Tie as tie
 

@@ -2,7 +2,8 @@
 use Prim.Native.Nat.{_+_, _-_, _*_, _≤_, _<_, _^_}
 use native.Mathlib.Nat.{lt-of-le-of-lt}
 use native.Mathlib.Omega.{arith}
-use Rattle.square_root.proofs.Whole.{next-square, root-lt}
+use Rattle.float64.proofs.Squares.{root-lt}
+use Rattle.square_root.proofs.Whole.{next-square}
 use Rattle.square_root.proofs.raised.Statement.{statement}
 use Rattle.square_root.proofs.raised.Tie as tie
 

@@ -7,17 +7,15 @@ use lib.ListN.{length, getD}
 use lib.Ieee.{Float}
 use Rattle.refusal.specs.Refusal.{repeatedPair}
 use Rattle.text_matrix_market.specs.declared.banner.Kind.{Kind}
-use Rattle.text_matrix_market.specs.File.{weightFits, isUpper}
+use Rattle.text_matrix_market.specs.File.{weightFits, isUpper, repeats}
 use Rattle.hungarian.specs.Graph.{CostGraph}
 use Rattle.hungarian.specs.Accepted.{Accepted}
 use Rattle.hungarian.specs.Optimal.{WholeCosts}
-use Rattle.text_graph.specs.Graph.{Inside, repeats, costValues}
+use Rattle.text_graph.specs.Graph.{Inside, costValues}
 use Rattle.text_report.specs.declared.Form.{Form}
 use Rattle.text_report.specs.Report.{refusedText}
+use Rattle.text_report.specs.inner.Steps.{outputLength}
 use Rattle.text_answer.specs.Answer.{ReportAnswer, graphText, kindGraph, reportWritten}
-
-abbrev pub outputLength : ℕ
-outputLength = 4096
 
 -- entries that a file of a kind may have, and room for the text
 pub record FileEntries (kind : Kind) (n : ℕ) (rows cols weights output : List ℕ) : Type 0 where

@@ -9,6 +9,10 @@ use lib.Ieee.{Float, nan}
 use Rattle.float64.specs.Number.{wholeOf, IsWhole}
 use Rattle.float64.specs.inner.Arithmetic.{wholeLimit}
 
+-- the bytes that any text fits: 64 lines
+abbrev pub outputLength : ℕ
+outputLength = 4096
+
 -- a double that has a text here: a whole number of at most 2 ^ 53 in size
 pub record Printable (x : Float) : Type 0 where
   pub isWhole : IsWhole x

@@ -8,7 +8,7 @@ use lib.ListN.{length, take, drop}
 use Rattle.triplets.specs.Built.{Triplets}
 use Rattle.hungarian.specs.Graph.{graphOf}
 use Rattle.mc64_columns.specs.Graphs.{graphRows}
-use Rattle.text_graph.specs.Graph.{repeats}
+use Rattle.text_matrix_market.specs.File.{repeats}
 use Rattle.text_symmetric_graph.specs.declared.Mirrored.{Mirrored}
 use Rattle.text_symmetric_graph.specs.declared.Mirrored.the-variants.{Graph, Repeated}
 use Rattle.text_symmetric_graph.specs.Graph.{tripletGraph}

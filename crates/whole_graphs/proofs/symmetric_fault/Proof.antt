@@ -1,5 +1,4 @@
 -- `symmetric_fault` meets its contract: each test is made where nothing else is wrong.
-use mathlib.Core.Path.{sym}
 use Rattle.sparse.proofs.First.{answer-first, answer-second}
 use Rattle.sparse.proofs.Validities.{number-told}
 use Rattle.whole_graphs.specs.Graphs.{symmetricInputFault}

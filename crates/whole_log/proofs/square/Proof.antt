@@ -5,7 +5,7 @@ use Prim.Native.Nat.{ℕ, _+_, _*_, _/_, _%_, _^_, _<_}
 use native.Mathlib.Nat.{add-mul, mul-add}
 use native.Mathlib.Omega.{arith}
 use borrow.Author.Needs.{needs}
-use Rattle.whole_log.proofs.Squares.{square-lt}
+use Rattle.float64.proofs.Squares.{square-lt}
 use Rattle.whole_log.proofs.square.Statement.{statement}
 use Rattle.whole_log.proofs.square.Tie as tie
 

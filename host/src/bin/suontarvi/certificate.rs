@@ -1,6 +1,6 @@
-//! What is proved of a match: its gap, as a factor of the product of the matched entries. The gap is of the logarithms
-//! as they are stored. Natural ones are rounded: what they are wrong by is measured by integers and added, so that the
-//! factor holds of the entries themselves. Of a match that is not complete: that it is largest, and why.
+//! What is proved of a match: its gap, as a factor of the product of the matched entries. The gap is about the stored
+//! logarithms. Natural ones are rounded: their error is measured by integers and added, so that the factor holds for
+//! the entries themselves. For a match that is not complete: that it is largest, and why.
 
 use std::f64::consts::LN_2;
 
@@ -18,9 +18,9 @@ pub struct Certificate {
 }
 
 enum Proved {
-    /// Of a complete match how far it can be from the largest product.
+    /// How far a complete match can be from the largest product.
     Near(Near),
-    /// Of another one that no match has more pairs: which columns compete for which rows.
+    /// No match has more pairs: which columns compete for which rows.
     Largest(Vec<Shortage>),
 }
 
@@ -85,7 +85,7 @@ impl Certificate {
     }
 }
 
-/// Two digits of what is added, which must not be less: they may lack a twentieth.
+/// Two digits of what is added, rounded up: two digits may be short by a twentieth.
 fn natural(rounding: f64) -> String {
     let added = rounding * 1.05;
     format!("the natural logarithms as they are stored, and {added:.1e} for their rounding, measured by integers")

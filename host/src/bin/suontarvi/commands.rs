@@ -27,7 +27,7 @@ use crate::{files, shown};
 pub struct Command {
     /// One word or two.
     pub name: &'static str,
-    /// The words behind it; one in brackets may be left out.
+    /// The arguments after it; one in brackets is optional.
     pub words: &'static [&'static str],
     pub options: &'static [Valued],
     /// The flags that not every command takes.
@@ -54,7 +54,7 @@ pub const ALL: &[&Command] = &[
     &view::VIEW,
 ];
 
-/// The words of a call behind the command's name, and its options.
+/// The arguments of a call after the command's name, and its options.
 pub struct Call<'a> {
     words: &'a [OsString],
     pub rule: Option<Rule>,
@@ -64,11 +64,11 @@ pub struct Call<'a> {
     pub permute: bool,
     pub certificate: bool,
     json: bool,
-    /// If it is one of many: what there is to tell of it.
+    /// For one of many files: what there is to print about it.
     one_of_many: Option<&'a Told>,
 }
 
-/// What one of many files leaves to be told, once it is done; and whether each of them goes to the disk by itself.
+/// What to print about one of many files once it is done, and whether each file is synced to disk by itself.
 pub struct Told {
     pub telling: RefCell<Option<Telling>>,
     pub settles: bool,
@@ -99,18 +99,18 @@ impl<'a> Call<'a> {
         }
     }
 
-    /// A word that the command takes; it was counted.
+    /// An argument that the command takes; their number was tested.
     pub fn word(&self, at: usize) -> &'a OsStr {
         self.words.get(at).map_or(OsStr::new(""), OsString::as_os_str)
     }
 
-    /// A word that may be left out.
+    /// An optional argument.
     pub fn optional(&self, at: usize) -> Option<&'a OsStr> {
         self.words.get(at).map(OsString::as_os_str)
     }
 
-    /// The answer, in the form that was asked for, to where it was asked for. Of many files the text goes to its file,
-    /// if there is one for it, and the object is told.
+    /// Writes the answer in the requested form to the requested place. For one of many files the text goes to its file,
+    /// if it has one, and the object is printed.
     pub fn answer(&self, text: impl FnOnce() -> String, json: impl FnOnce() -> Json) -> Done {
         match (self.one_of_many, self.out) {
             (None, out) => {
@@ -128,7 +128,7 @@ impl<'a> Call<'a> {
         }
     }
 
-    /// What there is to tell beside files that were written.
+    /// Prints what there is to say beside files that were written.
     pub fn tell(&self, text: impl FnOnce() -> String, json: impl FnOnce() -> Json) -> Done {
         let Some(told) = self.one_of_many else {
             let text = if self.json { format!("{}\n", json()) } else { text() };
@@ -143,7 +143,7 @@ impl<'a> Call<'a> {
     pub fn put(&self, file: &OsStr, bytes: &[u8]) -> Done {
         let read = self.words.first().map(OsString::as_os_str).into_iter().chain(self.rhs).chain(self.solution);
         if read.into_iter().any(|read| files::are_the_same(read, file)) {
-            return Err(Fault::new("what is made would take the place of a file that is read").of(file));
+            return Err(Fault::new("the output would overwrite an input file").of(file));
         }
         match self.one_of_many {
             Some(told) if !told.settles => files::write_one_of_many(file, bytes),
@@ -151,7 +151,7 @@ impl<'a> Call<'a> {
         }
     }
 
-    /// What is made goes into a file, of which the answer then tells; or to standard output, and that is the answer.
+    /// Writes the output to a file, which the answer then describes, or to standard output, where it is the answer.
     pub fn made(&self, file: &OsStr, bytes: &[u8], text: impl FnOnce() -> String, json: impl FnOnce() -> Json) -> Done {
         if !files::is_standard(file) {
             self.put(file, bytes)?;
@@ -167,7 +167,7 @@ impl<'a> Call<'a> {
     }
 }
 
-/// What the words ask for: a command on one file, or on many.
+/// Runs the command that the arguments name, on one file or on many.
 pub fn run(arguments: &Arguments) -> Done {
     let (command, words) = find(arguments)?;
     let rule = arguments.rule()?;
@@ -181,10 +181,10 @@ pub fn run(arguments: &Arguments) -> Done {
     (command.run)(&Call::new(words, rule, arguments, None))
 }
 
-/// The command that the words name, and the words behind its name.
+/// The command that the arguments name, and the arguments after its name.
 fn find(arguments: &Arguments) -> Result<(&'static Command, &[OsString]), Fault> {
     let Some((first, _)) = arguments.words.split_first() else {
-        return Err(Fault::misuse("there is no command"));
+        return Err(Fault::misuse("no command is given"));
     };
     let named = |command: &&&Command| command.name.split(' ').zip(&arguments.words).all(|(name, word)| name == word);
     let with_words = |command: &&&Command| command.name.split(' ').count() <= arguments.words.len();
@@ -201,7 +201,7 @@ fn find(arguments: &Arguments) -> Result<(&'static Command, &[OsString]), Fault>
     }
     let files = arguments.valued.iter().map(|(_, value)| value);
     if words.iter().chain(files).any(|word| word.is_empty()) {
-        return Err(Fault::misuse(format!("a word of {} is empty", command.name)));
+        return Err(Fault::misuse(format!("an argument of {} is empty", command.name)));
     }
     Ok((command, words))
 }
@@ -216,25 +216,25 @@ fn no_command(first: &OsStr, second: Option<&OsString>) -> Fault {
         .collect();
     Fault::misuse(match (seconds.is_empty(), second) {
         (true, _) => format!("there is no command {first}"),
-        (false, None) => format!("{first} is followed by {}", seconds.join(", ")),
+        (false, None) => format!("{first} needs one of {}", seconds.join(", ")),
         (false, Some(second)) => {
             let second = shown::word(&shown::name(second));
-            format!("{first} is followed by {}, and not by {second}", seconds.join(", "))
+            format!("{first} needs one of {}, not {second}", seconds.join(", "))
         }
     })
 }
 
-/// Too few words, or too many.
+/// Tests for too few arguments, or too many.
 fn counted(command: &Command, words: &[OsString]) -> Done {
     let mut needed = command.words.iter().filter(|word| !word.starts_with('['));
     if let Some(missing) = needed.nth(words.len()) {
-        return Err(Fault::misuse(format!("{} lacks {missing}", command.name)));
+        return Err(Fault::misuse(format!("{} needs {missing}", command.name)));
     }
     match words.get(command.words.len()) {
         None => Ok(()),
         Some(word) => {
             let word = shown::word(&shown::name(word));
-            Err(Fault::misuse(format!("{} has a word too many: {word}", command.name)))
+            Err(Fault::misuse(format!("{} has one argument too many: {word}", command.name)))
         }
     }
 }
@@ -244,7 +244,7 @@ fn rows_from_1(found: &Matching) -> impl Iterator<Item = Option<u32>> {
     found.perm.iter().map(|&row| (row != NONE).then(|| row + 1))
 }
 
-/// Where each row goes: to its column, or, free, to the free columns in order.
+/// Where each row goes: to its column; free rows go to the free columns in order.
 fn positions(found: &Matching) -> Vec<usize> {
     let mut position = vec![None; found.n()];
     for (row, column) in found.pairs() {

@@ -1,9 +1,9 @@
-//! Natural logarithms by integers, to see what `ln` rounds: in units of 2^-64, with a bound of the error.
+//! Natural logarithms by integers, to measure what `ln` rounds: in units of 2^-64, with a bound on the error.
 
 /// ln 2 in units of 2^-96, rounded down.
 const LN_2: i128 = 0xB172_17F7_D1CF_79AB_C9E3_B398;
 
-/// What [`ln`] is wrong by is less: 24 terms that are each cut at less than 2 units, doubled, and two more.
+/// The error of [`ln`] is below this: 24 terms, each cut by less than 2 units, doubled, and two more.
 pub const ERROR: i128 = 128;
 
 /// The logarithm of the magnitude of a number that is finite and not zero, in units of 2^-64.
@@ -21,7 +21,7 @@ pub fn ln(x: f64) -> i128 {
     2 * sum + ((exponent * LN_2) >> 32)
 }
 
-/// The magnitude is so many units of 2^-52, from 2^52 to 2^53, times 2 to this power.
+/// The magnitude as a number of units of 2^-52, from 2^52 to 2^53, times 2 to this power.
 fn split(x: f64) -> (i128, i128) {
     let bits = x.abs().to_bits();
     let (digits, field) = (bits & ((1 << 52) - 1), (bits >> 52) as i32);

@@ -10,7 +10,7 @@ use std::thread;
 use crate::fault::{Done, Fault};
 use crate::streams;
 
-/// No file within the limits comes near: 262,144 entries of 100 bytes are a fifth of it.
+/// No file within the limits comes near it: 262,144 entries of 100 bytes are a fifth of it.
 const MOST_BYTES: u64 = 128 << 20;
 const TOO_LARGE: &str = "the file has more than 128 MiB, and no matrix within the limits has";
 
@@ -33,7 +33,7 @@ pub fn read(file: &OsStr) -> Result<Vec<u8>, Fault> {
     Ok(bytes)
 }
 
-/// The bytes of a file; those that gzip compressed as they were before.
+/// The bytes of a file, unpacked if gzip compressed it.
 pub fn read_unpacked(file: &OsStr) -> Result<Vec<u8>, Fault> {
     let bytes = read(file)?;
     match bytes.starts_with(&[0x1f, 0x8b]) {
@@ -42,7 +42,7 @@ pub fn read_unpacked(file: &OsStr) -> Result<Vec<u8>, Fault> {
     }
 }
 
-/// By the program `gzip`, which takes what was read and no more than the limit is taken from.
+/// Unpacks by the program `gzip`, which gets what was read; no more than the limit is taken from it.
 fn unpacked(bytes: Vec<u8>) -> Result<Vec<u8>, Fault> {
     let mut gzip = Command::new("gzip");
     gzip.arg("-dc").stdin(Stdio::piped()).stdout(Stdio::piped()).stderr(Stdio::null());
@@ -75,7 +75,7 @@ fn read_file(file: &OsStr, most: u64) -> io::Result<Vec<u8>> {
     Ok(bytes)
 }
 
-/// The bytes into a file, or to standard output if none is named.
+/// Writes the bytes to a file, or to standard output if none is named.
 pub fn write(file: Option<&OsStr>, bytes: &[u8]) -> Done {
     let Some(file) = file.filter(|file| !is_standard(file)) else {
         return streams::write(bytes).map_err(|error| match error.kind() {
@@ -90,25 +90,25 @@ pub fn write(file: Option<&OsStr>, bytes: &[u8]) -> Done {
     written.map_err(|error| unwritten(&error).of(file))
 }
 
-/// Whether two names are of one file that is there.
+/// Whether two names mean the same existing file.
 pub fn are_the_same(file: &OsStr, other: &OsStr) -> bool {
     let place = |file: &OsStr| fs::metadata(file).ok().map(|known| (known.dev(), known.ino()));
     !is_standard(file) && !is_standard(other) && place(other).is_some_and(|other| place(file) == Some(other))
 }
 
-/// The same for one of many files, which are brought to the disk together.
+/// The same for one of many files, which are synced to disk together.
 pub fn write_one_of_many(file: &OsStr, bytes: &[u8]) -> Done {
     let written = File::create(file).and_then(|mut out| out.write_all(bytes));
     written.map_err(|error| unwritten(&error).of(file))
 }
 
-/// Brings what was written into a folder to its disk.
+/// Syncs what was written into a folder to its disk.
 pub fn settle_folder(folder: &OsStr) -> Done {
     let settled = File::open(folder).and_then(|folder| streams::settle_all(&folder));
-    settled.map_err(|error| Fault::new(format!("not all files came to the disk: {}", reason(&error))).of(folder))
+    settled.map_err(|error| Fault::new(format!("not all files were written to disk: {}", reason(&error))).of(folder))
 }
 
-/// The folder, made if it is not there.
+/// Makes the folder if it does not exist.
 pub fn make_folder(folder: &OsStr) -> Done {
     let made = fs::create_dir_all(folder);
     made.map_err(|error| Fault::new(format!("the folder could not be made: {}", reason(&error))).of(folder))
@@ -118,7 +118,7 @@ fn unwritten(error: &io::Error) -> Fault {
     Fault::new(format!("the file could not be written: {}", reason(error)))
 }
 
-/// The system's words without its number.
+/// The system's message without its number.
 pub fn reason(error: &io::Error) -> String {
     let text = error.to_string();
     match text.split_once(" (os error") {

@@ -2,7 +2,7 @@
 
 use std::fmt;
 
-/// A value; what is not finite has no number in JSON and is null.
+/// A value; a number that is not finite has no form in JSON and is null.
 #[derive(Debug, Clone)]
 pub enum Json {
     Null,
@@ -83,7 +83,7 @@ fn quote(text: &str, to: &mut fmt::Formatter) -> fmt::Result {
     write!(to, "\"")
 }
 
-/// The number so that it reads back as itself; whole ones that are not large without an exponent.
+/// The number, so that it reads back as itself; small whole numbers have no exponent.
 fn number(number: f64, to: &mut fmt::Formatter) -> fmt::Result {
     match number {
         _ if !number.is_finite() => write!(to, "null"),

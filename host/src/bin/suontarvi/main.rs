@@ -1,6 +1,6 @@
 //! `suontarvi`: matching and scaling of Matrix Market files over the proved library. `suontarvi --help` says how.
 
-// It never panics, and every write is looked at.
+// It never panics, and every write is checked.
 #![cfg_attr(
     not(test),
     deny(
@@ -63,7 +63,7 @@ fn run(given: Vec<OsString>) -> Done {
     commands::run(&arguments)
 }
 
-/// The library answers as this crate expects only if both are of one version.
+/// The library answers as this crate expects only if both have the same version.
 fn linked() -> Done {
     let [_, major, minor, patch] = suontarvi::version().to_be_bytes();
     let library = format!("{major}.{minor}.{patch}");

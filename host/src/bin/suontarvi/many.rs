@@ -1,5 +1,5 @@
 //! Many files: a command on each of several files, or on those of a folder, on all processors. Files are independent:
-//! one that is refused gets a line, and the others go on.
+//! a refused one gets a line, and the others continue.
 
 use std::cell::RefCell;
 use std::collections::{BTreeMap, HashMap, HashSet};
@@ -21,11 +21,11 @@ use crate::{files, shown, streams};
 /// What a command does with many files.
 #[derive(Debug, Clone, Copy)]
 pub struct Many {
-    /// The ending of what it writes of each.
+    /// The ending of the file that it writes for each.
     ending: &'static str,
-    /// Whether that is the word behind the file, and not where the answer goes.
+    /// Whether that file is the argument after the input, not the place of the answer.
     by_word: bool,
-    /// Whether it has something to tell of a file without writing any.
+    /// Whether it has something to print about a file without writing one.
     tells: bool,
     sheets: bool,
     beside_sheets: bool,
@@ -47,12 +47,12 @@ impl Many {
         Many { ending, by_word: true, ..Many::PLAIN }
     }
 
-    /// Sheets are read, and no matrices.
+    /// Reads sheets, not matrices.
     pub const fn of_sheets(self) -> Many {
         Many { sheets: true, ..self }
     }
 
-    /// Without a folder for what is made, there is something to tell.
+    /// Without a folder for the output there is something to print.
     pub const fn or_tells(self) -> Many {
         Many { tells: true, ..self }
     }
@@ -63,7 +63,7 @@ impl Many {
     }
 }
 
-/// One file, with the words and the place of the answer that its call has.
+/// One file, with the arguments of its call and the place of its answer.
 pub struct Task {
     file: OsString,
     pub words: Vec<OsString>,
@@ -80,15 +80,15 @@ pub struct Batch {
     folder: Option<OsString>,
 }
 
-/// The endings by which a folder's files are taken, and those of our own answers, which are not.
+/// The endings of the files that a folder means, and those of our own answers, which it does not.
 const MATRICES: [&str; 10] = [".mtx", ".mtx.gz", ".rb", ".rb.gz", ".rua", ".rsa", ".pua", ".psa", ".iua", ".isa"];
 const SHEETS: [&str; 1] = [".sheet"];
 const ANSWERS: [&str; 5] = [".perm.mtx", ".factors.mtx", ".rhs.mtx", ".row.mtx", ".sheet.mtx"];
 
-/// The batch, if the words ask for one.
+/// The batch, if the arguments name one.
 pub fn asked(command: &Command, words: &[OsString], arguments: &Arguments) -> Result<Option<Batch>, Fault> {
     let many = command.many;
-    // what stands behind the files is a word of all of them, unless it is written or is a sheet
+    // what follows the files is an argument of all of them, unless it is written or is a sheet
     let common = command.words.iter().skip(1).filter(|_| !many.by_word && !many.beside_sheets).count();
     let (given, common) = words.split_at(words.len().saturating_sub(common));
     let folders = given.iter().any(|word| Path::new(word).is_dir());
@@ -101,7 +101,7 @@ pub fn asked(command: &Command, words: &[OsString], arguments: &Arguments) -> Re
         return Ok(None);
     }
     if given.is_empty() {
-        return Err(Fault::misuse(format!("{} lacks {}", command.name, command.words.first().unwrap_or(&"a file"))));
+        return Err(Fault::misuse(format!("{} needs {}", command.name, command.words.first().unwrap_or(&"a file"))));
     }
     let folder = arguments.value(Valued::OutDir);
     suits(command, given, folder, arguments)?;
@@ -114,7 +114,7 @@ pub fn asked(command: &Command, words: &[OsString], arguments: &Arguments) -> Re
     Ok(Some(Batch { tasks, jobs, json: arguments.json, folder: folder.map(OsStr::to_os_string) }))
 }
 
-/// Whether the options make sense of many files.
+/// Whether the options make sense for many files.
 fn suits(command: &Command, given: &[OsString], folder: Option<&OsStr>, arguments: &Arguments) -> Done {
     let many = command.many;
     let misuse = |sentence: &str| Err(Fault::misuse(format!("{} of several files {sentence}", command.name)));
@@ -136,7 +136,7 @@ fn suits(command: &Command, given: &[OsString], folder: Option<&OsStr>, argument
     }
 }
 
-/// How many at once: as many as there are processors, if nothing is said.
+/// How many at once: by default the number of processors.
 fn jobs(word: Option<&OsStr>) -> Result<usize, Fault> {
     let Some(word) = word else {
         return Ok(thread::available_parallelism().map_or(1, usize::from));
@@ -155,7 +155,7 @@ fn ends(name: &OsStr, endings: &[&str]) -> bool {
     endings.iter().any(|ending| name.ends_with(ending.as_bytes()))
 }
 
-/// The files, and in the place of a folder its files, by name. Folders in it are not looked into.
+/// The files, and for a folder the files in it, by name. Its subfolders are not searched.
 fn listed(given: &[OsString], endings: &[&str]) -> Result<Vec<OsString>, Fault> {
     let mut files = Vec::new();
     for word in given {
@@ -214,13 +214,11 @@ fn planned(
         let mut name = stem(&file);
         name.push(many.ending);
         if read.contains(&name) {
-            return Err(Fault::new("what is made of it would take the place of a file that is read").of(&file));
+            return Err(Fault::new("its output would overwrite an input file").of(&file));
         }
         if let Some(other) = written.insert(name.clone(), file.clone()) {
             let other = shown::escaped(&shown::name(&other));
-            return Err(
-                Fault::new(format!("what is made of it would take the place of what is made of {other}")).of(&file)
-            );
+            return Err(Fault::new(format!("its output would overwrite that of {other}")).of(&file));
         }
         let made = Path::new(folder).join(name).into_os_string();
         if many.by_word {
@@ -244,7 +242,7 @@ fn names_in(folder: &OsStr, files: &[OsString]) -> HashSet<OsString> {
     inside.into_iter().filter_map(|file| Path::new(file).file_name().map(OsStr::to_os_string)).collect()
 }
 
-/// What comes of one task: a line for standard output, or what is wrong with the file.
+/// The result of one task: a line for standard output, or what is wrong with the file.
 type Outcome = Result<Option<String>, Box<Refused>>;
 
 struct Refused {
@@ -253,7 +251,7 @@ struct Refused {
 }
 
 impl Batch {
-    /// Runs all tasks; lines and faults are told in the order of the files. Status 1 if one was refused.
+    /// Runs all tasks; lines and faults are printed in the order of the files. Status 1 if one was refused.
     pub fn run(&self, work: &(dyn Fn(&Task, &Told) -> Done + Sync)) -> Done {
         let (next, stop) = (AtomicUsize::new(0), AtomicBool::new(false));
         let (send, receive) = mpsc::sync_channel::<(usize, Outcome)>(1024);
@@ -273,7 +271,7 @@ impl Batch {
             }
             drop(send);
             let told = report.follow(&receive);
-            // nobody reads on: the workers stop at the file they are at
+            // nobody reads further: the workers stop after their current file
             stop.store(true, Ordering::Relaxed);
             drop(receive);
             told
@@ -285,7 +283,7 @@ impl Batch {
         report.end()
     }
 
-    /// A few files go to the disk one by one; of many, all together.
+    /// A few files are synced one by one; many are synced together.
     fn settles_each(&self) -> bool {
         self.tasks.len() <= 64
     }
@@ -336,7 +334,7 @@ struct Report {
     progress: Progress,
 }
 
-/// So many bytes are written at once.
+/// How many bytes are written at once.
 const LINES: usize = 1 << 16;
 
 impl Report {

@@ -16,7 +16,7 @@ pub enum Field {
     Pattern,
 }
 
-/// A file as it stands: entries in the order of their lines, from 0.
+/// The contents of a file: entries in the order of their lines, from 0.
 #[derive(Debug)]
 pub struct Text {
     field: Field,
@@ -103,7 +103,7 @@ impl Text {
     fn beyond(&self, what: &str, word: &str) -> Fault {
         let word = shown::word(word);
         let sentence = match self.n {
-            0 => format!("the {what} {word} is of a matrix that has none"),
+            0 => format!("the matrix is empty and has no {what} {word}"),
             n => format!("the {what} {word} is not within 1 to {n}"),
         };
         Fault::new(sentence).by(Refusal::IndexRange)
@@ -131,7 +131,7 @@ impl Text {
     }
 }
 
-/// Files that are no text of this kind, by their first bytes.
+/// Files that are not text of this kind, by their first bytes.
 const OTHER_KINDS: [(&[u8], &str); 11] = [
     (b"BZh", "the file is compressed by bzip2: bunzip2 it first"),
     (&[0xfd, b'7', b'z', b'X', b'Z', 0], "the file is compressed by xz: unxz it first"),
@@ -146,7 +146,7 @@ const OTHER_KINDS: [(&[u8], &str); 11] = [
     (b"<html", "the file is a web page, and not Matrix Market text"),
 ];
 
-/// What a file is, if it can be told that it is something else.
+/// What a file is, if it is recognisably something else.
 fn other_kind(bytes: &[u8]) -> Option<&'static str> {
     if bytes.is_empty() {
         return Some("the file is empty");
@@ -162,7 +162,7 @@ fn banner(line: &str) -> Result<(Field, bool), Fault> {
         return refused("the first line is not a banner %%MatrixMarket matrix coordinate FIELD SYMMETRY");
     };
     if layout != "coordinate" {
-        return refused("the matrix is not by coordinates");
+        return refused("the matrix is not in coordinate form");
     }
     let field = match field {
         "real" => Field::Real,
@@ -199,7 +199,7 @@ fn sizes(line: &str, symmetric: bool) -> Result<(usize, usize), Fault> {
     Ok((*rows, *count))
 }
 
-/// Digits alone; what is beyond usize is beyond every limit too.
+/// Digits only; what is beyond usize is beyond every limit too.
 pub fn natural(word: &str) -> Option<usize> {
     let digits = !word.is_empty() && word.bytes().all(|byte| byte.is_ascii_digit());
     digits.then(|| word.parse().unwrap_or(usize::MAX))

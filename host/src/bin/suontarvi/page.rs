@@ -8,10 +8,10 @@ use crate::loaded::WholeMatch;
 
 const PAGE: &str = include_str!("page.html");
 
-/// The cost of an entry that is no tie, since its value is zero.
+/// The cost of an entry that is not a tie, since its value is zero.
 const NO_COST: u32 = u32::MAX;
 
-/// A page that needs nothing but a browser.
+/// A self-contained page.
 pub fn page(name: &str, kind: &str, found: &WholeMatch, shortages: &Json) -> Result<String, Refusal> {
     // what ends a script must not stand in one
     let data = data(name, kind, found, shortages)?.to_string().replace('<', "\\u003c");

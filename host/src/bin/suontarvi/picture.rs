@@ -1,5 +1,5 @@
 //! The matrix before and after permutation and scaling, as SVG: magnitudes as shades of one scale, matched entries
-//! marked. Of a matrix with more columns than cells a cell stands for a square of entries and has the shade of their
+//! marked. If a matrix has more columns than cells, a cell shows a square of entries and has the shade of their
 //! largest.
 
 use std::collections::BTreeMap;

@@ -38,8 +38,8 @@ pub fn of_powers(refusal: Refusal, text: &Text, matrix: &Columns, by: &Exponents
     match entries.find(bad) {
         Some((row, column, value)) => {
             let sentence = match value.is_normal() {
-                true => format!("the value {value:e} is no normal number after scaling by powers of two"),
-                false => format!("the value {value:e} is too small for powers of two: it is no normal number"),
+                true => format!("the value {value:e} is not a normal number after scaling by powers of two"),
+                false => format!("the value {value:e} is too small for powers of two: it is not a normal number"),
             };
             Fault::new(sentence).by(refusal).at(entry_place(text, (row, column)))
         }
@@ -93,7 +93,7 @@ fn costs(graph: &CostGraph) -> impl Iterator<Item = (usize, usize, f64)> {
     })
 }
 
-/// The first pair that is none. A column without a row is judged by whether it could have one.
+/// The first pair that is not an entry. A column without a row is judged by whether it could have one.
 fn unpaired(graph: &CostGraph, found: &Matching) -> Told {
     let mut taken = vec![false; graph.n()];
     let columns = found.perm.iter().zip(columns(graph)).enumerate();
@@ -103,7 +103,7 @@ fn unpaired(graph: &CostGraph, found: &Matching) -> Told {
             None => return Some((place, "the matrix has no such row")),
             Some(true) => return Some((place, "the row has two columns")),
             Some(_) if rows.binary_search(&row).is_err() => {
-                return Some((place, "the pair is no entry of the matrix"));
+                return Some((place, "the pair is not an entry of the matrix"));
             }
             Some(taken) => *taken = true,
         }
@@ -181,12 +181,15 @@ pub fn of_sheet(refusal: Refusal, bytes: &[u8], canonical: bool) -> Fault {
     let [low, high, ref records @ ..] = *bytes else {
         return match bytes.is_empty() {
             true => told("byte 0".into(), "the sheet is empty"),
-            false => told("byte 1".into(), "the sheet is cut short: it has not even its n"),
+            false => told("byte 1".into(), "the sheet is cut short: even its n is missing"),
         };
     };
     let n = u16::from_le_bytes([low, high]);
     if n > 4096 {
-        return told("byte 0".into(), &format!("the n of the sheet is {n}, above 4,096: it is no sheet, or too large"));
+        return told(
+            "byte 0".into(),
+            &format!("the n of the sheet is {n}, above 4,096: it is not a sheet, or too large"),
+        );
     }
     let (mut rest, mut record, mut columns) = (records, 1, Vec::new());
     while !rest.is_empty() {

@@ -1,4 +1,4 @@
-//! How far a long run is: one line on a terminal that is written over, nothing elsewhere.
+//! The progress of a long run: one line on a terminal, which is overwritten; nothing elsewhere.
 
 use std::io::{self, IsTerminal};
 use std::time::{Duration, Instant};

@@ -10,7 +10,7 @@ use crate::shown;
 pub enum Rule {
     /// Natural logarithms; unmatched indices keep the factor 1.
     Natural,
-    /// Natural logarithms; unmatched indices after Duff and Pralet. Symmetric matrices alone.
+    /// Natural logarithms; unmatched indices after Duff and Pralet. Symmetric matrices only.
     Flat,
     /// Base-two logarithms in whole units; the factors are powers of two.
     Whole,
@@ -28,7 +28,7 @@ impl Rule {
         }
     }
 
-    /// The rule of a word; `identity` is another word for `natural`.
+    /// The rule of a word; `identity` is a synonym of `natural`.
     pub fn read(word: &OsStr) -> Result<Rule, Fault> {
         match word.to_str() {
             Some("natural" | "identity") => Ok(Rule::Natural),

@@ -1,4 +1,4 @@
-//! Rutherford–Boeing files, and Harwell–Boeing ones, which differ in their head alone: a matrix by columns, in numbers
+//! Rutherford–Boeing files, and Harwell–Boeing ones, which differ only in their header: a matrix by columns, in numbers
 //! of fixed width.
 
 use suontarvi::Refusal;
@@ -17,7 +17,7 @@ pub fn is_one(text: &str) -> bool {
     known && words.next().is_some_and(|word| natural(word).is_some())
 }
 
-/// How numbers stand on a line: so many, each so wide. Of reals, how many digits are behind a point that is not
+/// The layout of numbers on a line: how many, and their width. For reals, how many digits follow a point that is not
 /// written, and by which power of ten they are divided if they have no exponent.
 #[derive(Debug, Clone, Copy, PartialEq, Eq)]
 struct Format {
@@ -63,14 +63,14 @@ impl Format {
     }
 }
 
-/// The lines behind the head, and where they are.
+/// The lines after the header, and where they are.
 struct Body<'a> {
     lines: Vec<&'a str>,
     at: usize,
 }
 
 impl<'a> Body<'a> {
-    /// So many numbers, from a line of their own on: each with its line, from 1.
+    /// This many numbers, starting on a new line: each with its line, from 1.
     fn fields(&mut self, count: usize, format: Format, what: &str) -> Result<Vec<(&'a str, usize)>, Fault> {
         let mut found = Vec::with_capacity(count);
         while found.len() < count {

@@ -26,7 +26,7 @@ pub fn sentences(shortages: &[Shortage]) -> Vec<String> {
     said
 }
 
-/// Columns that share rows: two at least.
+/// Columns that share rows: at least two.
 fn sentence(part: &Shortage) -> String {
     let (columns, rows, empty) = (listed("column", &part.columns), listed("row", &part.rows), part.empty());
     let stay = if empty == 1 { "stays" } else { "stay" };

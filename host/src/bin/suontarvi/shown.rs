@@ -1,4 +1,4 @@
-//! Words of others as sentences show them: cut if long, nothing in them that a terminal obeys.
+//! Foreign words as sentences show them: cut if long, without control characters.
 
 use std::ffi::OsStr;
 

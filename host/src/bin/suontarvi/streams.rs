@@ -42,7 +42,7 @@ fn opened(stream: BorrowedFd, closed: bool) -> io::Result<File> {
     Ok(File::from(stream))
 }
 
-/// At most so many bytes of standard input.
+/// At most this many bytes of standard input.
 pub fn read(most: u64) -> io::Result<Vec<u8>> {
     let mut bytes = Vec::new();
     let [closed, _] = &CLOSED;

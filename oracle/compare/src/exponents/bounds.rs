@@ -1,5 +1,5 @@
-//! What the exponents of a complete match are good for: of whole-number graphs every such match is accepted, every
-//! scaled magnitude is below 2 and every matched one above 1/4, in exact integers, subnormal values too. Where the
+//! What the exponents of a complete match achieve: every such match of a whole-number graph is accepted, every scaled
+//! magnitude is below 2 and every matched one above 1/4, in exact integers, subnormal values included. If the
 //! application is accepted, its values are compared as well.
 
 use super::{exponent, Sets};

@@ -1,4 +1,4 @@
-//! Exponents and their application, which the original has not: the rules are restated here in exact integers. An
+//! Exponents and their application, which the original lacks: the rules are restated here in exact integers. An
 //! accepted application is followed by a second set, by the opposite one and by the other order.
 
 mod bounds;

@@ -1,5 +1,5 @@
-//! Log factors by a rule. Rule 0 against the original before `exp`; rule 1, which the original has not, against its
-//! rules restated over each column's entries in a list of their own.
+//! Log factors by a rule. Rule 0 against the original before `exp`; rule 1, which the original lacks, against its rules
+//! restated over each column's entries in a list of their own.
 
 use crate::differs::{answer, same, zero};
 use crate::factors::expected::{symmetric, LogFactors};

@@ -31,7 +31,7 @@ impl Input {
         Input::of(graph, random)
     }
 
-    /// A matching of the graph of one mood; nonsense of a graph that is none.
+    /// A matching of the graph, of one mood; nonsense if the graph is not one.
     pub fn of(graph: Matrix, random: &mut Random) -> Input {
         let n = graph.n as usize;
         let fits = rules::pattern(&graph, true) == 0;

@@ -12,7 +12,7 @@ use oracle::random::Random;
 use rules::Marks;
 use suontarvi::raw;
 
-/// Every matching of so many columns is tried.
+/// Every matching of up to this many columns is tried.
 const TRIED: u32 = 7;
 
 /// Runs `count` matchings, as they are or damaged, and those at the limits; whether all was alike.

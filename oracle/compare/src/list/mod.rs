@@ -1,5 +1,6 @@
-//! The list that the program `evidence_replay` reads: for each call inputs as the other commands draw them, chosen so that every
-//! refusal comes and accepted ones most, and inputs at the limits, each with the answer that those commands expect.
+//! The list that the program `evidence_replay` reads: for each call inputs as the other commands draw them, chosen so
+//! that every refusal comes and most are accepted, and inputs at the limits, each with the answer that those commands
+//! expect.
 
 mod calls;
 mod case;
@@ -212,7 +213,7 @@ fn norms(random: &mut Random) -> Vec<Case> {
     cases
 }
 
-/// Each choice; a number that is none belongs to the C interface.
+/// Each choice; unknown numbers belong to the C interface.
 fn choices(random: &mut Random) -> Vec<Case> {
     let choice = |random: &mut Random| {
         let call = Choice::random(random);

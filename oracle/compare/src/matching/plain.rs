@@ -1,4 +1,4 @@
-//! The match a second time, straight from SPECIFICATION 5, with the two counts that the original has not: the rows
+//! The match a second time, straight from SPECIFICATION 5, with the two counts that the original lacks: the rows
 //! popped and the largest heap. It must give the original's perm, u, v and five counts on every input.
 
 use oracle::{Graph, NONE};

@@ -1,5 +1,5 @@
-//! Files with the number that SPECIFICATION gives them, 0 for accepted, worked out by hand: so the reader is held to
-//! it as well.
+//! Files with the number that SPECIFICATION gives them, 0 for accepted, worked out by hand: they test the reader
+//! itself.
 
 use super::reader::{INPUT_LIMIT, LINE_LIMIT};
 

@@ -1,4 +1,4 @@
-//! Words of a tie file: numbers, and what is no number.
+//! Words of a tie file: numbers, and words that are not numbers.
 
 use super::file::pick;
 use super::reader::DIGIT_LIMIT;

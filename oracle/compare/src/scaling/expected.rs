@@ -33,7 +33,7 @@ pub fn expected(call: &Call) -> Result<(Call, Done), u32> {
     Ok((left, done))
 }
 
-/// The external choice is refused, with 1 or 2 before 12: no slice is looked at but for the count of its entries.
+/// The external choice is refused, with 1 or 2 before 12: no slice is read, only the entry count.
 fn external(call: &Call) -> u32 {
     let matrix = &call.building.matrix;
     match limits(Kind::Symmetric, matrix.n, matrix.rows.len()) {

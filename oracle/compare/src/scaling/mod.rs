@@ -1,4 +1,4 @@
-//! The chooser, with all its choices and numbers that are none. Refusals 4 to 7 are those of the original's `validate`,
+//! The chooser, with all its choices and unknown numbers. Refusals 4 to 7 are those of the original's `validate`,
 //! the others SPECIFICATION's. The original runs on accepted calls alone, as a whole, and never with external factors,
 //! which only it takes; MC64's slices are those of its three parts one after the other, and its log factors those
 //! before `exp`.

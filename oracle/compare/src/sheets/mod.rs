@@ -1,4 +1,4 @@
-//! Sheet files. The original has none: the writer and both readers are held against the rules restated in `expected`,
+//! Sheet files. The original has none: the writer and both readers are compared with the rules restated in `expected`,
 //! over good files and each of their cuts, records in every order, and damage at every rule.
 
 mod expected;
@@ -89,7 +89,7 @@ fn every_order(of: &Match, random: &mut Random, tallies: &mut Tallies) {
     }
 }
 
-/// All orders of so many things.
+/// All orders of this many things.
 fn orders(count: usize) -> Vec<Vec<usize>> {
     let mut all = vec![Vec::new()];
     for at in 0..count {

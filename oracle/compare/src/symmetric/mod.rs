@@ -1,4 +1,4 @@
-//! What symmetric factors are good for: with whole logs, a complete match and no factor held, the two factors of an entry
+//! What symmetric factors achieve: with whole logs, a complete match and no factor held, the two factors of an entry
 //! and its log add up to at most 0, and to exactly 0 on every matched pair. The sums are of integers: twice a factor is
 //! a whole number.
 

@@ -1,212 +1,142 @@
--- `factor_bytes::read_sides` meets its contract: the parts of the local arrays that were read hold the doubles.
-use mathlib.Core.Path.{sym, ap, _∙_}
-use Prim.Native.Nat.{ℕ, _*_}
+-- `factor_bytes::read_sides` meets its contract. The loop's invariant: the bytes of the factors below i stand in front of what was there.
+use mathlib.Core.Path.{_≡_, refl, sym, ap, ap₂, _∙_}
+use mathlib.Core.List.{List}
+use Prim.Native.Nat.{ℕ, _-_, _*_, _<_, _≤_}
 use native.Mathlib.Omega.{arith}
+use lib.ListN.{length, getD}
+use lib.Ieee.{Float, nan, binary64, sub}
+use Rattle.slices.specs.Outcome.{outcomeIs}
+use Rattle.factors_mc64.specs.Factors.{held}
 use Rattle.byte_numbers.specs.Bytes.{doubles}
-use Rattle.hungarian_match.proofs.LocalArrays.{part-length, part-within, part-again, part-holds}
-use Rattle.byte_forms.proofs.ByteFactors.{sides-read}
-use borrow.Author.Needs.{needs}
+use Rattle.byte_numbers.proofs.Words.{double-at}
+use Rattle.byte_forms.specs.FactorBytes.{factorBytes, sidesLaid}
+use Rattle.byte_forms.proofs.ByteFactors.{laidTo, laid-none, laid-more, laid-all}
 use Rattle.byte_forms.proofs.factor_bytes.read_sides.Statement.{statement}
 use Rattle.byte_forms.proofs.factor_bytes.read_sides.Tie as tie
 
+-- the factors of row and column j
+abbrev rowAt : ℕ → List ℕ → ℕ → Float
+rowAt n u j = held (getD (doubles u n) j nan)
+
+abbrev columnAt : ℕ → List ℕ → List ℕ → ℕ → Float
+columnAt n v cmax j = held (sub binary64 (getD (doubles v n) j nan) (getD (doubles cmax n) j nan))
+
+abbrev Inv-loop : tie.InvT-loop
+Inv-loop n u v cmax rows₀ columns₀ size i₀ rows columns i =
+    (i ≤ n) × (length rows ≡ 8 * n) × (length columns ≡ 8 * n) × (rows ≡ laidTo (rowAt n u) n rows₀ i) × (columns ≡ laidTo (columnAt n v cmax) n columns₀ i)
+
+abbrev μ-loop : tie.MeasureT-loop
+μ-loop n u v cmax rows₀ columns₀ size i₀ rows columns i = n - i
+
 -- places of the proof, each from a later one
-abbrev entry-of-row-duals : tie.After-row-duals → tie.Start
-entry-of-row-duals c = c .before .before .before .before .before .before
+abbrev put-double2-of-slice-known4 : tie.After-slice-known4 Inv-loop μ-loop → tie.After-put-double2 Inv-loop μ-loop
+put-double2-of-slice-known4 c = c .before .before
 
-abbrev entry-of-col-duals : tie.After-col-duals → tie.Start
-entry-of-col-duals c = entry-of-row-duals (c .before .before .before)
+abbrev put-double-of-slice-known4 : tie.After-slice-known4 Inv-loop μ-loop → tie.After-put-double Inv-loop μ-loop
+put-double-of-slice-known4 c = put-double2-of-slice-known4 c .before .before .before .before .before
 
-abbrev entry-of-largest : tie.After-largest → tie.Start
-entry-of-largest c = entry-of-col-duals (c .before .before .before)
+abbrev get-double3-of-slice-known4 : tie.After-slice-known4 Inv-loop μ-loop → tie.After-get-double3 Inv-loop μ-loop
+get-double3-of-slice-known4 c = put-double-of-slice-known4 c .before .before .before
 
-abbrev read-doubles2-of-largest2 : tie.After-largest2 → tie.After-read-doubles2
-read-doubles2-of-largest2 c = c .before .before .before .before
+abbrev in-loop-of-slice-known4 : tie.After-slice-known4 Inv-loop μ-loop → tie.In-loop Inv-loop μ-loop
+in-loop-of-slice-known4 c = get-double3-of-slice-known4 c .before .before .before
 
-abbrev read-doubles-of-largest2 : tie.After-largest2 → tie.After-read-doubles
-read-doubles-of-largest2 c = read-doubles2-of-largest2 c .before .before .before
+abbrev loop-of-slice-known4 : tie.After-slice-known4 Inv-loop μ-loop → tie.At-loop Inv-loop μ-loop
+loop-of-slice-known4 c = in-loop-of-slice-known4 c .before
 
-abbrev entry-of-largest2 : tie.After-largest2 → tie.Start
-entry-of-largest2 c = entry-of-largest (c .before .before)
+abbrev entry-of-loop : tie.At-loop Inv-loop μ-loop → tie.Start Inv-loop μ-loop
+entry-of-loop c = c .before .before .before .before .before .before
 
-abbrev entry-of-row-duals3 : tie.After-row-duals3 → tie.Start
-entry-of-row-duals3 c = entry-of-largest2 (c .before)
+loop-holds : tie.Need-loop-holds Inv-loop μ-loop
+loop-holds c =
+    let a = c .before .before .before .before .before .args in
+    let pre = c .before .before .before .before .before .pre in
+    (omega arith, pre .1 .0, pre .1 .1, laid-none (rowAt (a .n) (a .u .now)) (a .n) _, laid-none (columnAt (a .n) (a .v .now) (a .cmax .now)) (a .n) _)
 
-abbrev read-doubles3-of-col-duals3 : tie.After-col-duals3 → tie.After-read-doubles3
-read-doubles3-of-col-duals3 c = c .before .before .before
+mul-at : tie.Need-mul-at Inv-loop μ-loop
+mul-at c = omega arith
 
-abbrev read-doubles2-of-col-duals3 : tie.After-col-duals3 → tie.After-read-doubles2
-read-doubles2-of-col-duals3 c = read-doubles2-of-largest2 (c .before .before)
+get-double-requires : tie.Need-get-double-requires Inv-loop μ-loop
+get-double-requires c κs = omega arith
 
-abbrev entry-of-col-duals3 : tie.After-col-duals3 → tie.Start
-entry-of-col-duals3 c = entry-of-row-duals3 (c .before)
+get-double-requires-2 : tie.Need-get-double-requires-2 Inv-loop μ-loop
+get-double-requires-2 c κs = omega arith
 
-abbrev col-duals3-of-sides-small-arg2 : tie.After-sides-small-arg2 → tie.After-col-duals3
-col-duals3-of-sides-small-arg2 c = c .before .before .before
+get-double-requires-3 : tie.Need-get-double-requires-3 Inv-loop μ-loop
+get-double-requires-3 c κs = omega arith
 
-abbrev read-doubles3-of-sides-small-arg2 : tie.After-sides-small-arg2 → tie.After-read-doubles3
-read-doubles3-of-sides-small-arg2 c = read-doubles3-of-col-duals3 (col-duals3-of-sides-small-arg2 c)
+hold-requires : tie.Need-hold-requires Inv-loop μ-loop
+hold-requires c κs = tt
 
-abbrev read-doubles2-of-sides-small-arg2 : tie.After-sides-small-arg2 → tie.After-read-doubles2
-read-doubles2-of-sides-small-arg2 c = read-doubles2-of-col-duals3 (col-duals3-of-sides-small-arg2 c)
+put-double-requires : tie.Need-put-double-requires Inv-loop μ-loop
+put-double-requires c κs = omega arith
 
-abbrev read-doubles-of-sides-small-arg2 : tie.After-sides-small-arg2 → tie.After-read-doubles
-read-doubles-of-sides-small-arg2 c = read-doubles2-of-sides-small-arg2 c .before .before .before
+hold-requires-2 : tie.Need-hold-requires-2 Inv-loop μ-loop
+hold-requires-2 c κs = tt
 
-abbrev entry-of-sides-small-arg2 : tie.After-sides-small-arg2 → tie.Start
-entry-of-sides-small-arg2 c = entry-of-col-duals3 (col-duals3-of-sides-small-arg2 c)
+put-double-requires-2 : tie.Need-put-double-requires-2 Inv-loop μ-loop
+put-double-requires-2 c κs = omega arith
 
-abbrev sides-small-of-slice-known4 : tie.After-slice-known4 → tie.After-sides-small
-sides-small-of-slice-known4 c = c .before .before .before .before
+add-i : tie.Need-add-i Inv-loop μ-loop
+add-i c = omega arith
 
-abbrev sides-small-arg2-of-slice-known4 : tie.After-slice-known4 → tie.After-sides-small-arg2
-sides-small-arg2-of-slice-known4 c = sides-small-of-slice-known4 c .before
+loop-less : tie.Need-loop-less Inv-loop μ-loop
+loop-less c = omega arith
 
-abbrev read-doubles3-of-slice-known4 : tie.After-slice-known4 → tie.After-read-doubles3
-read-doubles3-of-slice-known4 c = read-doubles3-of-sides-small-arg2 (sides-small-arg2-of-slice-known4 c)
+loop-again : tie.Need-loop-again Inv-loop μ-loop
+loop-again c =
+    let a = entry-of-loop (loop-of-slice-known4 c) .args in
+    let l = loop-of-slice-known4 c .loop in
+    let h : l .i < a .n = in-loop-of-slice-known4 c .loop-test .taken in
+    let third = get-double3-of-slice-known4 c in (
+      omega arith,
+      put-double-of-slice-known4 c .put-double .kept .0 ∙ l .inv .1,
+      put-double2-of-slice-known4 c .put-double2 .kept .0 ∙ l .inv .2,
+      put-double-of-slice-known4 c .put-double .ensures ∙ laid-more (rowAt (a .n) (a .u .now)) (a .n) _ (l .i) _ h (l .inv .1) (l .inv .3)
+          (put-double-of-slice-known4 c .before .hold .ensures ∙ ap held (third .before .before .get-double .ensures
+          ∙ sym (double-at (a .u .now) (a .n) (l .i) h))),
+      put-double2-of-slice-known4 c .put-double2 .ensures ∙ laid-more (columnAt (a .n) (a .v .now) (a .cmax .now)) (a .n) _ (l .i) _ h
+          (l .inv .2) (l .inv .4)
+          (put-double2-of-slice-known4 c .before .hold2 .ensures ∙ ap₂ (λ (x y : Float). held (sub binary64 x y))
+          (third .before .get-double2 .ensures ∙ sym (double-at (a .v .now) (a .n) (l .i) h))
+          (third .get-double3 .ensures ∙ sym (double-at (a .cmax .now) (a .n) (l .i) h))),
+    )
 
-abbrev read-doubles2-of-slice-known4 : tie.After-slice-known4 → tie.After-read-doubles2
-read-doubles2-of-slice-known4 c = read-doubles2-of-sides-small-arg2 (sides-small-arg2-of-slice-known4 c)
+same-length : tie.Need-same-length Inv-loop μ-loop
+same-length c = omega (arith, c .before .loop .inv .1)
 
-abbrev read-doubles-of-slice-known4 : tie.After-slice-known4 → tie.After-read-doubles
-read-doubles-of-slice-known4 c = read-doubles-of-sides-small-arg2 (sides-small-arg2-of-slice-known4 c)
+same-length-2 : tie.Need-same-length-2 Inv-loop μ-loop
+same-length-2 c = omega (arith, c .before .loop .inv .2)
 
-abbrev entry-of-slice-known4 : tie.After-slice-known4 → tie.Start
-entry-of-slice-known4 c = entry-of-sides-small-arg2 (sides-small-arg2-of-slice-known4 c)
-
-array-borrow-prefix-row-duals : tie.Need-array-borrow-prefix-row-duals
-array-borrow-prefix-row-duals c = search needs
-
-slice-aggregate-read-doubles : tie.Need-slice-aggregate-read-doubles
-slice-aggregate-read-doubles c = sym (part-length _ 256 _ (omega (arith, entry-of-row-duals c .pre .0 .columns)))
-
-read-doubles-requires : tie.Need-read-doubles-requires
-read-doubles-requires c κs =
-    entry-of-row-duals c .pre .0 .rowDuals ∙ ap (λ (k : ℕ). 8 * k) (sym (part-length _ 256 _ (omega (arith, entry-of-row-duals c .pre .0 .columns))))
-
-array-borrow-prefix-col-duals : tie.Need-array-borrow-prefix-col-duals
-array-borrow-prefix-col-duals c = search needs
-
-slice-aggregate-read-doubles-2 : tie.Need-slice-aggregate-read-doubles-2
-slice-aggregate-read-doubles-2 c = sym (part-length _ 256 _ (omega (arith, entry-of-col-duals c .pre .0 .columns)))
-
-read-doubles-requires-2 : tie.Need-read-doubles-requires-2
-read-doubles-requires-2 c κs =
-    let pre = entry-of-col-duals c .pre in
-    pre .0 .columnDuals ∙ ap (λ (k : ℕ). 8 * k) (sym (part-length _ 256 _ (omega (arith, pre .0 .columns))))
-
-array-borrow-prefix-largest : tie.Need-array-borrow-prefix-largest
-array-borrow-prefix-largest c = search needs
-
-slice-aggregate-read-doubles-3 : tie.Need-slice-aggregate-read-doubles-3
-slice-aggregate-read-doubles-3 c = sym (part-length _ 256 _ (omega (arith, entry-of-largest c .pre .0 .columns)))
-
-read-doubles-requires-3 : tie.Need-read-doubles-requires-3
-read-doubles-requires-3 c κs =
-    let pre = entry-of-largest c .pre in
-    pre .0 .largest ∙ ap (λ (k : ℕ). 8 * k) (sym (part-length _ 256 _ (omega (arith, pre .0 .columns))))
-
-array-share-prefix-row-duals : tie.Need-array-share-prefix-row-duals
-array-share-prefix-row-duals c =
-    let read-doubles = read-doubles-of-largest2 c in
-    part-within (entry-of-largest2 c .args .n) 256 _ (read-doubles .read-doubles .last .1 .0) (omega (arith, entry-of-largest2 c .pre .0 .columns))
-    (read-doubles .read-doubles .kept .1 .0)
-
-slice-aggregate-sides-small : tie.Need-slice-aggregate-sides-small
-slice-aggregate-sides-small c =
-    let read-doubles = read-doubles-of-largest2 (c .before) in
-    sym (part-again (entry-of-row-duals3 c .args .n) 256 _ (read-doubles .read-doubles .last .1 .0)
-    (omega (arith, entry-of-row-duals3 c .pre .0 .columns)) (read-doubles .read-doubles .kept .1 .0))
-
-array-share-prefix-col-duals : tie.Need-array-share-prefix-col-duals
-array-share-prefix-col-duals c =
-    let read-doubles2 = read-doubles2-of-largest2 (c .before) in
-    part-within (entry-of-row-duals3 c .args .n) 256 _ (read-doubles2 .read-doubles2 .last .1 .0)
-    (omega (arith, entry-of-row-duals3 c .pre .0 .columns)) (read-doubles2 .read-doubles2 .kept .1 .0)
-
-slice-aggregate-sides-small-2 : tie.Need-slice-aggregate-sides-small-2
-slice-aggregate-sides-small-2 c =
-    let read-doubles2 = read-doubles2-of-col-duals3 c in
-    sym (part-again (entry-of-col-duals3 c .args .n) 256 _
-    (read-doubles2 .read-doubles2 .last .1 .0) (omega (
-      arith,
-      entry-of-col-duals3 c .pre .0 .columns,
-    )) (read-doubles2 .read-doubles2 .kept .1 .0))
-
-array-share-prefix-largest : tie.Need-array-share-prefix-largest
-array-share-prefix-largest c = part-within (entry-of-col-duals3 c .args .n) 256 _
-    (read-doubles3-of-col-duals3 c .read-doubles3 .last .1 .0) (omega (
-      arith,
-      entry-of-col-duals3 c .pre .0 .columns,
-    )) (read-doubles3-of-col-duals3 c .read-doubles3 .kept .1 .0)
-
-slice-aggregate-sides-small-3 : tie.Need-slice-aggregate-sides-small-3
-slice-aggregate-sides-small-3 c = sym (part-again (entry-of-col-duals3 (c .before) .args .n) 256 _
-    (read-doubles3-of-col-duals3 (c .before) .read-doubles3 .last .1 .0)
-    (omega (arith, entry-of-col-duals3 (c .before) .pre .0 .columns))
-    (read-doubles3-of-col-duals3 (c .before) .read-doubles3 .kept .1 .0))
-
-sides-small-requires : tie.Need-sides-small-requires
-sides-small-requires c κs = (
-  record {
-    columns = entry-of-sides-small-arg2 c .pre .0 .columns;
-    rowDuals = part-again (entry-of-sides-small-arg2 c .args .n)
-        256 _ (read-doubles-of-sides-small-arg2 c .read-doubles .last .1 .0)
-        (omega (arith, entry-of-sides-small-arg2 c .pre .0 .columns))
-        (read-doubles-of-sides-small-arg2 c .read-doubles .kept .1 .0);
-    columnDuals = part-again (entry-of-sides-small-arg2 c .args .n)
-        256 _ (read-doubles2-of-sides-small-arg2 c .read-doubles2 .last .1 .0)
-        (omega (arith, entry-of-sides-small-arg2 c .pre .0 .columns))
-        (read-doubles2-of-sides-small-arg2 c .read-doubles2 .kept .1 .0);
-    largest = part-again
-        (entry-of-sides-small-arg2 c .args .n)
-        256 _ (read-doubles3-of-sides-small-arg2 c .read-doubles3 .last .1 .0)
-        (omega (arith, entry-of-sides-small-arg2 c .pre .0 .columns))
-        (read-doubles3-of-sides-small-arg2 c .read-doubles3 .kept .1 .0);
-  },
-  entry-of-sides-small-arg2 c .pre .1,
-)
-
-same-length : tie.Need-same-length
-same-length c = search needs
-
-same-length-2 : tie.Need-same-length-2
-same-length-2 c = search needs
-
-returns : tie.Need-returns
+returns : tie.Need-returns Inv-loop μ-loop
+unfolding sidesLaid
 returns c =
-    let read-doubles2 = read-doubles2-of-slice-known4 c in
-    let read-doubles3 = read-doubles3-of-slice-known4 c in
-    let read-doubles = read-doubles-of-slice-known4 c in
-    let args = entry-of-slice-known4 c .args in
-    let pre = entry-of-slice-known4 c .pre in
-    sides-read (args .n) (sides-small-of-slice-known4 c .sides-small .ensures)
-    (part-holds (args .n) 256 _ (read-doubles .read-doubles .last .1 .0) (omega (arith, pre .0 .columns))
-    (read-doubles .read-doubles .kept .1 .0) (doubles (args .u .now)) (read-doubles .read-doubles .ensures))
-    (part-holds (args .n) 256 _ (read-doubles2 .read-doubles2 .last .1 .0) (omega (arith, pre .0 .columns))
-    (read-doubles2 .read-doubles2 .kept .1 .0) (doubles (args .v .now)) (read-doubles2 .read-doubles2 .ensures))
-    (part-holds (args .n) 256 _ (read-doubles3 .read-doubles3 .last .1 .0) (omega (arith, pre .0 .columns))
-    (read-doubles3 .read-doubles3 .kept .1 .0) (doubles (args .cmax .now)) (read-doubles3 .read-doubles3 .ensures))
+    let a = entry-of-loop (c .before) .args in
+    let pre = entry-of-loop (c .before) .pre in
+    let l = c .before .loop in
+    let e : l .i ≡ a .n = omega arith in
+    ap₂ (λ (x y : List ℕ). outcomeIs 0 (factorBytes x y))
+    (l .inv .3 ∙ laid-all (rowAt (a .n) (a .u .now)) (a .n) _ (l .i) e (pre .1 .0))
+    (l .inv .4 ∙ laid-all (columnAt (a .n) (a .v .now) (a .cmax .now)) (a .n) _ (l .i) e (pre .1 .1))
 
 pub read-sides-spec : {M : Type 1} → statement M
 read-sides-spec =
     tie.close
     (tie.spec
-    array-borrow-prefix-row-duals
-    slice-aggregate-read-doubles
-    read-doubles-requires
-    array-borrow-prefix-col-duals
-    slice-aggregate-read-doubles-2
-    read-doubles-requires-2
-    array-borrow-prefix-largest
-    slice-aggregate-read-doubles-3
-    read-doubles-requires-3
-    array-share-prefix-row-duals
-    slice-aggregate-sides-small
-    array-share-prefix-col-duals
-    slice-aggregate-sides-small-2
-    array-share-prefix-largest
-    slice-aggregate-sides-small-3
-    sides-small-requires
+    Inv-loop
+    μ-loop
+    loop-holds
+    mul-at
+    get-double-requires
+    get-double-requires-2
+    get-double-requires-3
+    hold-requires
+    put-double-requires
+    hold-requires-2
+    put-double-requires-2
+    add-i
+    loop-less
+    loop-again
     same-length
     same-length-2
     returns)

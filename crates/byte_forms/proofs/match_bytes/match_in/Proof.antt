@@ -6,18 +6,23 @@ use Rattle.byte_forms.proofs.match_bytes.match_in.Statement.{statement}
 use Rattle.byte_forms.proofs.match_bytes.match_in.Tie as tie
 
 -- places of the proof, each from a later one
+abbrev entry-of-lent : tie.After-slice-known9 → tie.Start
+entry-of-lent c = c .before .before .before .before .before .before .before .before .before .before .before .before
+
 abbrev entry-of-hungarian-match : tie.After-hungarian-match → tie.Start
-entry-of-hungarian-match c =
-    c .before .before .before .before .before .before .before .before .before .before .before .before .before .before .before .before .before .before
+entry-of-hungarian-match c = entry-of-lent (c .before .before .before .before .before .before)
+
+abbrev hungarian-match-of-left : tie.After-slice-known14 → tie.After-hungarian-match
+hungarian-match-of-left c = c .before .before .before .before .before .before .before .before .before .before
 
 abbrev hungarian-match-of-outcome : tie.After-outcome → tie.After-hungarian-match
-hungarian-match-of-outcome c = c .before .before .before .before .before .before .before .before .before .before .before .before
+hungarian-match-of-outcome c = hungarian-match-of-left (c .before .before)
 
 abbrev entry-of-outcome : tie.After-outcome → tie.Start
 entry-of-outcome c = entry-of-hungarian-match (hungarian-match-of-outcome c)
 
 abbrev hungarian-match-of-known-told2 : tie.After-known-told2 → tie.After-hungarian-match
-hungarian-match-of-known-told2 c = c .before .before .before .before .before .before .before .before .before .before .before .before .before
+hungarian-match-of-known-told2 c = hungarian-match-of-left (c .before .before .before)
 
 abbrev entry-of-known-told2 : tie.After-known-told2 → tie.Start
 entry-of-known-told2 c = entry-of-hungarian-match (hungarian-match-of-known-told2 c)

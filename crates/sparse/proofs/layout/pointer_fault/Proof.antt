@@ -1,13 +1,11 @@
 -- `layout::pointer_fault` meets its contract: its three tests are those of the definition, in their order.
 use mathlib.Core.Path.{_≡_, sym, _∙_}
-use mathlib.Core.Bool.{Bool, not}
 use mathlib.Core.List.{List}
 use Prim.Native.Nat.{ℕ}
 use native.Mathlib.Omega.{arith}
 use borrow.Author.Tests.{eq-eqb, ne-eqb}
 use lib.ListN.{getD}
-use Rattle.refusal.specs.Refusal.{columnPointers}
-use Rattle.sparse.specs.Fault.{unless, firstOf}
+use Rattle.sparse.specs.Fault.{firstOf}
 use Rattle.sparse.specs.Validate.{fallAt, pointerFault}
 use Rattle.sparse.proofs.layout.pointer_fault.Statement.{statement}
 use Rattle.sparse.proofs.layout.pointer_fault.Tie as tie

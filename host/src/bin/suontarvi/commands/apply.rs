@@ -24,9 +24,9 @@ pub const APPLY: Command = Command {
     says: "\
 apply      writes the permuted and scaled matrix to OUT.mtx: row k is the row of column k in the match (free rows go
            to free columns in order), times its factor, each column times its own. Beside it OUT.perm.mtx has the row
-           at each place, OUT.factors.mtx the factors of rows and columns, or exponents of two by the rule whole, which
-           rounds nothing; natural is the rule if none is given. --rhs B.mtx writes right-hand sides that go with it to
-           OUT.rhs.mtx. --no-permute leaves the rows where they are
+           at each place, OUT.factors.mtx the factors of rows and columns, or exponents of two for the rule whole, which
+           rounds nothing. The default rule is natural. --rhs B.mtx writes the right-hand sides, permuted and scaled
+           like the matrix, to OUT.rhs.mtx. --no-permute leaves the rows where they are
 ",
     flags: &[NO_PERMUTE],
     many: Many::answers(".mtx"),

@@ -17,10 +17,10 @@ pub const CHECK: Command = Command {
     words: &["FILE.mtx", "SHEET"],
     options: &[Valued::Out],
     says: "\
-check      whether a sheet, whoever made it, is a complete match of the matrix of largest product by whole logarithms,
-           and its duals show it; and within which factor of the largest product of the entries themselves it is proved
-           to be, as match --certificate says it by natural ones. Of a sheet that leaves columns without a row: whether
-           any match has more pairs, and if none has, which columns compete for which rows; its duals do not count
+check      says whether a sheet, whoever made it, is a complete match of largest product by whole logarithms and its
+           duals show it; and within which factor of the largest product of the entries themselves it is proved to be,
+           as match --certificate does by natural logarithms. For a sheet that leaves columns without a row: whether any
+           match has more pairs, and if none has, which columns compete for which rows; its duals are not tested
 ",
     flags: &[],
     many: Many::WITH_SHEETS,

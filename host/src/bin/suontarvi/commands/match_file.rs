@@ -14,14 +14,14 @@ pub const MATCH: Command = Command {
     words: &["FILE.mtx"],
     options: &[Valued::Rule, Valued::Out],
     says: "\
-match      the row of each column, 0 if it has none, as an array: as many pairs as can be and, if complete, of largest
-           product. Rules: whole (if none is given) takes base-two logarithms in whole units of 1/65,536, for which
-           this is proved; natural and flat take natural ones, as scale does, and may differ where products are nearly
-           equal. --certificate also says how near to the largest product a complete match is proved to be: within a
-           factor that is e to its gap, at the largest digits that are accepted, rounded up. The gap is proved of the
-           logarithms as they are stored, each taken from the largest of its column. By natural ones, what ln and that
-           difference round is measured by integers and added, so that the factor is of the entries themselves. Of a
-           match that is not complete it says which columns compete for which rows
+match      the row of each column, 0 if it has none, as an array: as many pairs as possible and, if complete, of
+           largest product. Rules: whole (the default) takes base-two logarithms in whole units of 1/65,536, for which
+           this is proved; natural and flat take natural logarithms, as scale does, and may differ if products are
+           nearly equal. --certificate also says how near to the largest product a complete match is proved to be:
+           within a factor of e to its gap, at the largest digits that are accepted, rounded up. The gap is proved for
+           the stored costs: the largest logarithm of the column minus the entry's own. For natural logarithms the
+           rounding of ln and of that difference is measured by integers and added, so that the factor holds for the
+           entries themselves. For a match that is not complete it says which columns compete for which rows
 ",
     flags: &[CERTIFICATE],
     many: Many::answers(".perm.mtx"),

@@ -18,9 +18,9 @@ pub const RESTORE: Command = Command {
     words: &["OUT.mtx"],
     options: &[Valued::Solution, Valued::Rhs, Valued::Out],
     says: "\
-restore    back from what apply wrote to OUT.mtx and beside it. With --solution Y.mtx, solutions of that matrix, it
-           gives those of the first one. With --rhs it gives right-hand sides as they were, and with neither the
-           matrix. Bit for bit by the rule whole
+restore    undoes apply, from OUT.mtx and the files beside it. --solution Y.mtx has solutions for that matrix; restore
+           turns them into solutions for the original one. With --rhs it gives the original right-hand sides, with
+           neither the original matrix. Under the rule whole every bit comes back
 ",
     flags: &[],
     many: Many::answers(".mtx"),
@@ -140,7 +140,7 @@ fn permutation(file: &OsStr, n: usize) -> Result<Vec<usize>, Fault> {
         match free.get_mut(row) {
             Some(free) if *free && number.fract() == 0.0 => *free = false,
             _ => {
-                let sentence = format!("{} is not a row, or stands twice", word(number));
+                let sentence = format!("{} is not a row, or occurs twice", word(number));
                 return Err(Fault::new(sentence).by(ENTRY_LINE).of(file));
             }
         }

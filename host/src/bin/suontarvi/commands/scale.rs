@@ -17,13 +17,13 @@ pub const SCALE: Command = Command {
     options: &[Valued::Rule, Valued::Out],
     says: "\
 scale      an array of three columns: the factors of the rows, those of the columns, and the row of each column in the
-           match that they belong to, 0 if it has none. Rules: natural (if none is given; identity is another word for
-           it) brings the matched entries of a complete match to 1 and no other above it, but for rounding. flat,
-           of symmetric files, gives unmatched rows a factor that takes their largest entry to a matched row to 1; by
-           natural they keep the factor 1. whole gives exponents of powers of two, which round nothing; those of a
-           complete match bring all entries below 2 and the matched ones above 1/4.
-           Factors are held between e^-709 and e^709, so that at the ends of the range of doubles a matched entry may
-           differ from 1: of the matrix with 1e308 in row 1, column 1 and 1e-308 elsewhere it is 1.217
+           match, 0 if it has none. Rules: natural (the default; identity is a synonym) brings the matched entries of a
+           complete match to 1 and no other above 1, except for rounding. flat, for symmetric files, gives unmatched
+           rows a factor that brings their largest entry to a matched row to 1; under natural they get the factor 1.
+           whole gives exponents of powers of two, which round nothing; those of a complete match bring all entries
+           below 2 and the matched ones above 1/4.
+           Factors are clamped to e^-709 and e^709, so at the ends of the range of doubles a matched entry may differ
+           from 1: for the matrix with 1e308 in row 1, column 1 and 1e-308 elsewhere it is 1.217
 ",
     flags: &[],
     many: Many::answers(".factors.mtx"),

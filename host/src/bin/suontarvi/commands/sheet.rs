@@ -18,9 +18,9 @@ pub const WRITE: Command = Command {
     words: &["FILE.mtx", "SHEET"],
     options: &[],
     says: "\
-sheet      the match by whole logarithms as a sheet file: write makes one of a matrix; read gives row, u, v and cmax of
-           each column as an array of four columns; canonical says whether a sheet is the only one of its match, or
-           writes that one
+sheet      the match by whole logarithms as a sheet file: write makes one from a matrix; read gives row, u, v and cmax
+           of each column as an array of four columns; canonical says whether a sheet is the canonical one of its match,
+           or writes that one
 ",
     flags: &[],
     many: Many::makes(".sheet"),

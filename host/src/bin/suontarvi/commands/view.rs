@@ -16,9 +16,9 @@ pub const VIEW: Command = Command {
     words: &["FILE.mtx", "OUT.html"],
     options: &[],
     says: "\
-view       a page for a browser, which needs nothing else: the matrix before and after; click a row or a column, or type
-           its number, and see its ties with value, cost, u, v and slack, by whole logarithms; unmatched ones and why.
-           #row=12 or #column=7 behind the page's address selects
+view       a self-contained page for a browser: the matrix before and after; click a row or a column, or type its
+           number, to see its ties with value, cost, u, v and slack, by whole logarithms; which rows and columns are
+           unmatched, and why. #row=12 or #column=7 at the end of the address selects
 ",
     flags: &[],
     many: Many::makes(".html"),

@@ -1,10 +1,9 @@
 -- `root` meets its contract: what the call answers, case by case.
 use mathlib.Core.Path.{sym, ap, _∙_}
 use Rattle.square_root.specs.Root.{valueOf}
-use Rattle.infnorm_factors.specs.Factors.{root}
 use borrow.Author.Needs.{needs}
-use Rattle.infnorm_factors.proofs.root.Statement.{statement}
-use Rattle.infnorm_factors.proofs.root.Tie as tie
+use Rattle.root_blocks.proofs.root.Statement.{statement}
+use Rattle.root_blocks.proofs.root.Tie as tie
 
 sqrt-near-requires : tie.Need-sqrt-near-requires
 sqrt-near-requires c κs = search needs
@@ -19,13 +18,12 @@ quiet-nan-requires : tie.Need-quiet-nan-requires
 quiet-nan-requires c κs = search needs
 
 returns : tie.Need-returns
-unfolding root
 returns c = ap valueOf (sym (c .before .y .given .1) ∙ c .before .before .before .sqrt-near .ensures .0)
 
 returns-2 : tie.Need-returns-2
-unfolding root
 returns-2 c = c .quiet-nan .ensures ∙ ap valueOf (sym (c .before .enum-told .given .1) ∙ c .before .before .before .sqrt-near .ensures .0)
 
 pub root-spec : {M : Type 1} → statement M
 root-spec =
-    tie.close (tie.spec sqrt-near-requires enum-known-y enum-told quiet-nan-requires returns returns-2)
+    tie.close
+    (tie.spec sqrt-near-requires enum-known-y enum-told quiet-nan-requires returns returns-2)

@@ -1,0 +1,102 @@
+-- The check of one candidate is exact. In integers n * 2 ^ 54 is the square of q and d more (`balance`), so that the whole root is q or q + 1
+-- (`between`); half of it, rounded up, is p, and `root-bits` of square_root makes the double of it.
+use mathlib.Core.Path.{_≡_, refl, sym, ap, _∙_, subst}
+use mathlib.Core.Bool.{Bool, true, false, not}
+use Prim.Native.Nat.{ℕ, zero, suc, _+_, _-_, _*_, _/_, _%_, _^_, _≤_, _<_}
+use native.Mathlib.Nat.{mul-le-mul, mul-mul-mul-comm, mul-right-comm, le-of-lt}
+use native.Mathlib.Omega.{arith}
+use lib.Dec.{T, leb, leb→le, nleb→lt}
+use lib.Ieee.{binary64, ofBits}
+use Rattle.float64.proofs.Normalised.{normal-scaling}
+use Rattle.square_root.specs.inner.Steps.{WholeRoot}
+use Rattle.square_root.proofs.Whole.{expanded, next-square}
+use Rattle.square_root.proofs.Frame.{root-bits, scaled-square}
+use Rattle.root_blocks.specs.inner.Blocks.{underRoot, rootBits, NormalRoot}
+
+-- ---- the number under the root
+
+scaled : (n m k : ℕ) → k < 2 → (k ≡ 0 → n ≡ m) → (k ≡ 1 → n ≡ 2 * m) → n ≡ m * 2 ^ k
+scaled n m zero h e o = let x = e refl in omega arith
+scaled n m (suc zero) h e o = let x = o refl in omega arith
+scaled n m (suc (suc k)) h e o = absurd (omega arith)
+
+pub odd-exponent : (b v : ℕ) → v ≡ (b % 2 ^ 53 + 2 ^ 52) % 2 ^ 53 → v < 2 ^ 52 → v + 2 ^ 52 ≡ underRoot b
+odd-exponent b v e h =
+    scaled (v + 2 ^ 52) (b % 2 ^ 52 + 2 ^ 52) ((b / 2 ^ 52 + 1073) % 2) (omega arith) (λ k. omega arith) (λ k. absurd (omega arith))
+
+pub even-exponent : (b v : ℕ) → v ≡ (b % 2 ^ 53 + 2 ^ 52) % 2 ^ 53 → 2 ^ 52 ≤ v → 2 * v ≡ underRoot b
+even-exponent b v e h =
+    scaled (2 * v) (b % 2 ^ 52 + 2 ^ 52) ((b / 2 ^ 52 + 1073) % 2) (omega arith) (λ k. absurd (omega arith)) (λ k. omega arith)
+
+-- ---- the whole root
+
+-- p is half of the whole root of n, rounded up
+record Half (n p : ℕ) : Type 0 where
+  pub q : ℕ
+  pub whole : WholeRoot n q
+  pub half : (q + 1) / 2 ≡ p
+
+between : (n p q d : ℕ) → q + 1 ≡ 2 * p → n ≡ q * q + d → d ≤ 4 * q + 3 → Half n p
+between n p q d e s h = go (leb ((q + 1) * (q + 1)) n) (leb→le ((q + 1) * (q + 1)) n) (nleb→lt ((q + 1) * (q + 1)) n)
+  where
+    go : (b : Bool) → (T b → (q + 1) * (q + 1) ≤ n) → (T (not b) → n < (q + 1) * (q + 1)) → Half n p
+    go true l k =
+        let x = next-square q in
+        let y = next-square (q + 1) in
+        record { q = q + 1; whole = record { atMost = l tt; less = omega arith }; half = omega arith }
+    go false l k = record { q = q; whole = record { atMost = omega arith; less = k tt }; half = omega arith }
+
+-- the differences that the code makes, none of which is below zero or too large
+pub record Differences (n a b over t d left : ℕ) : Type 0 where
+  pub over-is : (over + a * a) % 2 ^ 64 ≡ n
+  pub t-is : (t + a * b) % 2 ^ 64 ≡ over * 2 ^ 26 % 2 ^ 64
+  pub d-is : (d + b * b) % 2 ^ 64 ≡ t * 2 ^ 28 % 2 ^ 64
+  pub left-is : (left + d) % 2 ^ 64 ≡ 4 * (a * 2 ^ 27 + b) + 3
+  pub over-small : over < 2 ^ 30
+  pub t-small : t < 2 ^ 30
+  pub d-small : d < 2 ^ 58
+  pub left-small : left < 2 ^ 58
+
+module _ {n a b over t d left : ℕ} (s : Differences n a b over t d left) (a-small : a < 2 ^ 27) (b-small : b < 2 ^ 27) where
+  balance : n * 2 ^ 54 ≡ (a * 2 ^ 27 + b) * (a * 2 ^ 27 + b) + d
+  balance =
+      let aa : a * a ≤ 2 ^ 27 * 2 ^ 27 = mul-le-mul (le-of-lt a-small) (le-of-lt a-small) in
+      let ab : a * b ≤ 2 ^ 27 * 2 ^ 27 = mul-le-mul (le-of-lt a-small) (le-of-lt b-small) in
+      let bb : b * b ≤ 2 ^ 27 * 2 ^ 27 = mul-le-mul (le-of-lt b-small) (le-of-lt b-small) in
+      let x : over + a * a ≡ n = omega (arith, s .over-is, s .over-small) in
+      let y : t + a * b ≡ over * 2 ^ 26 = omega (arith, s .t-is, s .over-small, s .t-small) in
+      let z : d + b * b ≡ t * 2 ^ 28 = omega (arith, s .d-is, s .t-small, s .d-small) in
+      let e = expanded (a * 2 ^ 27) b in
+      let f : a * 2 ^ 27 * (a * 2 ^ 27) ≡ a * a * 2 ^ 54 = mul-mul-mul-comm a (2 ^ 27) a (2 ^ 27) in
+      let g : a * 2 ^ 27 * b ≡ a * b * 2 ^ 27 = mul-right-comm a (2 ^ 27) b in
+      omega arith
+
+  left-over : d ≤ 4 * (a * 2 ^ 27 + b) + 3
+  left-over = omega (arith, s .left-is, s .d-small, s .left-small)
+
+-- ---- the check
+
+-- the products that the code makes
+pub record Products (p : ℕ) : Type 0 where
+  pub aa : (2 * p - 1) / 2 ^ 27 * ((2 * p - 1) / 2 ^ 27) ≤ 2 ^ 54
+  pub ab : (2 * p - 1) / 2 ^ 27 * ((2 * p - 1) % 2 ^ 27) ≤ 2 ^ 54
+  pub bb : (2 * p - 1) % 2 ^ 27 * ((2 * p - 1) % 2 ^ 27) ≤ 2 ^ 54
+
+pub products : (p : ℕ) → p < 2 ^ 53 → Products p
+products p h =
+    let a : (2 * p - 1) / 2 ^ 27 ≤ 2 ^ 27 = omega arith in
+    let b : (2 * p - 1) % 2 ^ 27 ≤ 2 ^ 27 = omega arith in
+    record { aa = mul-le-mul a a; ab = mul-le-mul a b; bb = mul-le-mul b b }
+
+pub checked : (bits p : ℕ) {n a b over t d left : ℕ} → n ≡ underRoot bits → 2 ^ 52 ≤ bits → bits < 2047 * 2 ^ 52
+    → a * 2 ^ 27 + b + 1 ≡ 2 * p → a < 2 ^ 27 → b < 2 ^ 27 → Differences n a b over t d left
+    → NormalRoot bits (ofBits binary64 (rootBits bits p))
+checked bits p {n} {a} {b} {over} {t} {d} {left} e lo hi q ha hb s =
+    let w = between (n * 2 ^ 54) p (a * 2 ^ 27 + b) d q (balance s ha hb) (left-over s ha hb) in
+    let v : WholeRoot (underRoot bits * 2 ^ 54) (w .q) = subst (λ (k : ℕ). WholeRoot (k * 2 ^ 54) (w .q)) e (w .whole) in
+    let x : (bits / 2 ^ 52 + 1073 - 52) / 2 * 2 ^ 52 + (w .q + 1) / 2 ≡ rootBits bits p = omega (arith, w .half) in
+    record {
+      least = lo;
+      most = hi;
+      root = sym (root-bits (scaled-square (ofBits binary64 bits) (normal-scaling bits lo hi)) v ∙ ap (ofBits binary64) x);
+    }

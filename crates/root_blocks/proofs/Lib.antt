@@ -1,0 +1,3 @@
+-- Why a block's check meets its contract.
+pub mod Check
+pub mod Blocks

@@ -1,0 +1,2 @@
+-- Roots in blocks: what the functions promise each other.
+pub mod inner

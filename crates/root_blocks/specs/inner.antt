@@ -1,0 +1,2 @@
+-- Blocks of roots.
+pub mod Blocks
