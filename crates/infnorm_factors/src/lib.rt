@@ -29,15 +29,14 @@ fn guarded(new: f64, old: f64) -> f64
     if fine & (new > 0.0) { new } else { old }
 }
 
-// One step d / sqrt(m) by the root of m, guarded against what is no factor; a row of zeros keeps its factor.
+// One step d / sqrt(m) by the root of m, guarded against what is no factor; a row of zeros keeps its factor. The step
+// is made before the test, so that a block needs no branch.
 pub fn new_factor(d: f64, m: f64, root: f64) -> f64
     requires { ⌜ (lt Constants.zero m ≡ true → root ≡ Factors.root m) ⌝ }
     ensures { λ r. ⌜ r ≡ Factors.newFactor d m ⌝ }
 {
-    if m > 0.0 {
-        return guarded(d / root, d);
-    }
-    d
+    let new = guarded(d / root, d);
+    if m > 0.0 { new } else { d }
 }
 
 // The one-pass factor 1 / sqrt(m) by the root of m; a row of zeros has 1.0.
@@ -45,10 +44,8 @@ pub fn inv_sqrt_scale_guarded(m: f64, root: f64) -> f64
     requires { ⌜ (lt Constants.zero m ≡ true → root ≡ Factors.root m) ⌝ }
     ensures { λ r. ⌜ r ≡ Factors.invSqrtScaleGuarded m ⌝ }
 {
-    if m > 0.0 {
-        return guarded(1.0 / root, 1.0);
-    }
-    1.0
+    let new = guarded(1.0 / root, 1.0);
+    if m > 0.0 { new } else { 1.0 }
 }
 
 // The largest deviation from 1 with one row more.

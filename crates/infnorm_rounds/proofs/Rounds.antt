@@ -42,9 +42,9 @@ module _ {whole : Float} (largest : Float) (maxima : List Float) (i : ℕ) (e : 
   deviation-end h = sym (e ∙ ap (deviatingAll largest) (drop-of-length-le maxima h))
 
 -- ---- one row more
-pub updated-next : {work f g : List Float} {l k x more : Float} {from i : ℕ} → Updated work f l from g k i → length g ≡ length work → i < length work
-    → x ≡ newFactor (getD g i nan) (getD work i nan) → more ≡ deviating k (getD work i nan) → Updated work f l from (set g i x) more (i + 1)
-updated-next {work} {f} {g} {l} {k} {x} {more} {from} {i} s e h a b = record { come = λ before u. go before (s .come before u); left = deviation-next k work i (s .left) h b }
+pub updated-next : {work f g : List Float} {x : Float} {from i : ℕ} → Updated work f from g i → length g ≡ length work → i < length work
+    → x ≡ newFactor (getD g i nan) (getD work i nan) → Updated work f from (set g i x) (i + 1)
+updated-next {work} {f} {g} {x} {from} {i} s e h a = record { come = λ before u. go before (s .come before u) }
   where
     go : (before : List Float) → Front (zipped newFactor before work) before g i → Front (zipped newFactor before work) before (set g i x) (i + 1)
     go before v =
@@ -52,11 +52,11 @@ updated-next {work} {f} {g} {l} {k} {x} {more} {from} {i} s e h a b = record { c
         front-next v (omega arith)
         (a ∙ ap (λ (d : Float). newFactor d (getD work i nan)) (front-reads v) ∙ sym (getD-zipped newFactor before work i n (omega arith)))
 
-pub updated-to : {work f g : List Float} {l k : Float} {from i to : ℕ} → Updated work f l from g k i → i ≡ to → Updated work f l from g k to
-updated-to {work} {f} {g} {l} {k} {from} s e = subst (Updated work f l from g k) e s
+pub updated-to : {work f g : List Float} {from i to : ℕ} → Updated work f from g i → i ≡ to → Updated work f from g to
+updated-to {work} {f} {g} {from} s e = subst (Updated work f from g) e s
 
-pub not-yet : {work f : List Float} {l : Float} {from : ℕ} → Updated work f l from f l from
-not-yet = record { come = λ before u. u; left = refl }
+pub not-yet : {work f : List Float} {from : ℕ} → Updated work f from f from
+not-yet = record { come = λ before u. u }
 
 -- ---- the rounds
 module _ (m : Matrix) where

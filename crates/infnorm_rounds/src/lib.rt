@@ -4,6 +4,7 @@ ghost use Prim.Native.Nat.{_+_, _≤_};
 ghost use lib.ListN.{length};
 ghost use Rattle.root_blocks.specs.inner.Blocks.{Roots};
 ghost use Rattle.sparse.specs.Matrix.{matrix};
+ghost use Rattle.float64.specs.Constants as Constants;
 ghost use Rattle.infnorm_factors.specs.Factors as Factors;
 ghost use Rattle.infnorm_maxima.specs.inner.Steps.{Accepted};
 ghost use Rattle.infnorm_rounds.specs.inner.Blocks.{Updated};
@@ -12,35 +13,37 @@ const INFNORM_MAX_ITER: usize = 10;
 
 const INFNORM_TOL: f64 = 1e-8;
 
-// New factors of a block from the maxima and their roots; the largest deviation from 1 so far.
-fn update_block(factors: &mut [f64], work: &[f64], from: usize, roots: &[f64], so_far: f64) -> f64
+// New factors of a block from the maxima and their roots.
+fn update_block(factors: &mut [f64], work: &[f64], from: usize, roots: &[f64])
     requires { ⌜ (length (now factors) ≡ length (now work)) × (from + 16 ≤ length (now work)) ⌝ }
     requires { ⌜ (length (now roots) ≡ 16) × Roots (now work) from (now roots) 16 ⌝ }
-    ensures { λ r.
-        ⌜ Updated (now (work .entry)) (now (factors .entry)) «so_far» from (now (factors .exit)) r (from + 16) ⌝ }
+    ensures { λ _. ⌜ Updated (now (work .entry)) (now (factors .entry)) from (now (factors .exit)) (from + 16) ⌝ }
 {
-    let mut largest = so_far;
     for i in 0..root_blocks::BLOCK {
         let at = from + i;
-        let m = work[at];
-        factors[at] = infnorm_factors::new_factor(factors[at], m, roots[i]);
-        largest = infnorm_factors::deviating(largest, m);
+        factors[at] = infnorm_factors::new_factor(factors[at], work[at], roots[i]);
     }
-    largest
 }
 
 // The same of the rows after the last block.
-fn update_rest(factors: &mut [f64], work: &[f64], from: usize, so_far: f64) -> f64
+fn update_rest(factors: &mut [f64], work: &[f64], from: usize)
     requires { ⌜ (length (now factors) ≡ length (now work)) × (from ≤ length (now work)) ⌝ }
-    ensures { λ r.
-        ⌜ Updated (now (work .entry)) (now (factors .entry)) «so_far» from (now (factors .exit)) r
-        (length (now (work .entry))) ⌝ }
+    ensures { λ _.
+        ⌜ Updated (now (work .entry)) (now (factors .entry)) from (now (factors .exit)) (length (now (work .entry))) ⌝ }
 {
-    let mut largest = so_far;
     for i in from..factors.len() {
         let m = work[i];
         factors[i] = infnorm_factors::new_factor(factors[i], m, root_blocks::root(m));
-        largest = infnorm_factors::deviating(largest, m);
+    }
+}
+
+// The largest deviation of the maxima from 1.
+fn largest_deviation(work: &[f64]) -> f64
+    ensures { λ r. ⌜ r ≡ Factors.deviatingAll Constants.zero (now (work .entry)) ⌝ }
+{
+    let mut largest = 0.0;
+    for i in 0..work.len() {
+        largest = infnorm_factors::deviating(largest, work[i]);
     }
     largest
 }
@@ -53,14 +56,14 @@ fn update_factors(factors: &mut [f64], work: &[f64]) -> f64
         ≡ Factors.roundWith (now (factors .entry)) (now (work .entry)) ⌝ }
 {
     let mut roots = [0.0; root_blocks::BLOCK];
-    let mut largest = 0.0;
     let mut from = 0;
     while factors.len() - from >= root_blocks::BLOCK {
         root_blocks::roots_of(work, from, &mut roots);
-        largest = update_block(factors, work, from, &roots, largest);
+        update_block(factors, work, from, &roots);
         from += root_blocks::BLOCK;
     }
-    update_rest(factors, work, from, largest)
+    update_rest(factors, work, from);
+    largest_deviation(work)
 }
 
 // One round: its largest deviation.

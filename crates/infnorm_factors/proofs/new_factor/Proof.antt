@@ -10,7 +10,7 @@ guarded-requires c κs = search needs
 
 returns : tie.Need-returns
 unfolding newFactor
-returns c = rw (c .before .if1 .taken, c .guarded .ensures, c .before .before .pre (c .before .if1 .taken)) refl
+returns c = rw (c .if1 .taken, c .before .guarded .ensures, c .before .before .pre (c .if1 .taken)) refl
 
 returns-2 : tie.Need-returns-2
 unfolding newFactor

@@ -1,4 +1,4 @@
--- `update_block` meets its contract. The loop's invariant: the rows below from + i have their factors, and the deviations from there on are left.
+-- `update_block` meets its contract. The loop's invariant: the rows below from + i have their factors.
 use mathlib.Core.Path.{_≡_, refl, _∙_}
 use Prim.Native.Nat.{_+_, _-_, _≤_}
 use native.Mathlib.Omega.{arith}
@@ -11,11 +11,11 @@ use Rattle.infnorm_rounds.proofs.update_block.Statement.{statement}
 use Rattle.infnorm_rounds.proofs.update_block.Tie as tie
 
 abbrev Inv-loop : tie.InvT-loop
-Inv-loop factors₀ work from roots so-far largest₀ i₀ factors largest i = (i ≤ 16) × (length factors₀ ≡ length work) × (from + 16 ≤ length work) × (length roots ≡ 16) × (length factors ≡ length factors₀)
-    × Roots work from roots 16 × Updated work factors₀ so-far from factors largest (from + i)
+Inv-loop factors₀ work from roots i₀ factors i = (i ≤ 16) × (length factors₀ ≡ length work) × (from + 16 ≤ length work) × (length roots ≡ 16)
+    × (length factors ≡ length factors₀) × Roots work from roots 16 × Updated work factors₀ from factors (from + i)
 
 abbrev μ-loop : tie.MeasureT-loop
-μ-loop factors₀ work from roots so-far largest₀ i₀ factors largest i = 16 - i
+μ-loop factors₀ work from roots i₀ factors i = 16 - i
 
 -- places of the proof, each from a later one
 abbrev loop-of-new-factor : tie.After-new-factor Inv-loop μ-loop → tie.At-loop Inv-loop μ-loop
@@ -26,12 +26,6 @@ loop-holds c = (omega arith, omega arith, omega arith, omega arith, refl, c .bef
 
 add-at : tie.Need-add-at Inv-loop μ-loop
 add-at c = omega arith
-
-mul-m : tie.Need-mul-m Inv-loop μ-loop
-mul-m c = omega arith
-
-shared-slice-read-m : tie.Need-shared-slice-read-m Inv-loop μ-loop
-shared-slice-read-m c = omega arith
 
 mul-new-factor : tie.Need-mul-new-factor Inv-loop μ-loop
 mul-new-factor c = omega arith
@@ -45,6 +39,12 @@ mul-new-factor-2 c = omega arith
 shared-slice-read-new-factor : tie.Need-shared-slice-read-new-factor Inv-loop μ-loop
 shared-slice-read-new-factor c = omega arith
 
+mul-new-factor-3 : tie.Need-mul-new-factor-3 Inv-loop μ-loop
+mul-new-factor-3 c = omega arith
+
+shared-slice-read-new-factor-2 : tie.Need-shared-slice-read-new-factor-2 Inv-loop μ-loop
+shared-slice-read-new-factor-2 c = omega arith
+
 new-factor-requires : tie.Need-new-factor-requires Inv-loop μ-loop
 unfolding root
 new-factor-requires c κs = let loop = c .before .before .before .before .loop in loop .inv .5 .at (loop .i) (omega arith)
@@ -55,9 +55,6 @@ mul-factors c = omega arith
 slice-write-factors : tie.Need-slice-write-factors Inv-loop μ-loop
 slice-write-factors c = omega arith
 
-deviating-requires : tie.Need-deviating-requires Inv-loop μ-loop
-deviating-requires c κs = tt
-
 add-i : tie.Need-add-i Inv-loop μ-loop
 add-i c = omega arith
 
@@ -66,14 +63,14 @@ loop-less c = omega arith
 
 loop-again : tie.Need-loop-again Inv-loop μ-loop
 loop-again c =
-    let loop = loop-of-new-factor (c .before) .loop in (
+    let loop = loop-of-new-factor c .loop in (
       omega arith,
       omega arith,
       omega arith,
       omega arith,
       simp length-set (loop .inv .4),
       loop .inv .5,
-      updated-to (updated-next (loop .inv .6) (loop .inv .4 ∙ loop .inv .1) (omega arith) (c .before .new-factor .ensures) (c .deviating .ensures)) (omega arith),
+      updated-to (updated-next (loop .inv .6) (loop .inv .4 ∙ loop .inv .1) (omega arith) (c .new-factor .ensures)) (omega arith),
     )
 
 same-length : tie.Need-same-length Inv-loop μ-loop
@@ -90,16 +87,15 @@ update-block-spec =
     μ-loop
     loop-holds
     add-at
-    mul-m
-    shared-slice-read-m
     mul-new-factor
     slice-read-new-factor
     mul-new-factor-2
     shared-slice-read-new-factor
+    mul-new-factor-3
+    shared-slice-read-new-factor-2
     new-factor-requires
     mul-factors
     slice-write-factors
-    deviating-requires
     add-i
     loop-less
     loop-again

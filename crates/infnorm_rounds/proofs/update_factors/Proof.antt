@@ -1,28 +1,23 @@
--- `update_factors` meets its contract. The loop's invariant: the rows below `from` have their factors, and the deviations from there on are left.
+-- `update_factors` meets its contract. The loop's invariant: the rows below `from` have their factors.
 use mathlib.Core.Path.{_≡_, refl, sym, ap₂, _∙_}
 use Prim.Native.Nat.{_-_, _≤_}
-use native.Mathlib.Nat.{le-refl}
 use native.Mathlib.Omega.{arith}
-use lib.ListN.{length, drop}
-use Rattle.float64.specs.Constants as Constants
-use Rattle.infnorm_factors.specs.Factors.{newFactor, zipped, deviatingAll, roundIs}
+use lib.ListN.{length}
+use Rattle.infnorm_factors.specs.Factors.{newFactor, zipped, roundIs}
 use Rattle.slices.specs.inner.Steps.{Front}
 use Rattle.slices.proofs.Fronts.{front-start, front-end}
-use Rattle.infnorm_rounds.proofs.Rounds.{length-zipped, deviation-end}
+use Rattle.infnorm_rounds.proofs.Rounds.{length-zipped}
 use Rattle.infnorm_rounds.proofs.update_factors.Statement.{statement}
 use Rattle.infnorm_rounds.proofs.update_factors.Tie as tie
 
 abbrev Inv-loop : tie.InvT-loop
-Inv-loop factors₀ work roots₀ largest₀ from₀ factors roots largest from = (from ≤ length work) × (length factors₀ ≡ length work) × (length roots ≡ 16)
-    × Front (zipped newFactor factors₀ work) factors₀ factors from × (deviatingAll Constants.zero work ≡ deviatingAll largest (drop from work))
+Inv-loop factors₀ work roots₀ from₀ factors roots from = (from ≤ length work) × (length factors₀ ≡ length work) × (length roots ≡ 16)
+    × Front (zipped newFactor factors₀ work) factors₀ factors from
 
 abbrev μ-loop : tie.MeasureT-loop
-μ-loop factors₀ work roots₀ largest₀ from₀ factors roots largest from = length work - from
+μ-loop factors₀ work roots₀ from₀ factors roots from = length work - from
 
 -- places of the proof, each from a later one
-abbrev entry-of-loop : tie.At-loop Inv-loop μ-loop → tie.Start Inv-loop μ-loop
-entry-of-loop c = c .before .before .before
-
 abbrev loop-of-roots-of : tie.After-roots-of Inv-loop μ-loop → tie.At-loop Inv-loop μ-loop
 loop-of-roots-of c = c .before .before .before
 
@@ -35,7 +30,7 @@ loop-of-update-rest c = c .before .before .before
 loop-holds : tie.Need-loop-holds Inv-loop μ-loop
 loop-holds c =
     let entry = c .before .before in
-    (omega arith, entry .pre, refl, front-start _ _ (length-zipped newFactor (entry .args .factors .now) (entry .args .work .now) (entry .pre)), refl)
+    (omega arith, entry .pre, refl, front-start _ _ (length-zipped newFactor (entry .args .factors .now) (entry .args .work .now) (entry .pre)))
 
 sub-loop : tie.Need-sub-loop Inv-loop μ-loop
 sub-loop c = omega (arith, c .loop .inv .3 .same)
@@ -79,7 +74,6 @@ loop-again c =
       loop .inv .1,
       roots-of .roots-of .kept .1 .1 .0 ∙ loop .inv .2,
       c .before .before .update-block .ensures .come _ (loop .inv .3),
-      loop .inv .4 ∙ c .before .before .update-block .ensures .left,
     )
 
 update-rest-requires : tie.Need-update-rest-requires Inv-loop μ-loop
@@ -87,17 +81,19 @@ update-rest-requires c κs =
     let loop = c .before .before .loop in
     (loop .inv .3 .same ∙ loop .inv .1, loop .inv .0)
 
+largest-deviation-requires : tie.Need-largest-deviation-requires Inv-loop μ-loop
+largest-deviation-requires c κs = tt
+
 same-length : tie.Need-same-length Inv-loop μ-loop
 same-length c =
-    let rest = c .before .before in
+    let rest = c .before .before .before in
     rest .update-rest .kept .0 ∙ loop-of-update-rest rest .loop .inv .3 .same
 
 returns : tie.Need-returns Inv-loop μ-loop
 returns c =
-    let rest = c .before .before in
+    let rest = c .before .before .before in
     let loop = loop-of-update-rest rest .loop in
-    ap₂ roundIs (front-end (rest .update-rest .ensures .come _ (loop .inv .3)) (omega arith))
-    (deviation-end _ (entry-of-loop (loop-of-update-rest rest) .args .work .now) _ (loop .inv .4 ∙ rest .update-rest .ensures .left) (le-refl _))
+    ap₂ roundIs (front-end (rest .update-rest .ensures .come _ (loop .inv .3)) (omega arith)) (c .largest-deviation .ensures)
 
 pub update-factors-spec : {M : Type 1} → statement M
 update-factors-spec =
@@ -115,5 +111,6 @@ update-factors-spec =
     loop-less
     loop-again
     update-rest-requires
+    largest-deviation-requires
     same-length
     returns)

@@ -1,4 +1,4 @@
--- `update_rest` meets its contract. The loop's invariant: the rows below i have their factors, and the deviations from there on are left.
+-- `update_rest` meets its contract. The loop's invariant: the rows below i have their factors.
 use mathlib.Core.Path.{_≡_, refl, _∙_}
 use Prim.Native.Nat.{_-_, _≤_}
 use native.Mathlib.Omega.{arith}
@@ -10,11 +10,11 @@ use Rattle.infnorm_rounds.proofs.update_rest.Statement.{statement}
 use Rattle.infnorm_rounds.proofs.update_rest.Tie as tie
 
 abbrev Inv-loop : tie.InvT-loop
-Inv-loop factors₀ work from so-far largest₀ i₀ i-end factors largest i = (from ≤ i) × (i ≤ length work) × (length factors₀ ≡ length work) × (length factors ≡ length factors₀)
-    × Updated work factors₀ so-far from factors largest i
+Inv-loop factors₀ work from i₀ i-end factors i = (from ≤ i) × (i ≤ length work) × (length factors₀ ≡ length work) × (length factors ≡ length factors₀)
+    × Updated work factors₀ from factors i
 
 abbrev μ-loop : tie.MeasureT-loop
-μ-loop factors₀ work from so-far largest₀ i₀ i-end factors largest i = length work - i
+μ-loop factors₀ work from i₀ i-end factors i = length work - i
 
 -- places of the proof, each from a later one
 abbrev loop-of-new-factor : tie.After-new-factor Inv-loop μ-loop → tie.At-loop Inv-loop μ-loop
@@ -48,9 +48,6 @@ mul-factors c = omega arith
 slice-write-factors : tie.Need-slice-write-factors Inv-loop μ-loop
 slice-write-factors c = omega arith
 
-deviating-requires : tie.Need-deviating-requires Inv-loop μ-loop
-deviating-requires c κs = tt
-
 add-i : tie.Need-add-i Inv-loop μ-loop
 add-i c = omega arith
 
@@ -59,12 +56,12 @@ loop-less c = omega arith
 
 loop-again : tie.Need-loop-again Inv-loop μ-loop
 loop-again c =
-    let loop = loop-of-new-factor (c .before) .loop in (
+    let loop = loop-of-new-factor c .loop in (
       omega arith,
       omega arith,
       omega arith,
       simp length-set (loop .inv .3),
-      updated-next (loop .inv .4) (loop .inv .3 ∙ loop .inv .2) (omega arith) (c .before .new-factor .ensures) (c .deviating .ensures),
+      updated-next (loop .inv .4) (loop .inv .3 ∙ loop .inv .2) (omega arith) (c .new-factor .ensures),
     )
 
 same-length : tie.Need-same-length Inv-loop μ-loop
@@ -88,7 +85,6 @@ update-rest-spec =
     new-factor-requires
     mul-factors
     slice-write-factors
-    deviating-requires
     add-i
     loop-less
     loop-again
