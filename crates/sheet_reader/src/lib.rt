@@ -2,8 +2,7 @@
 use sheet::Found;
 use sheet::Record;
 ghost use mathlib.Core.Path.{_≡_};
-ghost use mathlib.Core.Bool.{true, false, _&&_};
-ghost use lib.Dec.{ltb, eqb};
+ghost use mathlib.Core.Bool.{true, false};
 ghost use Prim.Native.Nat.{_≤_};
 ghost use lib.ListN.{length, drop, replicate};
 ghost use Rattle.limits.specs.Limits.{none, maxColumns};
@@ -14,7 +13,7 @@ ghost use Rattle.sheet.specs.Reading.{headFault, bodyFault, sheetMatch};
 ghost use Rattle.sheet.specs.inner.Steps.{Inside};
 ghost use Rattle.sheet.specs.Canonical.{needlessFault, risingFault, canonicalFault};
 ghost use Rattle.slices.specs.Outcome.{outcomeIs};
-ghost use Rattle.sheet_reader.specs.inner.Steps.{Mapped, faultOf};
+ghost use Rattle.sheet_reader.specs.inner.Steps.{faultOf};
 ghost use Rattle.sheet_reader.specs.Call.{bodyOf, lengths, sizes, outcomeBy, ReadPromises, CanonicalPromises};
 
 // What `read_sheet` answers: n and the matched count, or why nothing was read.
@@ -78,31 +77,15 @@ fn records_fault(n: u32, sheet: &[u8]) -> u32
     test_records(n, sheet, &mut marks)
 }
 
-// A number that stands and is what its absence means.
-fn needless(bit: u32, value: u64) -> bool
-    ensures { λ r. ⌜ r ≡ (ltb 0 bit && eqb value 0) ⌝ }
-{
-    (bit > 0) & (value == 0)
-}
-
-// Refusal 45, or 0: an empty map, or a needless number. A row that stands is none that is absent.
+// Refusal 45, or 0: an empty map, or another than that of the fields.
 fn needless_fault(r: Record) -> u32
-    requires { ⌜ Mapped r ⌝ }
     ensures { λ s. ⌜ s ≡ needlessFault r ⌝ }
 {
-    if r.bits == 0 {
-        return refusal::NEEDLESS_FIELD;
+    let map = sheet::bits_of(r.row, r.u, r.v, r.cmax);
+    if (r.bits > 0) & (r.bits == map) {
+        return refusal::ACCEPTED;
     }
-    if needless(r.bits / 2 % 2, r.u) {
-        return refusal::NEEDLESS_FIELD;
-    }
-    if needless(r.bits / 4 % 2, r.v) {
-        return refusal::NEEDLESS_FIELD;
-    }
-    if needless(r.bits / 8 % 2, r.cmax) {
-        return refusal::NEEDLESS_FIELD;
-    }
-    refusal::ACCEPTED
+    refusal::NEEDLESS_FIELD
 }
 
 // Refusal 44, or 0.
@@ -117,7 +100,6 @@ fn rising_fault(next: u32, r: Record) -> u32
 
 // Refusal 45, then 44, or 0.
 fn canonical_fault(next: u32, r: Record) -> u32
-    requires { ⌜ Mapped r ⌝ }
     ensures { λ s. ⌜ s ≡ orElse (needlessFault r) (risingFault next r) ⌝ }
 {
     let needless = needless_fault(r);

@@ -6,7 +6,7 @@ use borrow.Author.Needs.{needs}
 use lib.ListN.{length}
 use Rattle.sheet.proofs.Lengths.{size-least}
 use Rattle.sheet.proofs.Records.{first-says}
-use Rattle.sheet_reader.proofs.Tested.{first-at, first-mapped, size-within, patch-below, canonicalFrom, canonical-end, canonical-cut}
+use Rattle.sheet_reader.proofs.Tested.{first-at, size-within, patch-below, canonicalFrom, canonical-end, canonical-cut}
 use Rattle.sheet_reader.proofs.Tested.{canonical-index, canonical-fault, canonical-passed}
 use Rattle.sheet_reader.proofs.test_canonical.Statement.{statement}
 use Rattle.sheet_reader.proofs.test_canonical.Tie as tie
@@ -113,10 +113,7 @@ returns-2 c =
     (c .before .index-fault .ensures) (c .if1 .taken))
 
 canonical-fault-requires : tie.Need-canonical-fault-requires Inv-loop μ-loop
-canonical-fault-requires c κs =
-    first-mapped (entry-of-else1 c .args .n) (entry-of-else1 c .args .sheet .now) (loop-of-else1 c .loop .at) (r-of-else1 c .r .given .0 .0) (first-at
-    (entry-of-else1 c .args .sheet .now) (loop-of-else1 c .loop .at) (first-record-of-else1 c .first-record .ensures) (r-of-else1 c .r .given .1)) (sym
-    (c .before .index-fault .ensures) ∙ c .if1 .left) (λ i. omega (arith, loop-of-else1 c .before .shared-slice-known .given i))
+canonical-fault-requires c κs = tt
 
 returns-3 : tie.Need-returns-3 Inv-loop μ-loop
 returns-3 c =
