@@ -1,5 +1,5 @@
 -- `factor_bytes::read_factors` meets its contract: the pairs that were read are refused, or the factors are laid down.
-use mathlib.Core.Path.{_≡_, refl, sym, ap, _∙_, subst}
+use mathlib.Core.Path.{refl, sym, ap, _∙_, subst}
 use mathlib.Core.List.{List}
 use Prim.Native.Nat.{ℕ, _*_}
 use native.Mathlib.Omega.{arith}
