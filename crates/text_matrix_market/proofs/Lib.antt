@@ -3,7 +3,7 @@ pub mod Accepted
 pub mod Filling
 pub mod Theorems
 mod Reaching
-mod Words
+pub mod Words
 mod Digits
 mod Names
 mod Fields
