@@ -1,7 +1,8 @@
 -- The call: what is built is what it promises, and what the tests leave is what the building asks for.
 use mathlib.Core.Path.{_≡_}
 use mathlib.Core.List.{List}
-use Prim.Native.Nat.{ℕ}
+use Prim.Native.Nat.{ℕ, _≤_}
+use native.Mathlib.Omega.{arith}
 use lib.Ieee.{Float}
 use lib.ListN.{length, replicate}
 use Rattle.limits.specs.Limits.{maxGeneral}
@@ -32,7 +33,7 @@ accepted n m logs s after kept fault e b w =
 
 -- ---- what an accepted call has
 pub ready : (n : ℕ) (m : Matrix) (logs : List Float) (s : Slices) → inputFault n m logs (lengthsFit n m logs s) ≡ 0
-    → Accepted n m logs × Roomy n (m .rows) (s .graphPtr) (s .graphIdx) (s .cost) (s .cmax)
+    → Accepted n m logs × Roomy n (m .rows) (s .graphPtr) (s .graphIdx) (s .cost) (s .cmax) × (length (m .rows) ≤ length (s .work))
 unfolding inputFault
 ready n m logs s fine =
     let z = or-zero (sizeFault n maxGeneral (length (m .rows)) (lengthsFit n m logs s)) _ fine in
@@ -40,4 +41,5 @@ ready n m logs s fine =
     let a = general-accepted n (m .colPtr) (m .rows) (m .values) .0 (or-zero (generalFault n (m .colPtr) (m .rows) (m .values)) _ (z .1) .0) in (
       record { sizes = a .0; pointers = a .1 .pointers; logged = f .logged },
       record { pointerRoom = f .pointers; rowRoom = f .rowRoom; costRoom = f .costRoom; cmaxRoom = f .cmaxRoom },
+      omega (arith, f .workRoom),
     )

@@ -248,9 +248,10 @@ module _ (n : ℕ) (m : Matrix) (s : Slices) (fine : wholeGeneralFault n m s ≡
 
   -- what the building asks for, of the values in the place of logs
   pub general-ready : GeneralSteps.Accepted n m (m .values) × GeneralSteps.Roomy n (m .rows) (s .graphPtr) (s .graphIdx) (s .cost) (s .cmax)
+      × (length (m .rows) ≤ length (s .work))
   general-ready =
       let r = GeneralCalling.ready n m (valueLogs (m .values)) s general-fine in
-      (record { sizes = r .0 .sizes; pointers = r .0 .pointers; logged = r .0 .sizes .stored }, r .1)
+      (record { sizes = r .0 .sizes; pointers = r .0 .pointers; logged = r .0 .sizes .stored }, r .1, r .2)
 
   general-whole : WholeCosts (graphBy n (keptColumns m) m)
   unfolding isKept ne
