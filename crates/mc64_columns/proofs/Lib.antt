@@ -8,3 +8,4 @@ pub mod Entries
 pub mod Whole
 pub mod Calls
 pub mod Examples
+pub mod Words

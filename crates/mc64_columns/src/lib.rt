@@ -1,9 +1,9 @@
 // What both builders of cost graphs do to a column of logs.
 ghost use mathlib.Core.Path.{_≡_};
-ghost use Prim.Native.Nat.{_<_};
+ghost use Prim.Native.Nat.{_+_, _≤_, _<_};
 ghost use lib.ListN.{length};
 ghost use Rattle.mc64_columns.specs.Columns.{largest, below, normalised};
-ghost use Rattle.mc64_columns.specs.inner.Steps.{entryLog};
+ghost use Rattle.mc64_columns.specs.inner.Steps.{entryLog, WordOf, WordsPut};
 
 // What a builder answers: how many entries the graph has, or why there is none.
 pub enum Built {
@@ -17,13 +17,25 @@ pub enum LogSource {
     Own,
 }
 
-// The log of an entry: what is lent for it, or the logarithm of that.
-pub fn entry_log(source: LogSource, lent: f64) -> f64
+// The log of an entry: what is lent for it, or the logarithm of that, whose word is given.
+pub fn entry_log(source: LogSource, lent: f64, word: u32) -> f64
+    requires { ⌜ WordOf source lent word ⌝ }
     ensures { λ r. ⌜ r ≡ entryLog source lent ⌝ }
 {
     match source {
         LogSource::Lent => lent,
-        LogSource::Own => whole_log::double_log(lent),
+        LogSource::Own => log_lanes::double_of(word),
+    }
+}
+
+// The words of what is lent, from `at` on, where the logs are the values' own; lent logs need none.
+pub fn put_words(source: LogSource, lent: &[f64], at: usize, words: &mut [u32])
+    requires { ⌜ at + length (now lent) ≤ length (now words) ⌝ }
+    ensures { λ _. ⌜ WordsPut source (now (lent .entry)) at (now (words .entry)) (now (words .exit)) ⌝ }
+{
+    match source {
+        LogSource::Lent => {}
+        LogSource::Own => log_lanes::log_words(lent, at, words),
     }
 }
 

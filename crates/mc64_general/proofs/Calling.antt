@@ -1,7 +1,8 @@
 -- The call: what is built is what it promises, and what the tests leave is what the building asks for.
 use mathlib.Core.Path.{_≡_}
 use mathlib.Core.List.{List}
-use Prim.Native.Nat.{ℕ}
+use Prim.Native.Nat.{ℕ, _≤_}
+use native.Mathlib.Omega.{arith}
 use lib.Ieee.{Float}
 use lib.ListN.{length, replicate}
 use Rattle.limits.specs.Limits.{maxGeneral}
@@ -34,6 +35,7 @@ accepted m logs s after kept fault e b w =
 -- ---- what an accepted call has
 pub ready : (m : Matrix) (logs : List Float) (s : Slices) → inputFault m logs (lengthsFit m logs s) ≡ 0
     → Accepted m logs × Roomy (m .pattern .n) (m .pattern .rowIdx) (s .graphPtr) (s .graphIdx) (s .cost) (s .cmax)
+    × (length (m .pattern .rowIdx) ≤ length (s .work))
 unfolding inputFault
 ready m logs s fine =
     let z = or-zero (sizeFault (m .pattern .n) maxGeneral (length (m .pattern .rowIdx)) (lengthsFit m logs s)) _ fine in
@@ -42,4 +44,5 @@ ready m logs s fine =
     let a = general-accepted m .0 (or-zero (generalFault m) _ (z .1) .0) in (
       record { sizes = a .0; pointers = a .1 .pointers; logged = f .logged },
       record { pointerRoom = f .pointers; rowRoom = f .rowRoom; costRoom = f .costRoom; cmaxRoom = f .cmaxRoom },
+      omega (arith, f .workRoom),
     )

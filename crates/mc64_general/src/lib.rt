@@ -10,7 +10,7 @@ ghost use lib.ListN.{length};
 ghost use Rattle.limits.specs.Limits.{maxColumns};
 ghost use Rattle.sparse.specs.Matrix.{matrix};
 ghost use Rattle.cost_limit.specs.inner.Limits.{LogLimit};
-ghost use Rattle.mc64_columns.specs.inner.Steps.{entryLogs};
+ghost use Rattle.mc64_columns.specs.inner.Steps.{entryLogs, Worded};
 ghost use Rattle.mc64_columns.specs.Graphs.{slices};
 ghost use Rattle.mc64_general.specs.Graph.{isKept, keptPlaces, largestLog};
 ghost use Rattle.mc64_general.specs.Call.{lengthsFit, logFits, logsFault, inputFault, Promises};
@@ -109,6 +109,7 @@ fn keep_column(
     row_idx: &[u32],
     values: &[f64],
     logs: &[f64],
+    words: &[u32],
     graph_rows: &mut [u32],
     cost: &mut [f64],
     source: LogSource,
@@ -116,6 +117,7 @@ fn keep_column(
     requires { ⌜ (from ≤ to) × (to ≤ length (now «row_idx»)) × (at ≤ from) ⌝ }
     requires { ⌜ (length (now values) ≡ length (now «row_idx»)) × (length (now logs) ≡ length (now «row_idx»)) ⌝ }
     requires { ⌜ (length (now «graph_rows») ≡ length (now «row_idx»)) × (length (now cost) ≡ length (now «row_idx»)) ⌝ }
+    requires { ⌜ Worded source (now logs) 0 (now words) × (length (now «row_idx») ≤ length (now words)) ⌝ }
     ensures { λ r.
         ⌜ Copied (keptPlaces (now (values .entry)) from (to - from)) (now («row_idx» .entry))
         (entryLogs source (now (logs .entry))) at (now («graph_rows» .entry)) (now (cost .entry))
@@ -127,7 +129,7 @@ fn keep_column(
             continue;
         }
         graph_rows[next] = row_idx[k];
-        cost[next] = mc64_columns::entry_log(source, logs[k]);
+        cost[next] = mc64_columns::entry_log(source, logs[k], words[k]);
         next += 1;
     }
     next
@@ -146,13 +148,15 @@ fn normalise_stretch(start: usize, end: usize, cost: &mut [f64]) -> f64
     mc64_columns::normalise(&mut cost[start..end])
 }
 
-// The graph of an accepted matrix, column by column; how many entries it has.
+// The graph of an accepted matrix, column by column; how many entries it has. Where the logs are not lent, `words` has
+// those of the values.
 pub fn build(
     n: usize,
     col_ptr: &[u32],
     row_idx: &[u32],
     values: &[f64],
     logs: &[f64],
+    words: &[u32],
     graph_ptr: &mut [u32],
     graph_rows: &mut [u32],
     cost: &mut [f64],
@@ -161,6 +165,7 @@ pub fn build(
 ) -> u32
     requires { ⌜ Accepted (matrix n (now «col_ptr») (now «row_idx») (now values)) (now logs) ⌝ }
     requires { ⌜ Roomy n (now «row_idx») (now «graph_ptr») (now «graph_rows») (now cost) (now cmax) ⌝ }
+    requires { ⌜ Worded source (now logs) 0 (now words) × (length (now «row_idx») ≤ length (now words)) ⌝ }
     ensures { λ r.
         let m = matrix n (now («col_ptr» .entry)) (now («row_idx» .entry)) (now (values .entry)) in
         ⌜ BuiltAll m (entryLogs source (now (logs .entry))) (now («graph_rows» .entry)) (now (cost .entry))
@@ -178,6 +183,7 @@ pub fn build(
             row_idx,
             values,
             logs,
+            words,
             graph_rows,
             cost,
             source,
@@ -234,6 +240,7 @@ pub fn build_general_graph(
         row_idx,
         values,
         logs,
+        work,
         graph_ptr,
         graph_rows,
         cost,

@@ -11,7 +11,7 @@ use lib.ListN.{length, getD, set, take, drop, length-drop}
 use lib.Seq.{take-all, drop-drop}
 use Rattle.slices.proofs.Bools.{both}
 use Rattle.refusal.specs.Refusal.{sheetCut, sheetIndex, patchTwice, patchOrder, needlessField}
-use Rattle.sparse.specs.Fault.{orElse}
+use Rattle.sparse.specs.Fault.{unless, orElse}
 use Rattle.sparse.proofs.First.{or-none, or-some, unless-holds}
 use Rattle.sheet.specs.declared.Record.{Record}
 use Rattle.sheet.specs.declared.Found.{Found}

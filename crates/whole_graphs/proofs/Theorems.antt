@@ -257,10 +257,10 @@ module _ (m : Matrix) (s : Slices) (fine : wholeGeneralFault m s ≡ 0) (doubles
 
   -- what the building asks for, of the values in the place of logs
   pub general-ready : GeneralSteps.Accepted m (m .values) × GeneralSteps.Roomy (m .pattern .n) (m .pattern .rowIdx) (s .graphPtr) (s .graphIdx) (s .cost)
-      (s .cmax)
+      (s .cmax) × (length (m .pattern .rowIdx) ≤ length (s .work))
   general-ready =
       let r = GeneralCalling.ready m (valueLogs (m .values)) s general-fine in
-      (record { sizes = r .0 .sizes; pointers = r .0 .pointers; logged = r .0 .sizes .stored }, r .1)
+      (record { sizes = r .0 .sizes; pointers = r .0 .pointers; logged = r .0 .sizes .stored }, r .1, r .2)
 
   general-whole : WholeCosts (graphBy (keptColumns m) m)
   unfolding isKept ne

@@ -151,12 +151,14 @@ pub fn whole_general_graph(
     if fault != refusal::ACCEPTED {
         return Built::Refused(fault);
     }
+    mc64_columns::put_words(LogSource::Own, values, 0, work);
     let count = mc64_general::build(
         size,
         col_ptr,
         row_idx,
         values,
         values,
+        work,
         graph_ptr,
         graph_rows,
         cost,

@@ -8,21 +8,21 @@ use Rattle.whole_log.specs.Log.{digitOf, squared, logFrom}
 use Rattle.whole_log.specs.inner.Steps.{Running}
 use Rattle.whole_log.proofs.Squares.{squared-in, wider}
 
-pub start : (m e : ℕ) → 2 ^ 31 ≤ m → m < 2 ^ 32 → e < 2098 → Running m e 16 m e
-start m e lo hi h = record { full = lo; short = hi; room = omega arith; rest = refl }
+pub start : (top m e : ℕ) → 2 ^ 31 ≤ m → m < 2 ^ 32 → e < top → Running top m e 16 m e
+start top m e lo hi h = record { full = lo; short = hi; room = omega arith; rest = refl }
 
 -- the square s of m: its digit, and its leading digits
-pub record Turn (e s : ℕ) : Type 0 where
+pub record Turn (top e s : ℕ) : Type 0 where
   pub digit : s / 2 ^ 63 ≤ 1
   pub low : 2 ^ 31 ≤ s / 2 ^ (31 + s / 2 ^ 63)
   pub high : s / 2 ^ (31 + s / 2 ^ 63) < 2 ^ 32
-  pub known : e < 2098 * 65536
+  pub known : e < top * 65536
 
-pub turn-facts : (m₀ e₀ k m e s : ℕ) → Running m₀ e₀ k m e → s ≡ m * m → Turn e s
-turn-facts m₀ e₀ k m e s r h =
+pub turn-facts : (top m₀ e₀ k m e s : ℕ) → Running top m₀ e₀ k m e → s ≡ m * m → Turn top e s
+turn-facts top m₀ e₀ k m e s r h =
     let i = squared-in m (r .full) (r .short) in
-    let l : e + 1 ≤ 2098 * 65536 = le-trans (le-trans (le-of-eq (sym (mul-one (e + 1)))) (mul-le-mul-left (e + 1) (pow-pos k))) (r .room) in
-    subst (Turn e) (sym h) (record { digit = i .0; low = i .1; high = i .2; known = omega arith })
+    let l : e + 1 ≤ top * 65536 = le-trans (le-trans (le-of-eq (sym (mul-one (e + 1)))) (mul-le-mul-left (e + 1) (pow-pos k))) (r .room) in
+    subst (Turn top e) (sym h) (record { digit = i .0; low = i .1; high = i .2; known = omega arith })
 
 more : (k m e : ℕ) → logFrom k (squared m) (2 * e + digitOf m) ≡ logFrom (suc k) m e
 unfolding logFrom
@@ -32,21 +32,22 @@ none : (m e : ℕ) → e ≡ logFrom zero m e
 unfolding logFrom
 none m e = refl
 
-pub turn : (m₀ e₀ k m e s : ℕ) → Running m₀ e₀ k m e → 0 < k → s ≡ m * m → Running m₀ e₀ (k - 1) (s / 2 ^ (31 + s / 2 ^ 63)) (e + e + s / 2 ^ 63)
-turn m₀ e₀ zero m e s r l h = absurd (omega arith)
-turn m₀ e₀ (suc k) m e s r l h =
+pub turn : (top m₀ e₀ k m e s : ℕ) → Running top m₀ e₀ k m e → 0 < k → s ≡ m * m
+    → Running top m₀ e₀ (k - 1) (s / 2 ^ (31 + s / 2 ^ 63)) (e + e + s / 2 ^ 63)
+turn top m₀ e₀ zero m e s r l h = absurd (omega arith)
+turn top m₀ e₀ (suc k) m e s r l h =
     let i = squared-in m (r .full) (r .short) in
     let twice : 2 * e + digitOf m ≡ e + e + digitOf m = omega arith in
-    let next : Running m₀ e₀ k (squared m) (2 * e + digitOf m) = record {
+    let next : Running top m₀ e₀ k (squared m) (2 * e + digitOf m) = record {
       full = i .1;
       short = i .2;
       room = le-trans (wider k e (digitOf m) (i .0)) (r .room);
       rest = more k m e ∙ r .rest;
     } in
     let less : k ≡ suc k - 1 = omega arith in
-    subst (λ (n : ℕ). Running m₀ e₀ n (s / 2 ^ (31 + s / 2 ^ 63)) (e + e + s / 2 ^ 63)) less
-    (subst (λ (a : ℕ). Running m₀ e₀ k (a / 2 ^ (31 + a / 2 ^ 63)) (e + e + a / 2 ^ 63)) (sym h) (subst (Running m₀ e₀ k (squared m)) twice next))
+    subst (λ (n : ℕ). Running top m₀ e₀ n (s / 2 ^ (31 + s / 2 ^ 63)) (e + e + s / 2 ^ 63)) less
+    (subst (λ (a : ℕ). Running top m₀ e₀ k (a / 2 ^ (31 + a / 2 ^ 63)) (e + e + a / 2 ^ 63)) (sym h) (subst (Running top m₀ e₀ k (squared m)) twice next))
 
-pub stop : (m₀ e₀ k m e : ℕ) → Running m₀ e₀ k m e → k ≤ 0 → (e ≡ logFrom 16 m₀ e₀) × (e < 2098 * 65536)
-stop m₀ e₀ zero m e r l = (none m e ∙ r .rest, let q = r .room in omega arith)
-stop m₀ e₀ (suc k) m e r l = absurd (omega arith)
+pub stop : (top m₀ e₀ k m e : ℕ) → Running top m₀ e₀ k m e → k ≤ 0 → (e ≡ logFrom 16 m₀ e₀) × (e < top * 65536)
+stop top m₀ e₀ zero m e r l = (none m e ∙ r .rest, let q = r .room in omega arith)
+stop top m₀ e₀ (suc k) m e r l = absurd (omega arith)

@@ -2,7 +2,7 @@
 -- both over 2 ^ 31 (`Held`).
 -- A square keeps that with 3 * d + 1 for d (`step`), and after all the room d is still far below what the bounds leave (`log-from`).
 use mathlib.Core.Path.{_≡_, sym, ap, _∙_, subst}
-use Prim.Native.Nat.{ℕ, zero, suc, _+_, _-_, _*_, _/_, _^_, _≤_, _<_}
+use Prim.Native.Nat.{ℕ, zero, suc, _+_, _-_, _*_, _/_, _%_, _^_, _≤_, _<_}
 use native.Mathlib.Nat.{le-trans, le-of-eq, lt-of-lt-of-le, lt-of-le-of-lt, add-mul, mul-add, add-assoc}
 use native.Mathlib.Nat.{mul-comm, mul-assoc, mul-one, one-mul}
 use native.Mathlib.Nat.{two-mul, mul-mul-mul-comm, mul-le-mul, mul-le-mul-left, mul-le-mul-right, le-of-mul-le-mul-right}
@@ -157,3 +157,20 @@ log-range zero m e lo hi = omega arith
 log-range (suc k) m e lo hi =
     let i = squared-in m lo hi in
     le-trans (log-range k (squared m) (2 * e + digitOf m) (i .1) (i .2)) (wider k e (digitOf m) (i .0))
+
+-- a number of 32 digits is h * 2 ^ 16 + l, and its square is put together from h * h, h * l and l * l
+pub record Halves (m : ℕ) : Type 0 where
+  pub whole : m / 2 ^ 16 * (m / 2 ^ 16) * 2 ^ 32 + m / 2 ^ 16 * (m % 2 ^ 16) * 2 ^ 17 + m % 2 ^ 16 * (m % 2 ^ 16) ≡ m * m
+  pub short : m * m < 2 ^ 64
+
+joined : (h l : ℕ) → h * h * 2 ^ 32 + h * l * 2 ^ 17 + l * l ≡ (h * 2 ^ 16 + l) * (h * 2 ^ 16 + l)
+joined h l = sym (add-mul (h * 2 ^ 16) l (h * 2 ^ 16 + l) ∙ ap (λ (x : ℕ). x + l * (h * 2 ^ 16 + l)) (mul-add (h * 2 ^ 16) (h * 2 ^ 16) l)
+    ∙ ap (λ (x : ℕ). h * 2 ^ 16 * (h * 2 ^ 16) + h * 2 ^ 16 * l + x) (mul-add l (h * 2 ^ 16) l) ∙ omega arith)
+
+pub halves : (m : ℕ) → m < 2 ^ 32 → Halves m
+halves m s =
+    let e : m / 2 ^ 16 * 2 ^ 16 + m % 2 ^ 16 ≡ m = omega arith in
+    record {
+      whole = joined (m / 2 ^ 16) (m % 2 ^ 16) ∙ ap (λ (x : ℕ). x * x) e;
+      short = square-lt m (2 ^ 32) s;
+    }

@@ -61,7 +61,7 @@ pub fn double_log(x: f64) -> f64
 }
 
 // The logarithm of a size in units of 2 ^ -1074 as that of the number itself.
-fn from_units(log: u64) -> i32
+pub fn from_units(log: u64) -> i32
     requires { ⌜ log < 2098 * 65536 ⌝ }
     ensures { λ r. ⌜ r ≡ fromUnits log ⌝ }
 {
@@ -107,8 +107,8 @@ pub fn square(m: u32) -> u64
     (upper << 32) + (middle << 17) + lower
 }
 
-// a times b: the only product of this crate, whose factors are below 65,536 by their types.
-fn product(a: u16, b: u16) -> u32
+// a times b: the only product of every logarithm, whose factors are below 65,536 by their types.
+pub fn product(a: u16, b: u16) -> u32
     ensures { λ r. ⌜ r ≡ a * b ⌝ }
 {
     a as u32 * b as u32

@@ -14,17 +14,17 @@ use Rattle.mc64_general.proofs.build.Statement.{statement}
 use Rattle.mc64_general.proofs.build.Tie as tie
 
 abbrev Inv-loop : tie.InvT-loop
-Inv-loop n colPtr rows values logs graphPtr₀ graphIdx₀ cost₀ cmax₀ source next₀ c₀ graphPtr graphIdx cost cmax next c = (c ≤ n) ×
+Inv-loop n colPtr rows values logs words graphPtr₀ graphIdx₀ cost₀ cmax₀ source next₀ c₀ graphPtr graphIdx cost cmax next c = (c ≤ n) ×
     (length graphPtr ≡ length graphPtr₀) × (length graphIdx ≡ length graphIdx₀) × (length cost ≡ length cost₀) ×
     (length cmax ≡ length cmax₀) × BuiltTo c (matrix n colPtr rows values) (entryLogs source logs) graphPtr₀ graphIdx₀ cost₀ cmax₀ graphPtr graphIdx
     cost cmax next
 
 abbrev μ-loop : tie.MeasureT-loop
-μ-loop n colPtr rows values logs graphPtr₀ graphIdx₀ cost₀ cmax₀ source next₀ c₀ graphPtr graphIdx cost cmax next c = n - c
+μ-loop n colPtr rows values logs words graphPtr₀ graphIdx₀ cost₀ cmax₀ source next₀ c₀ graphPtr graphIdx cost cmax next c = n - c
 
 -- places of the proof, each from a later one
 abbrev entry-of-slice-known4 : tie.After-slice-known4 Inv-loop μ-loop → tie.Start Inv-loop μ-loop
-entry-of-slice-known4 c = c .before .before .before .before .before .before .before .before
+entry-of-slice-known4 c = c .before .before .before .before .before .before .before .before .before
 
 abbrev entry-of-loop : tie.At-loop Inv-loop μ-loop → tie.Start Inv-loop μ-loop
 entry-of-loop c = entry-of-slice-known4 (c .before)
@@ -35,8 +35,8 @@ entry-of-in-loop c = entry-of-loop (c .before)
 abbrev entry-of-after-loop : tie.After-loop Inv-loop μ-loop → tie.Start Inv-loop μ-loop
 entry-of-after-loop c = entry-of-loop (c .before)
 
-abbrev entry-of-shared-slice-known6 : tie.After-shared-slice-known6 Inv-loop μ-loop → tie.Start Inv-loop μ-loop
-entry-of-shared-slice-known6 c = entry-of-in-loop (c .before .before)
+abbrev entry-of-shared-slice-known7 : tie.After-shared-slice-known7 Inv-loop μ-loop → tie.Start Inv-loop μ-loop
+entry-of-shared-slice-known7 c = entry-of-in-loop (c .before .before)
 
 abbrev in-loop-of-keep-column-arg2 : tie.After-keep-column-arg2 Inv-loop μ-loop → tie.In-loop Inv-loop μ-loop
 in-loop-of-keep-column-arg2 c = c .before .before .before .before
@@ -107,7 +107,7 @@ mul-graph-ptr : tie.Need-mul-graph-ptr Inv-loop μ-loop
 mul-graph-ptr c = omega (arith, c .loop-test .taken, next-below (c .before))
 
 slice-write-graph-ptr : tie.Need-slice-write-graph-ptr Inv-loop μ-loop
-slice-write-graph-ptr c = omega (arith, c .loop-test .taken, c .before .loop .inv .1, entry-of-in-loop c .pre .1 .pointerRoom)
+slice-write-graph-ptr c = omega (arith, c .loop-test .taken, c .before .loop .inv .1, entry-of-in-loop c .pre .1 .0 .pointerRoom)
 
 mul-from : tie.Need-mul-from Inv-loop μ-loop
 mul-from c = omega (arith, c .loop-test .taken, next-below (c .before))
@@ -125,17 +125,17 @@ mul-to : tie.Need-mul-to Inv-loop μ-loop
 mul-to c = omega (arith, c .before .loop-test .taken, next-below (c .before .before))
 
 shared-slice-read-to : tie.Need-shared-slice-read-to Inv-loop μ-loop
-shared-slice-read-to c = omega (arith, c .before .before .loop-test .taken, entry-of-shared-slice-known6 c .pre .0 .sizes .colptrs)
+shared-slice-read-to c = omega (arith, c .before .before .loop-test .taken, entry-of-shared-slice-known7 c .pre .0 .sizes .colptrs)
 
 cast-to : tie.Need-cast-to Inv-loop μ-loop
 cast-to c = omega (arith, pointers (c .before .before), next-below (c .before .before .before))
 
 keep-column-requires : tie.Need-keep-column-requires Inv-loop μ-loop
 keep-column-requires c κs =
-    let pre = entry-of-shared-slice-known6 (c .before .before) .pre in
+    let pre = entry-of-shared-slice-known7 (c .before .before) .pre in
     let loop = in-loop-of-keep-column-arg2 c .before in (
       (pointers (in-loop-of-keep-column-arg2 c) .0, pointers (in-loop-of-keep-column-arg2 c) .1, next-below (loop) .0),
-      ((pre .0 .sizes .stored, pre .0 .logged), (loop .loop .inv .2 ∙ pre .1 .rowRoom, loop .loop .inv .3 ∙ pre .1 .costRoom)),
+      ((pre .0 .sizes .stored, pre .0 .logged), ((loop .loop .inv .2 ∙ pre .1 .0 .rowRoom, loop .loop .inv .3 ∙ pre .1 .0 .costRoom), pre .1 .1)),
     )
 
 normalise-stretch-requires : tie.Need-normalise-stretch-requires Inv-loop μ-loop
@@ -152,9 +152,9 @@ normalise-stretch-requires c κs =
         pointers
             (in-loop-of-normalise-stretch-arg c),
         next-below (loop),
-        keep-column-of-normalise-stretch-arg c .keep-column .kept .1 .1 .1 .1 .1 .1 .1 .0,
+        keep-column-of-normalise-stretch-arg c .keep-column .kept .1 .1 .1 .1 .1 .1 .1 .1 .0,
         loop .loop .inv .3,
-        entry-of-normalise-stretch-arg c .pre .1 .costRoom,
+        entry-of-normalise-stretch-arg c .pre .1 .0 .costRoom,
       ),
     )
 
@@ -162,7 +162,8 @@ mul-cmax : tie.Need-mul-cmax Inv-loop μ-loop
 mul-cmax c = omega (arith, in-loop-of-slice-known7 c .loop-test .taken, next-below (loop-of-slice-known7 c))
 
 slice-write-cmax : tie.Need-slice-write-cmax Inv-loop μ-loop
-slice-write-cmax c = omega (arith, in-loop-of-slice-known7 c .loop-test .taken, loop-of-slice-known7 c .loop .inv .4, entry-of-slice-known7 c .pre .1 .cmaxRoom)
+slice-write-cmax c =
+    omega (arith, in-loop-of-slice-known7 c .loop-test .taken, loop-of-slice-known7 c .loop .inv .4, entry-of-slice-known7 c .pre .1 .0 .cmaxRoom)
 
 add-c : tie.Need-add-c Inv-loop μ-loop
 add-c c = omega (arith, in-loop-of-slice-known7 c .loop-test .taken, next-below (loop-of-slice-known7 c))
@@ -179,15 +180,15 @@ loop-again c =
     let loop = loop-of-slice-known7 c in (
       omega (arith, In-loop .loop-test .taken),
       simp length-set (loop .loop .inv .1),
-      keep-column .keep-column .kept .1 .1 .1 .1 .1 .1 .0 ∙ loop .loop .inv .2,
-      c .before .before .normalise-stretch .kept .1 .1 .0 ∙ keep-column .keep-column .kept .1 .1 .1 .1 .1 .1 .1 .0 ∙
+      keep-column .keep-column .kept .1 .1 .1 .1 .1 .1 .1 .0 ∙ loop .loop .inv .2,
+      c .before .before .normalise-stretch .kept .1 .1 .0 ∙ keep-column .keep-column .kept .1 .1 .1 .1 .1 .1 .1 .1 .0 ∙
           loop .loop .inv .3,
       simp length-set (loop .loop .inv .4),
       built-next
           (matrix (args .n) (args .col-ptr .now) (args .row-idx .now) (args .values .now)) (entryLogs (args .source) (args .logs .now)) (args .graph-ptr .now)
           (args .graph-rows .now) (args .cost .now) (args .cmax .now) (loop .loop .inv .5)
-          (omega (arith, In-loop .loop-test .taken, pre .1 .pointerRoom))
-          (omega (arith, In-loop .loop-test .taken, pre .1 .cmaxRoom)) (keep-column .keep-column .ensures)
+          (omega (arith, In-loop .loop-test .taken, pre .1 .0 .pointerRoom))
+          (omega (arith, In-loop .loop-test .taken, pre .1 .0 .cmaxRoom)) (keep-column .keep-column .ensures)
           (c .before .before .normalise-stretch .ensures .0) (c .before .before .normalise-stretch .ensures .1),
     )
 
@@ -198,7 +199,7 @@ mul-graph-ptr-2 : tie.Need-mul-graph-ptr-2 Inv-loop μ-loop
 mul-graph-ptr-2 c = omega (arith, next-below (c .before))
 
 slice-write-graph-ptr-2 : tie.Need-slice-write-graph-ptr-2 Inv-loop μ-loop
-slice-write-graph-ptr-2 c = omega (arith, c .before .loop .inv .1, entry-of-after-loop c .pre .1 .pointerRoom)
+slice-write-graph-ptr-2 c = omega (arith, c .before .loop .inv .1, entry-of-after-loop c .pre .1 .0 .pointerRoom)
 
 cast-result : tie.Need-cast-result Inv-loop μ-loop
 cast-result c = omega (arith, next-below (c .before))
@@ -237,8 +238,8 @@ returns c = let e : c .before .loop .c ≡ entry-of-after-loop c .args .n
     (entry-of-after-loop c .args .cost .now)
     (entry-of-after-loop c .args .cmax .now)
     (c .before .loop .graph-ptr) (c .before .loop .graph-rows) (c .before .loop .cost) (c .before .loop .cmax)
-    (c .before .loop .next)) e (c .before .loop .inv .5)) (entry-of-after-loop c .pre .1 .pointerRoom)
-    (entry-of-after-loop c .pre .1 .cmaxRoom)
+    (c .before .loop .next)) e (c .before .loop .inv .5)) (entry-of-after-loop c .pre .1 .0 .pointerRoom)
+    (entry-of-after-loop c .pre .1 .0 .cmaxRoom)
 
 pub build-spec : {M : Type 1} → statement M
 build-spec =

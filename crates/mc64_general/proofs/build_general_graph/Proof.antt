@@ -34,7 +34,7 @@ abbrev entry-of-Else1 : tie.Else1 → tie.Start
 entry-of-Else1 c = entry-of-input-fault (input-fault-of-Else1 c)
 
 abbrev Else1-of-build : tie.After-build → tie.Else1
-Else1-of-build c = c .before .before .before .before .before
+Else1-of-build c = c .before .before .before .before .before .before
 
 abbrev input-fault-of-build : tie.After-build → tie.After-input-fault
 input-fault-of-build c = input-fault-of-Else1 (Else1-of-build c)
@@ -98,28 +98,30 @@ returns c =
 
 build-requires : tie.Need-build-requires
 build-requires c κs =
-    let args = (entry-of-Else1 (c .before .before .before .before)) .args in
-    ready (matrix (args .n) (args .col-ptr .now) (args .row-idx .now) (args .values .now)) (args .logs .now)
+    let other = c .before .before .before .before .before in
+    let args = (entry-of-Else1 other) .args in
+    let r = ready (matrix (args .n) (args .col-ptr .now) (args .row-idx .now) (args .values .now)) (args .logs .now)
     (slices (args .graph-ptr .now) (args .graph-rows .now) (args .cost .now) (args .cmax .now) (args .work .now))
-    (sym ((input-fault-of-Else1 (c .before .before .before .before)) .input-fault .ensures ∙ ap
+    (sym ((input-fault-of-Else1 other) .input-fault .ensures ∙ ap
     (inputFault (matrix (args .n) (args .col-ptr .now) (args .row-idx .now) (args .values .now)) (args .logs .now))
-    ((lengths-fit-of-Else1 (c .before .before .before .before)) .lengths-fit .ensures)) ∙
-    c .before .before .before .before .if1 .left)
+    ((lengths-fit-of-Else1 other) .lengths-fit .ensures)) ∙
+    other .if1 .left) in
+    (r .0, (r .1, (λ k h. tt, r .2)))
 
 clear-requires : tie.Need-clear-requires
 clear-requires c κs = tt
 
 same-length-6 : tie.Need-same-length-6
-same-length-6 c = (build-of-slice-known10 c) .build .kept .1 .1 .1 .1 .1 .0
+same-length-6 c = (build-of-slice-known10 c) .build .kept .1 .1 .1 .1 .1 .1 .0
 
 same-length-7 : tie.Need-same-length-7
-same-length-7 c = (build-of-slice-known10 c) .build .kept .1 .1 .1 .1 .1 .1 .0
+same-length-7 c = (build-of-slice-known10 c) .build .kept .1 .1 .1 .1 .1 .1 .1 .0
 
 same-length-8 : tie.Need-same-length-8
-same-length-8 c = (build-of-slice-known10 c) .build .kept .1 .1 .1 .1 .1 .1 .1 .0
+same-length-8 c = (build-of-slice-known10 c) .build .kept .1 .1 .1 .1 .1 .1 .1 .1 .0
 
 same-length-9 : tie.Need-same-length-9
-same-length-9 c = (build-of-slice-known10 c) .build .kept .1 .1 .1 .1 .1 .1 .1 .1 .0
+same-length-9 c = (build-of-slice-known10 c) .build .kept .1 .1 .1 .1 .1 .1 .1 .1 .1 .0
 
 same-length-10 : tie.Need-same-length-10
 same-length-10 c = c .before .before .clear .kept .0

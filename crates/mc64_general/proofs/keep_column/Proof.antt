@@ -1,26 +1,28 @@
 -- `keep_column` meets its contract. The loop's invariant: the kept entries before place k are written.
 use mathlib.Core.Path.{_≡_, refl, sym, _∙_, subst}
 use Prim.Native.Nat.{ℕ, _≤_, _<_, _-_}
+use native.Mathlib.Nat.{zero-add}
 use native.Mathlib.Omega.{arith}
 use borrow.Author.Tests.{not-true, not-false}
-use lib.ListN.{length, length-set}
-use Rattle.mc64_columns.specs.inner.Steps.{entryLogs}
+use lib.Ieee.{nan}
+use lib.ListN.{length, getD, length-set}
+use Rattle.mc64_columns.specs.inner.Steps.{entryLogs, WordOf}
 use Rattle.mc64_columns.proofs.Whole.{entry-log-at}
 use Rattle.mc64_general.proofs.Copying.{CopiedTo, kept-few, copied-none, copied-dropped, copied-kept}
 use Rattle.mc64_general.proofs.keep_column.Statement.{statement}
 use Rattle.mc64_general.proofs.keep_column.Tie as tie
 
 abbrev Inv-loop : tie.InvT-loop
-Inv-loop from to at rows values logs graphIdx₀ cost₀ source next₀ k₀ graphIdx cost next k = (from ≤ k) × (k ≤ to) ×
+Inv-loop from to at rows values logs words graphIdx₀ cost₀ source next₀ k₀ graphIdx cost next k = (from ≤ k) × (k ≤ to) ×
     (length graphIdx ≡ length graphIdx₀) × (length cost ≡ length cost₀) × CopiedTo values from rows (entryLogs source logs) at graphIdx₀ cost₀ k
     graphIdx cost next
 
 abbrev μ-loop : tie.MeasureT-loop
-μ-loop from to at rows values logs graphIdx₀ cost₀ source next₀ k₀ graphIdx cost next k = to - k
+μ-loop from to at rows values logs words graphIdx₀ cost₀ source next₀ k₀ graphIdx cost next k = to - k
 
 -- places of the proof, each from a later one
 abbrev entry-of-slice-known2 : tie.After-slice-known2 Inv-loop μ-loop → tie.Start Inv-loop μ-loop
-entry-of-slice-known2 c = c .before .before .before .before .before
+entry-of-slice-known2 c = c .before .before .before .before .before .before
 
 abbrev entry-of-in-loop : tie.In-loop Inv-loop μ-loop → tie.Start Inv-loop μ-loop
 entry-of-in-loop c = entry-of-slice-known2 (c .before .before)
@@ -31,14 +33,14 @@ entry-of-after-loop c = entry-of-slice-known2 (c .before .before)
 abbrev entry-of-is-kept : tie.After-is-kept Inv-loop μ-loop → tie.Start Inv-loop μ-loop
 entry-of-is-kept c = entry-of-in-loop (c .before .before)
 
-abbrev in-loop-of-shared-slice-known5 : tie.After-shared-slice-known5 Inv-loop μ-loop → tie.In-loop Inv-loop μ-loop
-in-loop-of-shared-slice-known5 c = c .before .before .before .before
+abbrev in-loop-of-shared-slice-known6 : tie.After-shared-slice-known6 Inv-loop μ-loop → tie.In-loop Inv-loop μ-loop
+in-loop-of-shared-slice-known6 c = c .before .before .before .before
 
-abbrev entry-of-shared-slice-known5 : tie.After-shared-slice-known5 Inv-loop μ-loop → tie.Start Inv-loop μ-loop
-entry-of-shared-slice-known5 c = entry-of-in-loop (in-loop-of-shared-slice-known5 c)
+abbrev entry-of-shared-slice-known6 : tie.After-shared-slice-known6 Inv-loop μ-loop → tie.Start Inv-loop μ-loop
+entry-of-shared-slice-known6 c = entry-of-in-loop (in-loop-of-shared-slice-known6 c)
 
 abbrev in-loop-of-entry-log : tie.After-entry-log Inv-loop μ-loop → tie.In-loop Inv-loop μ-loop
-in-loop-of-entry-log c = in-loop-of-shared-slice-known5 (c .before .before)
+in-loop-of-entry-log c = in-loop-of-shared-slice-known6 (c .before .before .before)
 
 abbrev entry-of-entry-log : tie.After-entry-log Inv-loop μ-loop → tie.Start Inv-loop μ-loop
 entry-of-entry-log c = entry-of-in-loop (in-loop-of-entry-log c)
@@ -100,13 +102,13 @@ shared-slice-read-graph-rows c = omega arith
 
 mul-graph-rows-2 : tie.Need-mul-graph-rows-2 Inv-loop μ-loop
 mul-graph-rows-2 c =
-    let loop = in-loop-of-shared-slice-known5 c .before in
-    omega (arith, next-below (in-loop-of-shared-slice-known5 c), loop .loop .inv .2, loop .loop .inv .3, entry-of-shared-slice-known5 c .pre)
+    let loop = in-loop-of-shared-slice-known6 c .before in
+    omega (arith, next-below (in-loop-of-shared-slice-known6 c), loop .loop .inv .2, loop .loop .inv .3, entry-of-shared-slice-known6 c .pre)
 
 slice-write-graph-rows : tie.Need-slice-write-graph-rows Inv-loop μ-loop
 slice-write-graph-rows c =
-    let loop = in-loop-of-shared-slice-known5 c .before in
-    omega (arith, next-below (in-loop-of-shared-slice-known5 c), loop .loop .inv .2, loop .loop .inv .3, entry-of-shared-slice-known5 c .pre)
+    let loop = in-loop-of-shared-slice-known6 c .before in
+    omega (arith, next-below (in-loop-of-shared-slice-known6 c), loop .loop .inv .2, loop .loop .inv .3, entry-of-shared-slice-known6 c .pre)
 
 mul-entry-log : tie.Need-mul-entry-log Inv-loop μ-loop
 mul-entry-log c = omega arith
@@ -114,8 +116,20 @@ mul-entry-log c = omega arith
 shared-slice-read-entry-log : tie.Need-shared-slice-read-entry-log Inv-loop μ-loop
 shared-slice-read-entry-log c = omega arith
 
+mul-entry-log-2 : tie.Need-mul-entry-log-2 Inv-loop μ-loop
+mul-entry-log-2 c = omega arith
+
+shared-slice-read-entry-log-2 : tie.Need-shared-slice-read-entry-log-2 Inv-loop μ-loop
+shared-slice-read-entry-log-2 c = omega (arith, next-below (in-loop-of-shared-slice-known6 (c .before .before)))
+
 entry-log-requires : tie.Need-entry-log-requires Inv-loop μ-loop
-entry-log-requires c κs = tt
+entry-log-requires c κs =
+    let turn = in-loop-of-shared-slice-known6 (c .before .before) in
+    let args = entry-of-in-loop turn .args in
+    let pre = entry-of-in-loop turn .pre in
+    let k = turn .before .loop .k in
+    subst (λ (i : ℕ). WordOf (args .source) (getD (args .logs .now) k nan) (getD (args .words .now) i 0)) (zero-add k)
+    (pre .1 .1 .1 .0 k (omega (arith, next-below turn, pre .1 .0 .1)))
 
 mul-cost : tie.Need-mul-cost Inv-loop μ-loop
 mul-cost c =
@@ -140,7 +154,7 @@ loop-less-2 c = omega arith
 
 loop-again-2 : tie.Need-loop-again-2 Inv-loop μ-loop
 loop-again-2 c =
-    let kept = c .before .before .before .before in
+    let kept = c .before .before .before .before .before in
     let args = entry-of-is-kept kept .args in
     let pre = entry-of-is-kept kept .pre in
     let In-loop = kept .before .before in
@@ -153,8 +167,8 @@ loop-again-2 c =
           (args .values .now) (args .from) (args .row-idx .now) (entryLogs (args .source) (args .logs .now)) (args .at) (args .graph-rows .now)
           (args .cost .now) (loop .loop .k) (loop .loop .inv .0) (loop .loop .inv .4)
           (c .entry-log .ensures ∙ sym (entry-log-at (args .source) (args .logs .now) (loop .loop .k)))
-          (omega (arith, next-below (In-loop), pre .1 .1)) (omega (arith, next-below (In-loop), pre .1 .1))
-          (sym (kept .is-kept .ensures) ∙ not-false _ (c .before .before .before .if1 .left)),
+          (omega (arith, next-below (In-loop), pre .1 .1 .0)) (omega (arith, next-below (In-loop), pre .1 .1 .0))
+          (sym (kept .is-kept .ensures) ∙ not-false _ (c .before .before .before .before .if1 .left)),
     )
 
 same-length : tie.Need-same-length Inv-loop μ-loop
@@ -193,6 +207,8 @@ keep-column-spec =
     slice-write-graph-rows
     mul-entry-log
     shared-slice-read-entry-log
+    mul-entry-log-2
+    shared-slice-read-entry-log-2
     entry-log-requires
     mul-cost
     slice-write-cost

@@ -1,33 +1,16 @@
 -- `square` meets its contract: a number of 32 digits is h * 2 ^ 16 + l, and its square is put together from h * h, h * l and l * l, each of which is a
 -- `u32` (`halves`).
-use mathlib.Core.Path.{_≡_, sym, ap, _∙_}
-use Prim.Native.Nat.{ℕ, _+_, _*_, _/_, _%_, _^_, _<_}
-use native.Mathlib.Nat.{add-mul, mul-add}
+use mathlib.Core.Path.{_≡_}
+use Prim.Native.Nat.{ℕ, _*_, _/_, _%_, _^_}
 use native.Mathlib.Omega.{arith}
 use borrow.Author.Needs.{needs}
-use Rattle.float64.proofs.Squares.{square-lt}
+use Rattle.whole_log.proofs.Squares.{Halves, halves}
 use Rattle.whole_log.proofs.square.Statement.{statement}
 use Rattle.whole_log.proofs.square.Tie as tie
 
 -- places of the proof, each from a later one
 abbrev entry-of-product3 : tie.After-product3 → tie.Start
 entry-of-product3 c = c .before .before .before
-
-record Halves (m : ℕ) : Type 0 where
-  whole : m / 2 ^ 16 * (m / 2 ^ 16) * 2 ^ 32 + m / 2 ^ 16 * (m % 2 ^ 16) * 2 ^ 17 + m % 2 ^ 16 * (m % 2 ^ 16) ≡ m * m
-  short : m * m < 2 ^ 64
-
-joined : (h l : ℕ) → h * h * 2 ^ 32 + h * l * 2 ^ 17 + l * l ≡ (h * 2 ^ 16 + l) * (h * 2 ^ 16 + l)
-joined h l = sym (add-mul (h * 2 ^ 16) l (h * 2 ^ 16 + l) ∙ ap (λ (x : ℕ). x + l * (h * 2 ^ 16 + l)) (mul-add (h * 2 ^ 16) (h * 2 ^ 16) l)
-    ∙ ap (λ (x : ℕ). h * 2 ^ 16 * (h * 2 ^ 16) + h * 2 ^ 16 * l + x) (mul-add l (h * 2 ^ 16) l) ∙ omega arith)
-
-halves : (m : ℕ) → m < 2 ^ 32 → Halves m
-halves m s =
-    let e : m / 2 ^ 16 * 2 ^ 16 + m % 2 ^ 16 ≡ m = omega arith in
-    record {
-      whole = joined (m / 2 ^ 16) (m % 2 ^ 16) ∙ ap (λ (x : ℕ). x * x) e;
-      short = square-lt m (2 ^ 32) s;
-    }
 
 here : (c : tie.Start) → Halves (c .args .m)
 here c = halves (c .args .m) (c .fits .m .fits)

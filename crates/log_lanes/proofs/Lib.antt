@@ -1,0 +1,2 @@
+-- Why the lanes meet their contracts.
+pub mod Lanes

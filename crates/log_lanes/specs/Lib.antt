@@ -1,0 +1,2 @@
+-- Logarithms in lanes.
+pub mod inner

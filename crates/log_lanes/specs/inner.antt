@@ -1,0 +1,2 @@
+-- What the functions ask and promise: it serves the proofs alone.
+pub mod Lanes
