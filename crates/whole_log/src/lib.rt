@@ -5,7 +5,7 @@ ghost use Prim.Native.Nat.{_*_, _^_, _≤_, _<_};
 ghost use lib.Ieee.{binary64, ofBits};
 ghost use Rattle.refusal.specs.Listed.{OneOf, logNumbers};
 ghost use Rattle.float64.specs.Number.{magnitude};
-ghost use Rattle.whole_log.specs.Log.{numberOf, doubleOf, logFault, wholeLog, Answer};
+ghost use Rattle.whole_log.specs.Log.{numberOf, logFault, wholeLog, Answer};
 ghost use Rattle.whole_log.specs.Log.{logOf, logFrom, fromUnits};
 ghost use Rattle.whole_log.specs.Stored.{Promises};
 
@@ -46,17 +46,6 @@ pub fn store_log(x: f64, p: &mut [i32]) -> u32
             refusal::ACCEPTED
         }
         Log::Refused(number) => number,
-    }
-}
-
-// The logarithm as a double; a NaN where there is none.
-pub fn double_log(x: f64) -> f64
-    ensures { λ r. ⌜ r ≡ doubleOf (wholeLog x) ⌝ }
-{
-    let answer = whole_log(x);
-    match answer {
-        Log::Is(p) => p as f64,
-        Log::Refused(_) => float64::quiet_nan(),
     }
 }
 
