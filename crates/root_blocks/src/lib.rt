@@ -169,7 +169,7 @@ fn check_roots(bits: &[u64], candidates: &[u64], roots: &mut [f64]) -> u64
     bad
 }
 
-// 0 only if each of a block is near a power of 4, where `sqrt_near` has its root without a search.
+// 0 only if each of a block is near a power of 4, where `sqrt` has its root without a search.
 fn off_line(bits: &[u64]) -> u64
     requires { ⌜ length (now bits) ≡ 16 ⌝ }
 {
@@ -201,7 +201,7 @@ fn try_block(numbers: &[f64], from: usize, roots: &mut [f64]) -> u64
 pub fn root(x: f64) -> f64
     ensures { λ r. ⌜ r ≡ valueOf (sqrtOf x) ⌝ }
 {
-    match square_root::sqrt_near(x, 0) {
+    match square_root::sqrt(x) {
         Root::Is(y) => y,
         Root::Refused(_) => float64::quiet_nan(),
     }

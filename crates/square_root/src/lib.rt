@@ -23,21 +23,10 @@ pub fn sqrt(x: f64) -> Root
     ensures ieee { λ r. ⌜ Answer x r ⌝ }
     ensures number { λ r. ⌜ OneOf rootNumbers (numberOf r) ⌝ }
 {
-    sqrt_near(x, 0)
-}
-
-// The root of x, whatever the guess; a near one is soon walked to the root, and 0 stands for none.
-// Many guesses are faster made before the first root than each with its own: none waits for a root.
-pub fn sqrt_near(x: f64, guess: u64) -> Root
-    ensures root { λ r. ⌜ r ≡ sqrtOf x ⌝ }
-    ensures fault { λ r. ⌜ numberOf r ≡ rootFault x ⌝ }
-    ensures ieee { λ r. ⌜ Answer x r ⌝ }
-    ensures number { λ r. ⌜ OneOf rootNumbers (numberOf r) ⌝ }
-{
     if x > 0.0 {
         let bits = f64::to_bits(x);
         if bits < 0x7ff0_0000_0000_0000 {
-            return Root::Is(positive_root(bits, guess));
+            return Root::Is(positive_root(bits));
         }
         return Root::Is(x);
     }
@@ -47,22 +36,9 @@ pub fn sqrt_near(x: f64, guess: u64) -> Root
     Root::Refused(refusal::NO_ROOT)
 }
 
-// A guess for `sqrt_near`, near where x is normal and above zero. The root is right whatever it is; only its size is
-// proved.
-pub fn guess(x: f64) -> u64
-    ensures { λ r. ⌜ r < 2 ^ 27 ⌝ }
-{
-    if x > 0.0 {
-        let bits = f64::to_bits(x);
-        let even = 1 - bits / 0x10_0000_0000_0000 % 2;
-        return guess_root(bits % 0x10_0000_0000_0000 + (1023 + even) * 0x10_0000_0000_0000);
-    }
-    0
-}
-
 // The root of a finite double above zero, by its bits. The whole root of 2 ^ 54 significands has one
 // digit more than a double, and half of it, rounded up, is the result's significand.
-fn positive_root(bits: u64, guess: u64) -> f64
+fn positive_root(bits: u64) -> f64
     requires { ⌜ (0 < bits) × (bits < 0x7ff0_0000_0000_0000) ⌝ }
     ensures { λ r. ⌜ r ≡ rootOf (square (ofBits binary64 bits)) ⌝ }
 {
@@ -71,25 +47,13 @@ fn positive_root(bits: u64, guess: u64) -> f64
     let h = x.exponent;
     let odd = h % 2;
     let n = m << odd;
-    let q = whole_root(
-        n,
-        m + (1022 + odd) * 0x10_0000_0000_0000,
-        known(bits, guess),
-    );
+    let q = whole_root(n, m + (1022 + odd) * 0x10_0000_0000_0000);
     f64::from_bits((h - 52) / 2 * 0x10_0000_0000_0000 + (q + 1) / 2)
-}
-
-// The guess; none for a subnormal, of which `guess` knows nothing.
-fn known(bits: u64, guess: u64) -> u64 {
-    if bits < 0x10_0000_0000_0000 {
-        return 0;
-    }
-    guess
 }
 
 // The whole root of n * 2 ^ 54; the double from 1 to 4 that has these bits is n / 2 ^ 52, of which only the guess
 // depends. Near a power of 4 the root lies on a straight line, and needs no search.
-fn whole_root(n: u64, bits: u64, guess: u64) -> u64
+fn whole_root(n: u64, bits: u64) -> u64
     requires { ⌜ (2 ^ 52 ≤ n) × (n < 2 ^ 54) ⌝ }
     requires { ⌜ bits < 0x4010_0000_0000_0000 ⌝ }
     ensures { λ r. ⌜ WholeRoot (n * 2 ^ 54) r ⌝ }
@@ -103,18 +67,7 @@ fn whole_root(n: u64, bits: u64, guess: u64) -> u64
     if n >= 0x3f_ffff_f800_0000 {
         return 0x3f_ffff_ffff_ffff - (0x40_0000_0000_0000 - n) / 2;
     }
-    extended(n, raised(n, lowered(n, near(bits, guess))))
-}
-
-// The guess, or where there is none one from these bits.
-fn near(bits: u64, guess: u64) -> u64
-    requires { ⌜ bits < 0x4010_0000_0000_0000 ⌝ }
-    ensures { λ r. ⌜ r < 2 ^ 27 ⌝ }
-{
-    if guess == 0 {
-        return guess_root(bits);
-    }
-    guess % 0x800_0000
+    extended(n, raised(n, lowered(n, guess_root(bits))))
 }
 
 // A guess at 2 ^ 26 times the root of the double from 1 to 4 that has these bits: a first guess at

@@ -15,9 +15,9 @@ under-root : (c : tie.After-full-digits) → let m = c .full-digits .result .sig
     (2 ^ 52 ≤ m * 2 ^ (h % 2)) × (m * 2 ^ (h % 2) ≤ 2 ^ 54 - 2)
 under-root c = radicand-in (c .full-digits .ensures)
 
-found : (c : tie.After-whole-root) → let x = c .before .before .full-digits .result in
+found : (c : tie.After-whole-root) → let x = c .before .full-digits .result in
     WholeRoot (radicand (x .significand) (x .exponent)) (c .whole-root .result)
-found c = subst (λ (n : ℕ). WholeRoot (n * 2 ^ 54) (c .whole-root .result)) (shifted (c .before .before .full-digits .ensures)) (c .whole-root .ensures)
+found c = subst (λ (n : ℕ). WholeRoot (n * 2 ^ 54) (c .whole-root .result)) (shifted (c .before .full-digits .ensures)) (c .whole-root .ensures)
 
 full-digits-requires : tie.Need-full-digits-requires
 full-digits-requires c κs = search needs
@@ -34,12 +34,9 @@ mul-whole-root c = search needs
 add-whole-root-2 : tie.Need-add-whole-root-2
 add-whole-root-2 c = search needs
 
-known-requires : tie.Need-known-requires
-known-requires c κs = tt
-
 whole-root-requires : tie.Need-whole-root-requires
-whole-root-requires c κs = let r = under-root (c .before) in
-    ((omega arith, omega arith), omega (arith, c .before .full-digits .ensures .short, c .before .full-digits .ensures .most))
+whole-root-requires c κs = let r = under-root c in
+    ((omega arith, omega arith), omega (arith, c .full-digits .ensures .short, c .full-digits .ensures .most))
 
 sub-result : tie.Need-sub-result
 sub-result c = search needs
@@ -48,19 +45,19 @@ mul-result : tie.Need-mul-result
 mul-result c = search needs
 
 add-result : tie.Need-add-result
-add-result c = omega (arith, root-in (c .before .before .full-digits .ensures) (found c))
+add-result c = omega (arith, root-in (c .before .full-digits .ensures) (found c))
 
 add-result-2 : tie.Need-add-result-2
-add-result-2 c = omega (arith, root-in (c .before .before .full-digits .ensures) (found c))
+add-result-2 c = omega (arith, root-in (c .before .full-digits .ensures) (found c))
 
 float-from-bits-result : tie.Need-float-from-bits-result
 float-from-bits-result c =
-    let s = c .before .before .full-digits .ensures in
+    let s = c .before .full-digits .ensures in
     let r = root-in s (found c) in
     no-nan _ (omega (arith, s .most))
 
 returns : tie.Need-returns
-returns c = sym (root-bits (scaled-square (ofBits binary64 (c .before .before .before .args .bits)) (c .before .before .full-digits .ensures)) (found c))
+returns c = sym (root-bits (scaled-square (ofBits binary64 (c .before .before .args .bits)) (c .before .full-digits .ensures)) (found c))
 
 pub positive-root-spec : {M : Type 1} → statement M
 positive-root-spec =
@@ -71,7 +68,6 @@ positive-root-spec =
     add-whole-root
     mul-whole-root
     add-whole-root-2
-    known-requires
     whole-root-requires
     sub-result
     mul-result

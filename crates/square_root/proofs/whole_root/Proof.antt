@@ -22,8 +22,8 @@ sub-result-2 c = search needs
 returns-3 : tie.Need-returns-3
 returns-3 c = near-below _ (c .before .before .before .pre .0 .1) (c .if3 .taken)
 
-near-requires : tie.Need-near-requires
-near-requires c κs = search needs
+guess-root-requires : tie.Need-guess-root-requires
+guess-root-requires c κs = search needs
 
 lowered-requires : tie.Need-lowered-requires
 lowered-requires c κs = search needs
@@ -47,7 +47,7 @@ whole-root-spec =
     sub-result
     sub-result-2
     returns-3
-    near-requires
+    guess-root-requires
     lowered-requires
     raised-requires
     extended-requires

@@ -1,12 +1,12 @@
--- `sqrt_near` meets its contract: each of its ways out is a case of the definition, which is IEEE 754's answer.
+-- `sqrt` meets its contract: each of its ways out is a case of the definition, which is IEEE 754's answer.
 use mathlib.Core.Path.{sym, ap, _∙_, subst}
 use lib.Dec.{T}
 use lib.Ieee.{binary64, fits}
 use Rattle.square_root.specs.declared.Root.the-variants.{Is}
 use Rattle.square_root.proofs.Cases.{Above, above, above-no-nan, above-bits, finite-answer, infinite-answer, zero-answer, refused-answer}
 use Rattle.square_root.proofs.Laws.{promised}
-use Rattle.square_root.proofs.sqrt_near.Statement.{statement}
-use Rattle.square_root.proofs.sqrt_near.Tie as tie
+use Rattle.square_root.proofs.sqrt.Statement.{statement}
+use Rattle.square_root.proofs.sqrt.Tie as tie
 
 -- places of the proof, each from a later one
 abbrev entry-of-positive-root : tie.After-positive-root → tie.Start
@@ -39,7 +39,7 @@ returns-4 : tie.Need-returns-4
 returns-4 c = promised (c .before .before .args .x) (double (c .before .before))
     (sym (refused-answer (c .before .before .args .x) (c .before .if1 .left) (c .if3 .left)))
 
-pub sqrt-near-spec : {M : Type 1} → statement M
-sqrt-near-spec =
+pub sqrt-spec : {M : Type 1} → statement M
+sqrt-spec =
     tie.close
     (tie.spec float-to-bits-bits positive-root-requires returns returns-2 returns-3 returns-4)
