@@ -1,4 +1,4 @@
--- The match of an accepted graph, laid down as bytes, reads back as that match: its lists have n places, a row is a word, a dual is a finite double,
+-- The match of an accepted graph, written as bytes, reads back as that match: its lists have n places, a row is a word, a dual is a finite double,
 -- and a count is below 2 ^ 64.
 use mathlib.Core.Path.{_≡_, refl, _∙_, subst}
 use mathlib.Core.Logic.{_⊎_, ⊎-elim}

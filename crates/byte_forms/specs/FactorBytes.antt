@@ -1,5 +1,5 @@
--- SPECIFICATION 12.3: The log factors as bytes, low byte first: mc64_factors' factors of the words and doubles that the
--- bytes stand for.
+-- SPECIFICATION 12.3: The log factors as bytes, low byte first: the factors of factors_mc64, of the words and doubles
+-- that the bytes stand for.
 use mathlib.Core.Bool.{Bool, _&&_}
 use mathlib.Core.List.{List, [], _∷_}
 use Prim.Native.Nat.{ℕ, _-_, _*_}
@@ -24,8 +24,7 @@ pub record FactorBytes : Type 0 where
 abbrev pub factorBytes : List ℕ → List ℕ → FactorBytes
 factorBytes first second = record { first = first; second = second }
 
--- 1 and 3: n, and whether four slices have the bytes of n doubles and the others their lengths; numbers here are
--- lengths
+-- 1 and 3: n, and whether four slices have the bytes of n doubles and the others their lengths; all numbers are lengths
 unfoldable pub factorSizes : (n u v cmax factors : ℕ) → Bool → ℕ
 factorSizes n u v cmax factors others =
     orElse (unless (leb n byteColumns) tooManyColumns)

@@ -48,7 +48,7 @@ matchBytes perm u v answer = record { perm = perm; u = u; v = v; answer = answer
 abbrev pub wordCount : ℕ → ℕ
 wordCount rows = rows / 4
 
--- whether every byte slice has its length; numbers here are lengths
+-- whether every byte slice has its length; all numbers are lengths
 unfoldable pub byteLengths : (n colPtr rows cost perm u v answer : ℕ) → Bool
 byteLengths n colPtr rows cost perm u v answer =
     eqb colPtr (4 * (n + 1))
@@ -93,7 +93,7 @@ matchRead n s =
           (getD found 6 0) (getD found 7 0);
     }
 
--- by the fault: the number answered, and what the bytes then are
+-- the number answered and the bytes left, by the fault
 unfoldable pub resultBy : ℕ → CostGraph → MatchBytes → Outcome ℕ MatchBytes
 unfolding matchLaid
 resultBy fault g old = refusing asNumber fault (outcomeIs accepted (matchLaid (hungarianMatch g))) old
@@ -112,7 +112,7 @@ unfoldable pub matchBytesResult : GraphBytes → MatchBytes → Outcome ℕ Matc
 unfolding resultBy bytesFault graphRead
 matchBytesResult b old = resultBy (bytesFault b old) (graphRead b) old
 
--- of the match that the bytes left stand for: what holds for any accepted costs
+-- what holds for any accepted costs, of the match that the bytes left stand for
 abbrev pub BytesMatch : GraphBytes → Outcome ℕ MatchBytes → Type 0
 BytesMatch b t = t .answer ≡ accepted → LargestMatch (graphRead b .pattern) (matchRead (b .n) (t .after))
 

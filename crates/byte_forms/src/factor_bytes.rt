@@ -14,7 +14,7 @@ ghost use Rattle.byte_numbers.specs.Bytes.{doubles, doubleBytes};
 ghost use Rattle.byte_forms.specs.FactorBytes.{factorBytes, factorSizes, cacheRead, sidesLaid};
 ghost use Rattle.byte_forms.specs.inner.Steps.{cacheResult, Duals};
 
-// Refusals 1 and 3, or 0. All but n and `others`, whether the other slices have their lengths, are lengths.
+// Refusals 1 and 3, or 0. `others` says whether the other slices have their lengths; all but it and n are lengths.
 pub fn size_fault(n: u32, u: usize, v: usize, cmax: usize, factors: usize, others: bool) -> u32
     ensures { λ r. ⌜ r ≡ factorSizes n u v cmax factors others ⌝ }
 {

@@ -1,5 +1,5 @@
-// The match of a small graph given as bytes: sizes are tested, then words and doubles are read into local arrays,
-// matched there and laid down as bytes.
+// The match of a small graph given as bytes: sizes are tested, words and doubles are read into local arrays and
+// matched, and the match is written as bytes.
 use hungarian::Counts;
 use hungarian_match::Answer;
 ghost use mathlib.Core.Path.{_≡_};
@@ -12,7 +12,7 @@ ghost use Rattle.byte_forms.specs.MatchBytes.{byteColumns, byteEntries, 
 ghost use Rattle.byte_forms.specs.MatchBytes.{graphBytes, graphRead, matchBytes, matchLaid};
 ghost use Rattle.byte_forms.specs.inner.Steps.{graphResult, Laying, Roomy, Fitting, Small, Sized};
 
-// The most columns and entries of a graph given as bytes; the lengths of arrays for so many.
+// The most columns and entries of a graph given as bytes; the lengths of arrays for them.
 pub const MAX_COLUMNS: u32 = 256;
 
 pub const COLUMNS: usize = MAX_COLUMNS as usize;
@@ -21,7 +21,7 @@ const POINTERS: usize = COLUMNS + 1;
 
 const MAX_ENTRIES: usize = 2048;
 
-// What a match of so many columns works in: words and doubles.
+// The work of a match of that many columns: words and doubles.
 const MATCH_WORK: usize = 12 * COLUMNS + 1;
 
 const MATCH_DOUBLES: usize = 2 * COLUMNS;
@@ -75,7 +75,7 @@ pub fn size_fault(
     }
 }
 
-// Lays a match down as bytes.
+// Writes a match as bytes.
 fn put_match(
     rows_of: &[u32],
     row_duals: &[f64],
@@ -110,7 +110,7 @@ fn put_match(
     );
 }
 
-// The match of a graph, with slices for the work and the match itself, laid down as bytes.
+// Writes the match of a graph as bytes; slices for the work and the match are lent.
 fn match_in(
     n: u32,
     col_ptr: &[u32],

@@ -1,4 +1,4 @@
--- What is laid down as bytes reads back: numbers that their width holds, and doubles, of which a NaN has one pattern. By induction over the bytes of a
+-- What is written as bytes reads back: numbers that their width holds, and doubles, of which a NaN has one pattern. By induction over the bytes of a
 -- number, then over the list.
 use mathlib.Core.Path.{_≡_, refl, sym, ap, ap₂, _∙_, subst}
 use mathlib.Core.List.{List, [], _∷_, _++_, map, map-id}

@@ -1,5 +1,5 @@
--- What the call of the root leaves, by the cases of its answer, and that it reads back as the answer. A root that is answered is no NaN: it is
--- infinity, a zero or the nearest finite double.
+-- What the call of the root leaves, by the cases of its answer, and that it reads back as the answer. A root that is answered is not NaN: it
+-- is infinity, a zero or the nearest finite double.
 use mathlib.Core.Path.{_≡_, refl, sym, ap, _∙_, subst}
 use mathlib.Core.List.{List}
 use mathlib.Core.Bool.{Bool, true, false, not, cond}

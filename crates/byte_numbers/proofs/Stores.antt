@@ -1,4 +1,4 @@
--- Four or eight stores of a number's bytes, one after the other, are its bytes laid down at once. By rewriting places and quotients to one form.
+-- Four or eight stores of a number's bytes, one after the other, are its bytes written at once. By rewriting places and quotients to one form.
 use mathlib.Core.Path.{_≡_}
 use mathlib.Core.List.{List}
 use Prim.Native.Nat.{ℕ, _+_, _/_, _%_}

@@ -1,4 +1,4 @@
--- Numbers read from bytes and laid down as bytes, one after the other. A loop that reads has the list's first i numbers in front of what was there
+-- Numbers read from bytes and written as bytes, one after the other. A loop that reads has the list's first i numbers in front of what was there
 -- (`fill-more`), one that writes has their bytes there (`lay-more`). By induction, and by the laws of lists.
 use mathlib.Core.Path.{_≡_, refl, sym, ap, ap₂, _∙_, subst}
 use mathlib.Core.Bool.{Bool, true, false, not, true≢false, false≢true}

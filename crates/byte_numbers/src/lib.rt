@@ -36,7 +36,7 @@ pub fn put_u32(out: &mut [u8], at: usize, word: u32)
     out[at + 3] = (word / 0x100_0000 % 256) as u8;
 }
 
-// The word whose four bytes stand from `at` on.
+// The word of the four bytes from `at` on.
 pub fn get_u32(bytes: &[u8], at: usize) -> u32
     requires { ⌜ at + 4 ≤ length (now bytes) ⌝ }
     ensures { λ r. ⌜ r ≡ numberAt 4 (now (bytes .entry)) at ⌝ }
@@ -48,7 +48,7 @@ pub fn get_u32(bytes: &[u8], at: usize) -> u32
     b0 + 256 * (b1 + 256 * (b2 + 256 * b3))
 }
 
-// The number whose eight bytes stand from `at` on.
+// The number of the eight bytes from `at` on.
 pub fn get_u64(bytes: &[u8], at: usize) -> u64
     requires { ⌜ at + 8 ≤ length (now bytes) ⌝ }
     ensures { λ r. ⌜ r ≡ numberAt 8 (now (bytes .entry)) at ⌝ }
@@ -68,7 +68,7 @@ pub fn double_of(bits: u64) -> f64
     f64::from_bits(bits)
 }
 
-// The bits of a double, of any NaN 0x7FF8000000000000.
+// The bits of a double; 0x7FF8000000000000 for any NaN.
 pub fn bits_of(x: f64) -> u64
     ensures { λ r. ⌜ r ≡ toBits binary64 x ⌝ }
 {

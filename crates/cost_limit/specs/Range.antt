@@ -12,16 +12,16 @@ use Rattle.float64.specs.Number.{negative, unitsPerOne, magnitude}
 unfoldable pub timesBelow : ℕ → ℕ → Float → Bool
 timesBelow e n x = finite x && ltb (n * magnitude x) (2 ^ e * unitsPerOne)
 
--- x is not below zero; -0.0 is not
+-- x is not below zero; -0.0 passes
 unfoldable pub notBelow : Float → Bool
 notBelow x = not (negative x) || eqb (magnitude x) 0
 
--- this cost is in range: 0 ≤ c and n · c < 2 ^ 48. A NaN is not
+-- this cost is in range: 0 ≤ c and n · c < 2 ^ 48. A NaN is out of range
 unfoldable pub inRange : ℕ → Float → Bool
 unfolding timesBelow notBelow
 inRange n c = timesBelow 48 n c && notBelow c
 
--- this log is in range: n · |x| < 2 ^ 47. A NaN is not
+-- this log is in range: n · |x| < 2 ^ 47. A NaN is out of range
 unfoldable pub inLogRange : ℕ → Float → Bool
 unfolding timesBelow
 inLogRange n x = timesBelow 47 n x

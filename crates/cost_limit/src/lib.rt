@@ -1,5 +1,5 @@
 // The test of one cost and of one log in a graph of n columns: n times its size, the exact product, is below 2^48 or
-// 2^47. A limit is made once a call; a cost is compared with 0 and with it, the size of a log with it.
+// 2^47. A limit is made once a call; a cost is compared with 0 and with the limit, the size of a log with the limit.
 ghost use mathlib.Core.Path.{_≡_};
 ghost use Prim.Native.Nat.{ℕ, _≤_, _<_};
 ghost use Rattle.limits.specs.Limits.{maxColumns};
@@ -15,7 +15,7 @@ pub fn cost_limit(n: u32) -> f64
     bound(48, n)
 }
 
-// The limit of a log's size in a graph of n columns.
+// The limit of the size of a log in a graph of n columns.
 pub fn log_limit(n: u32) -> f64
     requires { ⌜ n ≤ maxColumns ⌝ }
     ensures { λ r. ⌜ LogLimit n r ⌝ }
@@ -37,8 +37,8 @@ pub fn in_log_range(limit: f64, log: f64) -> bool
     float64::size_of(log) < limit
 }
 
-// The least double from 2^e / n up; without columns nothing is too large. With 2^t the least power of two from n up,
-// its 53 digits are 2^(52 + t) / n, rounded up. 1 is taken off first, so that 64 digits hold the dividend at t = 12.
+// The least double from 2^e / n up; without columns nothing is too large. If 2^t is the least power of two from n up,
+// its 53 digits are 2^(52 + t) / n, rounded up. 1 is subtracted first, so the dividend fits 64 digits at t = 12.
 fn bound(e: u64, n: u32) -> f64
     requires { ⌜ (e ≤ 48) × (n ≤ maxColumns) ⌝ }
     ensures { λ r. ⌜ Bound e n r ⌝ }

@@ -19,7 +19,7 @@ pub fn root(input: &[u8], from: Place) -> Place {
     }
 }
 
-// What the log factors answer is next in the list.
+// The next word of the list is the answer of the log factors.
 fn expect_scaled(input: &[u8], from: Place, answer: Scaled) -> Place {
     match answer {
         Scaled::Applied => list::expect_done(input, from, refusal::ACCEPTED, 0, 0),
@@ -37,7 +37,7 @@ fn fill_duals(input: &[u8], from: Place, u: &mut [f64], v: &mut [f64], cmax: &mu
     list::doubles(input, place, cmax)
 }
 
-// The case, with slices of its lengths: they are filled from the list, the call runs, and what it leaves is compared.
+// The case, with slices of its lengths: fills them from the list, makes the call, and compares what it leaves.
 fn symmetric_lent(
     input: &[u8],
     from: Place,
@@ -90,7 +90,7 @@ pub fn symmetric(input: &[u8], from: Place) -> Place {
     )
 }
 
-// The case, with slices of its lengths: they are filled from the list, the call runs, and what it leaves is compared.
+// The case, with slices of its lengths: fills them from the list, makes the call, and compares what it leaves.
 fn unsymmetric_lent(
     input: &[u8],
     from: Place,
@@ -135,7 +135,7 @@ pub fn unsymmetric(input: &[u8], from: Place) -> Place {
     )
 }
 
-// The case, with slices of its lengths: they are filled from the list, the call runs, and what it leaves is compared.
+// The case, with slices of its lengths: fills them from the list, makes the call, and compares what it leaves.
 fn infnorm_lent(
     input: &[u8],
     from: Place,
@@ -180,7 +180,7 @@ pub fn iterated(input: &[u8], from: Place, rows: &mut [u32], values: &mut [f64])
     )
 }
 
-// The case, with slices of its lengths: they are filled from the list, the call runs, and what it leaves is compared.
+// The case, with slices of its lengths: fills them from the list, makes the call, and compares what it leaves.
 fn onepass_lent(
     input: &[u8],
     from: Place,

@@ -19,7 +19,7 @@ pub fn fill(
     list::words(input, place, work)
 }
 
-// What the slices hold after the call is next in the list.
+// The next words of the list are what the slices hold after the call.
 pub fn expect(
     input: &[u8],
     from: Place,
@@ -36,7 +36,7 @@ pub fn expect(
     list::expect_words(input, place, work)
 }
 
-// What the building of a graph answers is next in the list.
+// The next word of the list is the answer of the building.
 fn expect_built(input: &[u8], from: Place, answer: Built) -> Place {
     match answer {
         Built::Kept(kept) => list::expect_kept(input, from, refusal::ACCEPTED, kept),
@@ -86,7 +86,7 @@ fn build(
     )
 }
 
-// The case, with slices of its lengths: they are filled from the list, the call runs, and what it leaves is compared.
+// The case, with slices of its lengths: fills them from the list, makes the call, and compares what it leaves.
 fn graph_lent(
     input: &[u8],
     from: Place,

@@ -1,5 +1,4 @@
-// The cases of the list of answers: one function a call, which reads a case, makes the call and holds it to what the
-// call leaves.
+// The cases of the list of answers: one function for each call, which reads a case, makes the call and compares.
 pub mod factors;
 pub mod graphs;
 pub mod list;

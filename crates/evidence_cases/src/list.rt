@@ -1,4 +1,4 @@
-// The words of the list, one after the other, and what becomes of a case on the way.
+// The words of the list, one after the other, and the state of a case.
 ghost use Prim.Native.Nat.{_≤_};
 
 pub const ALIKE: u32 = 0;
@@ -22,7 +22,7 @@ pub const MATCH_WORK: usize = 49165;
 
 pub const DISTANCES: usize = 8194;
 
-// Where the list is read: the last word, how often it comes again and what it then gains, and the state of the case.
+// The reading of the list: the last word, how often it is repeated and by what it grows, and the state of the case.
 pub struct Place {
     pub at: usize,
     pub value: u64,
@@ -31,7 +31,7 @@ pub struct Place {
     pub state: u32,
 }
 
-// A number as its digits give it, and the place behind them.
+// The number of some digits, and the place after them.
 struct Digits {
     value: u64,
     next: usize,
@@ -48,7 +48,7 @@ impl Place {
         }
     }
 
-    // The list cannot be read on.
+    // The list cannot be read further.
     pub fn bad(mut self) -> Self {
         self.state = BAD;
         self
@@ -68,7 +68,7 @@ impl Place {
         self
     }
 
-    // What the case before has met does not count for the next.
+    // The state of a case does not carry over to the next.
     pub fn alike(mut self) -> Self {
         if self.state == DIFFERS {
             self.state = ALIKE;
@@ -121,7 +121,7 @@ fn skip(input: &[u8], from: usize) -> usize {
     at
 }
 
-// The place behind the mark, or the same place where another byte stands.
+// The place after the mark, or the same place if another byte is there.
 fn behind(input: &[u8], at: usize, mark: u8) -> usize {
     if at < input.len() && input[at] == mark {
         return at + 1;
@@ -160,7 +160,7 @@ fn run(input: &[u8], from: Place) -> Place {
     }
 }
 
-// The next word. Where the list cannot be read, the place stays.
+// The next word. If the list cannot be read, the place stays.
 pub fn next(input: &[u8], from: Place) -> Place {
     if from.state == BAD {
         return from;
@@ -205,7 +205,7 @@ pub fn length(input: &[u8], from: Place, limit: usize) -> Place {
     place
 }
 
-// The length that was read, 0 where it is above the limit.
+// The length that was read, 0 if it is above the limit.
 pub fn size(place: Place, limit: usize) -> usize
     ensures { λ r. ⌜ r ≤ limit ⌝ }
 {
@@ -273,7 +273,7 @@ fn wide(x: u32) -> u64 {
     x as u64
 }
 
-// What the slice holds after the call is in the list.
+// Compares what the slice holds after the call with the list.
 pub fn expect_words(input: &[u8], from: Place, got: &[u32]) -> Place {
     let mut place = from;
     for i in 0..got.len() {
@@ -282,7 +282,7 @@ pub fn expect_words(input: &[u8], from: Place, got: &[u32]) -> Place {
     place
 }
 
-// What the slice holds after the call is in the list.
+// Compares what the slice holds after the call with the list.
 pub fn expect_numbers(input: &[u8], from: Place, got: &[u64]) -> Place {
     let mut place = from;
     for i in 0..got.len() {
@@ -291,7 +291,7 @@ pub fn expect_numbers(input: &[u8], from: Place, got: &[u64]) -> Place {
     place
 }
 
-// What the slice holds after the call is in the list.
+// Compares what the slice holds after the call with the list.
 pub fn expect_doubles(input: &[u8], from: Place, got: &[f64]) -> Place {
     let mut place = from;
     for i in 0..got.len() {

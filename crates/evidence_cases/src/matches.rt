@@ -21,7 +21,7 @@ pub fn fill(
     list::doubles(input, place, distances)
 }
 
-// What the slices hold after the call is next in the list.
+// The next words of the list are what the slices hold after the call.
 pub fn expect(
     input: &[u8],
     from: Place,
@@ -54,7 +54,7 @@ fn expect_answer(input: &[u8], from: Place, answer: Answer) -> Place {
     }
 }
 
-// The case, with slices of its lengths: they are filled from the list, the call runs, and what it leaves is compared.
+// The case, with slices of its lengths: fills them from the list, makes the call, and compares what it leaves.
 fn matching_lent(
     input: &[u8],
     from: Place,

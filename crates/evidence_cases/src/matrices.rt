@@ -17,7 +17,7 @@ pub fn fill(
     list::doubles(input, place, values)
 }
 
-// The case, with slices of its lengths: they are filled from the list, the call runs, and what it leaves is compared.
+// The case, with slices of its lengths: fills them from the list, makes the call, and compares what it leaves.
 fn validate_lent(
     input: &[u8],
     from: Place,
@@ -62,7 +62,7 @@ pub fn validate(
     )
 }
 
-// What the assembly of triplets answers is next in the list.
+// The next word of the list is the answer of the assembly.
 fn expect_assembled(input: &[u8], from: Place, answer: Assembled) -> Place {
     match answer {
         Assembled::Kept(kept) => list::expect_kept(input, from, refusal::ACCEPTED, kept),
@@ -88,7 +88,7 @@ fn assemble(
     sparse::general::from_triplets(n, rows, cols, vals, col_ptr, row_idx, values, work)
 }
 
-// The case, with slices of its lengths: they are filled from the list, the call runs, and what it leaves is compared.
+// The case, with slices of its lengths: fills them from the list, makes the call, and compares what it leaves.
 fn triplets_lent(
     input: &[u8],
     from: Place,

@@ -7,7 +7,7 @@ use evidence_cases::matches;
 use evidence_cases::matrices;
 use scaling::Scaling;
 
-// What the chooser answers is next in the list.
+// The next word of the list is the answer of the chooser.
 fn expect_scaling(input: &[u8], from: Place, answer: Scaling) -> Place {
     match answer {
         Scaling::Applied => list::expect_done(input, from, refusal::ACCEPTED, 0, 0),
@@ -38,7 +38,7 @@ fn fill(
     list::doubles(input, place, maxima)
 }
 
-// The call, held to the list: its answer and the last group.
+// The call, and its comparison with the list: its answer and the last group.
 fn choice_held(
     input: &[u8],
     from: Place,
@@ -90,7 +90,7 @@ fn choice_held(
     list::expect_words(input, place, factor_work)
 }
 
-// The case with one group of slices more, of its lengths and filled from the list.
+// The case with one more group of slices, of its lengths and filled from the list.
 fn match_lent(
     input: &[u8],
     from: Place,
@@ -200,7 +200,7 @@ fn with_match(
     )
 }
 
-// The case with one group of slices more, of its lengths and filled from the list.
+// The case with one more group of slices, of its lengths and filled from the list.
 fn graph_lent(
     input: &[u8],
     from: Place,
@@ -285,7 +285,7 @@ fn with_graph(
     )
 }
 
-// The case with one group of slices more, of its lengths and filled from the list.
+// The case with one more group of slices, of its lengths and filled from the list.
 fn choice_lent(
     input: &[u8],
     from: Place,

@@ -12,7 +12,7 @@ use evidence_cases::matrices;
 // The numbers of the calls are below this; 0 ends the list.
 const CALLS: usize = 14;
 
-// One case of a call, from the word behind the call's number.
+// One case of a call, from the word after the call's number.
 fn case(input: &[u8], from: Place, call: u32, rows: &mut [u32], values: &mut [f64]) -> Place {
     match call {
         1 => matrices::validate(input, from, true, rows, values),
@@ -32,7 +32,7 @@ fn case(input: &[u8], from: Place, call: u32, rows: &mut [u32], values: &mut [f6
     }
 }
 
-// The name of a call is printed.
+// Prints the name of a call.
 fn name(call: usize) {
     match call {
         1 => io::write_all(1, b"csc::validate"),

@@ -1,6 +1,6 @@
 -- Samples 1 to 11 and 13 to 15 of SPECIFICATION 13, as one table: a row is the sample's number and a test to compute.
--- The tests are of what the calls' contracts name: what each call answers and leaves in slices of its lengths that held
--- other things. Indices from 0, doubles by their bits.
+-- The tests are about what the calls' contracts name: what each call answers and leaves in slices that held other
+-- values. Indices from 0, doubles by their bits.
 use mathlib.Core.Bool.{Bool, true, false, _&&_}
 use mathlib.Core.List.{List, [], _∷_, _++_, map}
 use Prim.Native.Nat.{ℕ, zero, suc, _+_, _-_, _*_}
@@ -58,7 +58,7 @@ pairsLent n =
 abbrev pub matchOf : CostGraph → Outcome Answer Match.Slices
 matchOf g = matchOutcome g (pairsLent (g .pattern .n))
 
--- the number that it answers, and the count of pairs
+-- the number answered, and the count of pairs
 abbrev pub matchNumber : CostGraph → ℕ
 matchNumber g = Match.numberOf (matchOf g .answer)
 
@@ -97,13 +97,13 @@ logIs x p = answer (wholeLog (ofBits binary64 x)) p
     answer (log.Refused number) p = false
 
 -- ---- factors
--- what the call of the symmetric log factors does with what a match of n columns left, and with their largest logs
+-- what `log_factors` does with the match of n columns and their largest logs
 abbrev pub factorsOf : ℕ → Outcome Answer Match.Slices → List Float → Outcome Scaled Slices
 factorsOf n found cmax =
     symmetricOutcome n (pairCount found) (handed (found .after .perm) (found .after .u) (found .after .v) cmax)
     (slices (replicate n nan) (replicate n 1))
 
--- the answer where so many columns are unmatched
+-- the answer if that many columns are unmatched
 abbrev pub scaledIs : ℕ → Scaled → Bool
 scaledIs unmatched (scaled.Refused number) = false
 scaledIs zero scaled.Applied = true
@@ -111,7 +111,7 @@ scaledIs zero (scaled.PartialSingular count) = false
 scaledIs (suc k) scaled.Applied = false
 scaledIs (suc k) (scaled.PartialSingular count) = eqb count (suc k)
 
--- what is lent for a graph of n columns, with room for so many entries, of a matrix that stores so many
+-- what is lent for a graph of n columns: room for its entries, and the number of stored entries of the matrix
 abbrev pub graphLent : (n room stored : ℕ) → Graphs.Slices
 graphLent n room stored =
     Graphs.slices (replicate (n + 1) 1) (replicate room 1) (replicate room nan) (replicate n nan)
@@ -121,9 +121,9 @@ graphLent n room stored =
 abbrev pub one : ℕ → Matrix
 one value = matrix 1 (0 ∷ 1 ∷ []) (0 ∷ []) (ofBits binary64 value ∷ [])
 
--- the symmetric matrix of one entry with this value and log and its graph are accepted, and have this largest log,
--- factor before it is held, and from the call of the log factors this factor, zero work and the answer for so many
--- unmatched columns. Of the value it only counts whether it is zero
+-- the symmetric matrix of one entry with this value and log, and its graph, are accepted. They have this largest log
+-- and this factor before it is held; `log_factors` leaves this factor, zero work and the answer for that many unmatched
+-- columns. Only whether the value is zero matters
 unfoldable pub symmetricIs : (value log cmax unheld factor unmatched : ℕ) → Bool
 unfolding same
 symmetricIs value log cmax unheld factor unmatched =
@@ -205,7 +205,7 @@ minusInfinity = 0xFFF0_0000_0000_0000
 abbrev pub graph : ℕ → List ℕ → List ℕ → List ℕ → CostGraph
 graph n colPtr rows costs = graphOf n colPtr rows (map (ofBits binary64) costs)
 
--- a graph of n columns, the first of which has one entry, and of this cost
+-- a graph of n columns with one entry, in the first column, of this cost
 abbrev pub single : (n cost : ℕ) → CostGraph
 single n cost = graph n (0 ∷ replicate n 1) (0 ∷ []) (cost ∷ [])
 
@@ -229,7 +229,7 @@ empty = graph 0 (0 ∷ []) [] []
 abbrev full : List ℕ → CostGraph
 full costs = graph 2 (0 ∷ 2 ∷ 4 ∷ []) (0 ∷ 1 ∷ 0 ∷ 1 ∷ []) costs
 
--- a symmetric matrix whose factors by rounds are not those of one pass
+-- a symmetric matrix whose iterated factors differ from the one-pass ones
 abbrev apart : Matrix
 apart =
     matrix 2 (0 ∷ 2 ∷ 3 ∷ []) (0 ∷ 1 ∷ 1 ∷ [])
@@ -247,7 +247,7 @@ mirrored = "%%MatrixMarket matrix coordinate integer symmetric" ∷ "3 3 3" ∷ 
 abbrev mirroredPairs : List String
 mirroredPairs = "%%MatrixMarket matrix coordinate pattern general" ∷ "3 3 3" ∷ "3 1" ∷ "1 2" ∷ "2 3" ∷ []
 
--- all rows but that of 4,096 columns, which is shown by a law and not by walking its columns
+-- all rows but that of 4,096 columns, which is proved by a law, not by walking its columns
 unfoldable pub rows : List Sample
 unfolding matchIs printed symmetricIs generalIs infnormIs rootIs logIs
 rows =
@@ -303,7 +303,7 @@ rows =
     ("matched 3 of 3" ∷ "1 3 458752 92736" ∷ "2 1 -92736 0" ∷ "3 2 0 92736" ∷ "counts 4 1 1 2 4 1 1" ∷ [])
     && printed Pairs mirrored mirroredPairs
     && printed Pairs mirroredPairs mirroredPairs)
-    -- values 16 and 1 in column 0, 0.25 in column 1: 0.25 and 2 by rounds, 0.25 and 1 in one pass
+    -- values 16 and 1 in column 0, 0.25 in column 1: iterated 0.25 and 2, one-pass 0.25 and 1
     ∷ sample 15
     (infnormIs apart (0x3FD0_0000_0000_0000 ∷ f2 ∷ []) (0x3FD0_0000_0000_0000 ∷ f1 ∷ []))
     ∷ []

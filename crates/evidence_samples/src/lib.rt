@@ -1,2 +1,2 @@
-// The sample sheets of SPECIFICATION 13 that are shown from the definitions: specs/Table.antt, with one theorem in
+// The samples of SPECIFICATION 13 that are proved from the definitions: specs/Table.antt, with one theorem in
 // proofs/Table.antt.

@@ -1,6 +1,5 @@
--- A factor moved to doubles that are whole and 1 apart: it is whole exactly where it comes back, and the bits there are its number. Whole numbers up
--- to 2 ^ 53 add
--- without rounding; between 2 ^ 52 and 2 ^ 53 every double is whole, and its bits count up by 1.
+-- A factor moved to doubles that are whole and 1 apart: it is whole exactly if it comes back unchanged, and the bits there are its number. Whole
+-- numbers up to 2 ^ 53 add without rounding; between 2 ^ 52 and 2 ^ 53 every double is whole, and its bits count up by 1.
 use mathlib.Core.Path.{_≡_, refl, sym, ap, ap₂, _∙_, subst}
 use mathlib.Core.Bool.{Bool, true, false, _&&_, false≢true}
 use Prim.Native.Nat.{ℕ, _+_, _-_, _*_, _/_, _%_, _^_, _≤_, _<_}

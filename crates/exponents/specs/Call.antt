@@ -59,7 +59,7 @@ exponentsFault n d rows columns =
 abbrev pub setOf : Duals → Exponents
 setOf d = exponents (map exponentOf (rowFactors d)) (map exponentOf (columnFactors d))
 
--- what `exponents` does: the number answered, and what the two slices then hold
+-- what `exponents` does: the number answered, and the two slices left
 unfoldable pub makeExponents : ℕ → Duals → List ℤ → List ℤ → Outcome ℕ Exponents
 makeExponents n d rows columns =
     refusing asNumber (exponentsFault n d (length rows) (length columns)) (outcomeIs accepted (setOf d))

@@ -10,18 +10,17 @@ ghost use Rattle.exponents.specs.inner.Steps.{Exponent};
 // 3 * 2^51. Doubles around it are whole and 1 apart, and their bits count them.
 const MIDDLE: f64 = 6755399441055744.0;
 
-// MIDDLE - 2^43, by its bits too, and MIDDLE + 2^43.
+// MIDDLE - 2^43, also by its bits, and MIDDLE + 2^43.
 const LEAST: f64 = 6746603348033536.0;
 
 const LEAST_BITS: u64 = 0x4337_f800_0000_0000;
 
 const MOST: f64 = 6764195534077952.0;
 
-// What a factor without an exponent has: it is beyond the limit.
+// The exponent of a factor that has none: beyond the limit.
 const NO_EXPONENT: i32 = 134217728;
 
-// The exponent of a factor. A factor up to 2^43 in size that is moved to MIDDLE is whole exactly where nothing was
-// rounded away.
+// The exponent of a factor. A factor up to 2^43 in size is whole exactly if adding MIDDLE rounds nothing away.
 fn exponent_of(factor: f64) -> i32
     ensures { λ r. ⌜ Exponent factor r ⌝ }
 {

@@ -1,6 +1,5 @@
--- A call is accepted exactly where its lengths fit, the matrix and the exponents pass, and every place is scalable. From the laws of the first fault;
--- each place
--- lies in the column that `columnOf` counts out.
+-- A call is accepted exactly if its lengths fit, the matrix and the exponents pass, and every place is scalable. From the laws of the first fault;
+-- each place lies in the column that `columnOf` counts out.
 use mathlib.Core.Path.{_≡_, refl, sym, _∙_, subst}
 use mathlib.Core.Bool.{Bool, true}
 use mathlib.Core.List.{List}

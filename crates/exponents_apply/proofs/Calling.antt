@@ -1,4 +1,4 @@
--- The call: what the tests leave is what the scaling asks for; a refusal leaves the values, an accepted call the scaled ones, each scaled exactly.
+-- The call: the tests establish what the scaling requires; a refusal leaves the values, an accepted call the scaled ones, each scaled exactly.
 use mathlib.Core.Path.{_≡_, refl, sym, ap, _∙_, subst}
 use mathlib.Core.Logic.{_≢_}
 use mathlib.Core.Bool.{Bool}

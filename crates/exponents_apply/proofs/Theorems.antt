@@ -164,7 +164,7 @@ module _ (m : Pattern) (d e : Exponents) (values : List ℕ) where
         (λ k h. let i : k < length values = omega (arith, scaled-length m (sumOf d e) values) in
         scaled-at m (sumOf d e) values k i ∙ sym (both-at k i .1) ∙ sym (scaled-at m e once k (omega (arith, scaled-length m d values))))
 
--- Applying one set and then another, both accepted and the sums within the limit: applying the sums is accepted and leaves the same values.
+-- If one set and then another are accepted, and the sums are within the limit, applying the sums is accepted and leaves the same values.
 pub twice-is-sum : (m : Pattern) (d e : Exponents) (values : List ℕ) → applyExponents m d values .answer ≡ 0
     → applyExponents m e (applyExponents m d values .after) .answer ≡ 0
     → limitFault (sumOf d e .rows) ≡ 0 → limitFault (sumOf d e .columns) ≡ 0
@@ -205,7 +205,7 @@ opposite-brings-back m e values h =
     scaled-at m (oppositeOf e) once k j ∙ back k (omega (arith, scaled-length m e values)) .1) in
     ap (applyExponents m (oppositeOf e)) first ∙ leaves m (oppositeOf e) once b ∙ ap (outcomeIs 0) same
 
--- Two sets in either order, both orders accepted: the same values.
+-- Two sets leave the same values in either order, if both orders are accepted.
 pub order-free : (m : Pattern) (d e : Exponents) (values : List ℕ)
     → applyExponents m d values .answer ≡ 0 → applyExponents m e (applyExponents m d values .after) .answer ≡ 0
     → applyExponents m e values .answer ≡ 0 → applyExponents m d (applyExponents m e values .after) .answer ≡ 0

@@ -27,8 +27,7 @@ lengthsFit m e values =
     eqb (length (m .colPtr)) (m .n + 1)
     && (eqb values (length (m .rowIdx)) && (eqb (length (e .rows)) (m .n) && eqb (length (e .columns)) (m .n)))
 
--- 1, 2, 3, 4, then each entry's 5 and 7: what `general::validate` finds, with the lengths of all slices in the place of
--- 3
+-- 1, 2, 3, 4, then each entry's 5 and 7: what `general::validate` finds, with the lengths of all slices at 3
 unfoldable pub matrixFault : Pattern → Bool → ℕ
 matrixFault m lengths =
     orElse (sizeFault (m .n) maxGeneral (length (m .rowIdx)) lengths)
@@ -38,7 +37,7 @@ matrixFault m lengths =
 unfoldable pub limitFault : List ℤ → ℕ
 limitFault l = firstOf (length l) (λ i. unless (withinLimit (exponentAt l i)) exponentRange) 0
 
--- 46 of place k, where the column's exponent is e
+-- 46 at place k, whose column has the exponent e
 abbrev pub placeFault : List ℕ → List ℤ → ℤ → List ℕ → ℕ → ℕ
 placeFault rows r e values k =
     unless (scalable (getD values k 0) (exponentAt r (getD rows k 0) +ℤ e)) valueNotNormal
@@ -71,8 +70,8 @@ unfoldable pub applyExponents : Pattern → Exponents → List ℕ → Outcome �
 applyExponents m e values =
     refusing asNumber (applyFault m e values) (outcomeIs accepted (scaledValues m e values)) values
 
--- of an accepted call: each number left is the number that was there, times 2 ^ (exponent of its row + exponent of its
--- column), exactly
+-- for an accepted call: each number left is the old one times 2 ^ (exponent of its row + exponent of its column),
+-- exactly
 abbrev pub Exact : Pattern → Exponents → List ℕ → ℕ → List ℕ → Type 0
 Exact m e before number after =
     number ≡ accepted → (k : ℕ) → k < length before → ScaledExactly (getD before k 0) (shiftAt m e k) (getD after k 0)

@@ -1,5 +1,5 @@
 // A general matrix scaled in place by powers of two, through the exponents of its values alone. Values are lent as the
-// bits of doubles, so that every one, NaNs too, is what it was where a call is refused.
+// bits of doubles, so that a refused call leaves every one as it was, NaNs included.
 ghost use mathlib.Core.Path.{_≡_};
 ghost use mathlib.Core.Bool.{true};
 ghost use Prim.Native.Nat.{_+_, _≤_, _<_};
@@ -44,7 +44,7 @@ fn limit_fault(exponents: &[i32]) -> u32
     refusal::ACCEPTED
 }
 
-// Refusal 46 of the column whose entries stand from `from` up to `to`, or 0.
+// Refusal 46 of the column whose entries are those from `from` up to `to`, or 0.
 fn column_fault(
     row_idx: &[u32],
     row_exponents: &[i32],

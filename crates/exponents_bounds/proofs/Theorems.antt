@@ -1,7 +1,7 @@
 -- S-7 of the calls, end to end: `general-ends` and `symmetric-ends` for our own matches, `checked-general-ends` and `checked-symmetric-ends` for
 -- matches that others made. Each call's outcome, as its contract has it,
--- is a premise; what it says is taken from the definition (`none-wrong`, `found`, `made-set`, `applied-exact`). Both kinds go one way (`ours-end`,
--- `checked-end`), over what `Prepared` says of the graph that is left.
+-- is a premise; what it says follows from the definition (`none-wrong`, `found`, `made-set`, `applied-exact`). Both kinds share one argument
+-- (`ours-end`, `checked-end`), over what `Prepared` says of the graph that is left.
 use mathlib.Core.Path.{_≡_, refl, sym, ap, ap₂, _∙_, subst}
 use mathlib.Core.List.{List, [], _∷_, map}
 use Prim.Native.Nat.{ℕ, zero, suc, _*_, _<_}
@@ -58,7 +58,7 @@ none-wrong n g logs s after a zero o e = refl
 none-wrong n g logs s after a (suc fault) o e = let q : numberOf a ≡ suc fault = ap (λ (x : Outcome Built Slices). numberOf (x .answer)) o in
     let z : ⊥ = omega arith in absurd z
 
--- `hungarian_match` left the match of the graph, and matched every column
+-- `hungarian_match` left the match of the graph and matched every column
 record Found (g : CostGraph) (left : Match.Slices) : Type 0 where
   perm : left .perm ≡ hungarianMatch g .perm
   u : left .u ≡ hungarianMatch g .u
@@ -103,7 +103,7 @@ module _ (n : ℕ) (after : Slices) (W : WholeGraph (graphLeft n after)) where
       double-at (x ∷ l) d zero = d 0 (omega arith)
       double-at (x ∷ l) d (suc i) = double-at l (λ k h. d (suc k) (omega arith)) i
 
--- `apply_exponents` that accepts scaled every place exactly
+-- an accepted `apply_exponents` scaled every place exactly
 applied-exact : (m : Pattern) (e : Exponents) (bits values : List ℕ) (number : ℕ) → outcomeIs number values ≡ applyExponents m e bits → number ≡ accepted
     → (length bits ≡ length (m .rowIdx)) × Exact m e bits number values
 unfolding applyExponents scaledValues
@@ -159,7 +159,7 @@ scales-symmetric m bits same {perm} {e} B = record {
 }
 
 -- ---- the graph that is left, of either kind
--- its costs are whole; a certified match of it whose exponents are made is as `Good` says; and those of ours are made
+-- its costs are whole; a certified match of it that has exponents is `Good`; and our own match has exponents
 record Prepared (n : ℕ) (after : Slices) (Good : List ℕ → Exponents → Type 0) : Type 0 where
   whole : WholeGraph (graphLeft n after)
   bounded : (c : Claim) → Certified (graphLeft n after) c → (rows columns : List ℤ) → let E =
@@ -286,8 +286,8 @@ module _ (m : Matrix) (bits : List ℕ) (same : m .values ≡ map (ofBits binary
       (W, λ c C. symmetric-logs m s fine doubles c (subst (λ (x : CostGraph). Certified x c) (left-is (mirroredColumns m) m s after e) C))
 
   -- ---- the theorems
-  -- `whole_general_graph` accepts, `hungarian_match` of the graph left accepts and matches all n columns: then `exponents` of what is left accepts,
-  -- and what it makes brings all below 2 and the matched above 1/4, of the values that `apply_exponents` leaves too
+  -- If `whole_general_graph` accepts, and `hungarian_match` accepts the graph left and matches all n columns, then `exponents` accepts what is
+  -- left, and brings all entries below 2 and the matched ones above 1/4, also in the values that `apply_exponents` leaves
   pub general-ends : outcomeIs a after ≡ wholeGeneralGraph m s → numberOf a ≡ accepted
       → (before left : Match.Slices) (answer : Answer) (old : List ℕ) → outcomeIs answer left ≡ Match.matchOutcome (graphLeft (m .pattern .n) after) before
       → Match.numberOf answer ≡ accepted → getD (Match.countsLeft answer old) 0 0 ≡ m .pattern .n
@@ -296,7 +296,7 @@ module _ (m : Matrix) (bits : List ℕ) (same : m .values ≡ map (ofBits binary
       → (number ≡ accepted) × Scales m bits (left .perm) e
   general-ends o z = ours-end (general-prepared o z)
 
-  -- the same of `whole_symmetric_graph`: the entries of the stored triangle and their mirrors, and so the general form
+  -- the same for `whole_symmetric_graph`: the entries of the stored triangle and their mirrors, and so the general form
   pub symmetric-ends : outcomeIs a after ≡ wholeSymmetricGraph m s → numberOf a ≡ accepted
       → (before left : Match.Slices) (answer : Answer) (old : List ℕ) → outcomeIs answer left ≡ Match.matchOutcome (graphLeft (m .pattern .n) after) before
       → Match.numberOf answer ≡ accepted → getD (Match.countsLeft answer old) 0 0 ≡ m .pattern .n
@@ -305,7 +305,7 @@ module _ (m : Matrix) (bits : List ℕ) (same : m .values ≡ map (ofBits binary
       → (number ≡ accepted) × ScalesSymmetric m bits (left .perm) e
   symmetric-ends o z = ours-end (symmetric-prepared o z)
 
-  -- whoever made a match that `check_match` accepts on such a graph: where `exponents` accepts it, the same holds. It may refuse it with 43 (Examples.antt)
+  -- the same for a match that `check_match` accepts on such a graph, whoever made it, if `exponents` accepts it; it may refuse it with 43 (Examples.antt)
   pub checked-general-ends : outcomeIs a after ≡ wholeGeneralGraph m s → numberOf a ≡ accepted
       → (c : Claim) → Doubles (c .u) → Doubles (c .v) → (verdict : Verdict) → verdict ≡ checked (graphLeft (m .pattern .n) after) c
       → Check.numberOf verdict ≡ accepted

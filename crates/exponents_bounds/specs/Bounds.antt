@@ -20,16 +20,16 @@ use Rattle.exponents_apply.specs.Apply.{shiftAt}
 use Rattle.exponents_apply.specs.Apply.{applyExponents}
 
 -- ---- entries
--- stored entry k has a value that is finite and not zero
+-- the value of stored entry k is finite and not zero
 pub record KeptEntry (m : Matrix) (k : ℕ) : Type 0 where
   pub stored : k < length (m .pattern .rowIdx)
   pub nonzero : isKept (getD (m .values) k nan) ≡ true
 
--- its column j is matched with its row: that is perm j
+-- its column j is matched with its row, perm j
 abbrev pub IsMatched : Matrix → List ℕ → ℕ → Type 0
 IsMatched m perm k = getD perm (columnOf (m .pattern) k) 0 ≡ getD (m .pattern .rowIdx) k 0
 
--- its mirror is matched: with its row as a column, perm of that is its column
+-- its mirror is matched: perm of its row, as a column, is its column
 abbrev pub IsMirrorMatched : Matrix → List ℕ → ℕ → Type 0
 IsMirrorMatched m perm k = getD perm (getD (m .pattern .rowIdx) k 0) 0 ≡ columnOf (m .pattern) k
 
@@ -38,7 +38,7 @@ abbrev pub entryMagnitude : Matrix → ℕ → ℕ
 entryMagnitude m k = magnitude (getD (m .values) k nan)
 
 -- ---- the bounds
--- a size is below 2, where `one` is the size of 1
+-- a size is below 2; `one` is the size of 1
 abbrev pub BelowTwo : ℕ → ℕ → Type 0
 BelowTwo size one = size < 2 * one
 
@@ -57,18 +57,18 @@ pub record Within (m : Matrix) (named : ℕ → Type 0) (e : Exponents) : Type 0
       → Scaled BelowTwo (entryMagnitude m k) (shiftAt (m .pattern) e k)
   pub above : (k : ℕ) → KeptEntry m k → named k → Scaled AboveQuarter (entryMagnitude m k) (shiftAt (m .pattern) e k)
 
--- a general matrix: the matched entries are above 1/4, and each column's pair (perm j, j) is one
+-- a general matrix: the matched entries are above 1/4, and each column's pair (perm j, j) is an entry
 pub record Bounded (m : Matrix) (perm : List ℕ) (e : Exponents) : Type 0 where
   pub entries : Within m (IsMatched m perm) e
   pub pairs : (j : ℕ) → j < m .pattern .n
       → (k : ℕ) × KeptEntry m k × (columnOf (m .pattern) k ≡ j) × IsMatched m perm k
 
--- the exponents of the mirrors: entry (i, j) that is stored stands for (j, i) too, so rows and columns change places
+-- the exponents of the mirrors: the stored entry (i, j) also stands for (j, i), so rows and columns are exchanged
 abbrev pub swapped : Exponents → Exponents
 swapped e = exponents (e .columns) (e .rows)
 
--- a symmetric matrix, of which the lower triangle is stored: the same of its entries and of their mirrors, and each
--- column's pair (perm j, j) is an entry or the mirror of one
+-- a symmetric matrix, stored as its lower triangle: the same for its entries and their mirrors, and each column's pair
+-- (perm j, j) is an entry or the mirror of one
 pub record SymmetricBounded (m : Matrix) (perm : List ℕ) (e : Exponents) : Type 0 where
   pub entries : Within m (IsMatched m perm) e
   pub mirrors : Within m (IsMirrorMatched m perm) (swapped e)
@@ -90,8 +90,8 @@ LeftBounded m perm left = LeftWithin m (IsMatched m perm) left
 abbrev pub LeftMirrors : Matrix → List ℕ → List ℕ → Type 0
 LeftMirrors m perm left = LeftWithin m (IsMirrorMatched m perm) left
 
--- what e does to a general matrix whose values have these bits: the exact bounds, and those of what `apply_exponents`
--- leaves where it accepts
+-- what e does to a general matrix whose values have these bits: the exact bounds, and the bounds of what
+-- `apply_exponents` leaves if it accepts
 pub record Scales (m : Matrix) (bits perm : List ℕ) (e : Exponents) : Type 0 where
   pub bounded : Bounded m perm e
   pub left : (number : ℕ) (values : List ℕ) → outcomeIs number values ≡ applyExponents (m .pattern) e bits
@@ -122,9 +122,9 @@ pub record GeneralForm (m full : Matrix) : Type 0 where
   pub each : (l : ℕ) → l < length (full .pattern .rowIdx)
       → (k : ℕ) × (k < length (m .pattern .rowIdx)) × (HoldsEntry m full k l ⊎ HoldsMirror m full k l)
 
--- what e does to a symmetric matrix, by either way to scale it: `apply_exponents` takes the stored triangle as a
--- general matrix, once with e for the entries that are stored, and once with the swapped set for their mirrors; or it
--- takes the general form, once, with e
+-- what e does to a symmetric matrix, scaled in either way: `apply_exponents` takes the stored triangle as a general
+-- matrix, once with e for the stored entries and once with the exchanged set for their mirrors; or it takes the general
+-- form, once, with e
 pub record ScalesSymmetric (m : Matrix) (bits perm : List ℕ) (e : Exponents) : Type 0 where
   pub bounded : SymmetricBounded m perm e
   pub left : (number : ℕ) (values : List ℕ) → outcomeIs number values ≡ applyExponents (m .pattern) e bits

@@ -1,2 +1,2 @@
-// No code: what exponents made of a complete match do to the magnitudes of a matrix of either kind. specs/ says it,
-// proofs/ has why.
+// No code: what the exponents of a complete match do to the magnitudes of a matrix of either kind. specs/ states it,
+// proofs/ proves it.

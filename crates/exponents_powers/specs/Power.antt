@@ -17,7 +17,7 @@ exponentLimit = 67108864
 unfoldable pub withinLimit : ℤ → Bool
 withinLimit e = leZ (negsuc 67108863) e && leZ e (pos exponentLimit)
 
--- a set of exponents, one of each row and one of each column
+-- a set of exponents, one for each row and one for each column
 pub record Exponents : Type 0 where
   pub rows : List ℤ
   pub columns : List ℤ
@@ -38,7 +38,7 @@ abbrev pub isNormal : ℤ → Bool
 isNormal (pos field) = leb 1 field && leb field 2046
 isNormal (negsuc field) = false
 
--- the same sign and fraction with another exponent field
+-- the double with this exponent field and the old sign and fraction
 abbrev pub withField : ℕ → ℕ → ℕ
 withField bits field = bits / 2 ^ 63 * 2 ^ 63 + field * 2 ^ 52 + bits % 2 ^ 52
 
@@ -48,7 +48,7 @@ withField bits field = bits / 2 ^ 63 * 2 ^ 63 + field * 2 ^ 52 + bits % 2 ^ 52
 abbrev pub shiftedField : ℕ → ℤ → ℤ
 shiftedField bits shift = pos (fieldOf bits) +ℤ shift
 
--- a zero, or a normal number that stays one
+-- a zero, or a normal number that stays normal
 unfoldable pub scalable : ℕ → ℤ → Bool
 scalable bits shift = isZero bits || (isNormal (pos (fieldOf bits)) && isNormal (shiftedField bits shift))
 

@@ -1,5 +1,5 @@
--- Small matrices by computing: a match whose product is less than the largest by more than 2 ^ (n / 65536), so that half of the allowance would not do
--- (`even-far`); a symmetric matrix whose largest product takes an entry and its mirror (`triangle-matched`).
+-- Small matrices by computing: a match whose product is less than the largest by more than 2 ^ (n / 65536), so that half of the bound would not be
+-- enough (`even-far`); a symmetric matrix whose largest product takes an entry and its mirror (`triangle-matched`).
 use mathlib.Core.Path.{_≡_, refl, sym, ap, _∙_}
 use mathlib.Core.List.{List, [], _∷_, map}
 use Prim.Native.Nat.{ℕ, _*_, _^_, _≤_, _<_}

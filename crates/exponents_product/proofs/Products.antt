@@ -1,6 +1,6 @@
--- Products against sums of logarithms, for any N in the place of 65,536: where each size of a choice is below 2 ^ (q + 2), to the power N, and q makes at most
--- m with potentials of its row and column, and each of ours is at least 2 ^ q with an equal sum, no product is 2 ^ (2 * n) times ours (`near`). By induction
--- over the columns; potentials of rows add up to the same over any complete choice (`permuted`).
+-- Products against sums of logarithms, for any N in place of 65,536: if each size of a choice is below 2 ^ (q + 2), to the power N, and q makes at most m with
+-- potentials of its row and column, and each of ours is at least 2 ^ q with an equal sum, no product is 2 ^ (2 * n) times ours (`near`). By induction over the
+-- columns; potentials of rows add up to the same over any complete choice (`permuted`).
 use mathlib.Core.Path.{_≡_, refl, sym, ap, _∙_}
 use mathlib.Core.Logic.{_⊎_, inl, inr}
 use Prim.Native.Nat.{ℕ, zero, suc, _+_, _-_, _*_, _^_, _≤_, _<_}

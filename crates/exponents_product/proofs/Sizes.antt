@@ -1,4 +1,4 @@
--- From the logarithms of a matrix's entries to the sizes at its places: one entry at most is at (i, j), so the size there is its own, or 0 (`size-is`).
+-- From the logarithms of a matrix's entries to the sizes at its places: at most one entry is at (i, j), so the size there is its own, or 0 (`size-is`).
 -- A match whose duals are potentials of the logarithms is near the largest, for either kind (`near-largest`).
 use mathlib.Core.Path.{_≡_, refl, sym, _∙_, subst}
 use mathlib.Core.Bool.{Bool}

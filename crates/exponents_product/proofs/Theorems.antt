@@ -1,6 +1,6 @@
 -- The product of a match against that of any complete choice of entries, of what the calls leave: `general-largest-product` and `symmetric-largest-product` for
 -- our own matches, `checked-general-product` and `checked-symmetric-product` for matches that others made. The calls' outcomes are premises, as in
--- exponent_bounds; what is left has potentials (`general-left`, `symmetric-left`), and these do (`near-largest`).
+-- exponent_bounds; what is left has potentials (`general-left`, `symmetric-left`), and these show it (`near-largest`).
 use mathlib.Core.Path.{_≡_, refl, sym, ap₂, subst}
 use mathlib.Core.Bool.{Bool, _&&_}
 use mathlib.Core.List.{List, map}
@@ -69,7 +69,7 @@ module _ (m : Matrix) (bits : List ℕ) (same : m .values ≡ map (ofBits binary
       let is = size-is m (EitherAt m) (eitherAt m) (either-says m) (either-tells m) (symmetric-once m bits same s after a o z) in
       (is _ _ k h (inl (refl, refl)), is _ _ k h (inr (refl, refl)))
 
-  -- `whole_general_graph` accepts, `hungarian_match` of the graph left accepts and matches all n columns: then no complete choice of the matrix's entries has a
+  -- If `whole_general_graph` accepts, and `hungarian_match` accepts the graph left and matches all n columns, no complete choice of the matrix's entries has a
   -- product of 2 ^ (n / 32768) times that of the match
   pub general-largest-product : outcomeIs a after ≡ wholeGeneralGraph m s → numberOf a ≡ accepted
       → (before left : Match.Slices) (answer : Answer) (old : List ℕ) → outcomeIs answer left ≡ Match.matchOutcome (graphLeft (m .pattern .n) after) before
@@ -90,7 +90,7 @@ module _ (m : Matrix) (bits : List ℕ) (same : m .values ≡ map (ofBits binary
       symmetric-near m (left .perm)
       (logs (claim (left .perm) (left .u) (left .v)) (left-certified (m .pattern .n) after whole before left answer old p q count))
 
-  -- whoever made a match that `check_match` accepts on such a graph
+  -- the same for a match that `check_match` accepts on such a graph, whoever made it
   pub checked-general-product : outcomeIs a after ≡ wholeGeneralGraph m s → numberOf a ≡ accepted
       → (c : Claim) → Doubles (c .u) → Doubles (c .v) → (verdict : Verdict) → verdict ≡ checked (graphLeft (m .pattern .n) after) c
       → Check.numberOf verdict ≡ accepted

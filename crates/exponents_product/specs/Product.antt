@@ -12,17 +12,17 @@ use Rattle.sparse.specs.Matrix.{Matrix}
 use Rattle.sparse.specs.Pattern.{columnOf}
 use Rattle.exponents_bounds.specs.Bounds.{entryMagnitude}
 
--- ---- what stands at (i, j)
+-- ---- what is at (i, j)
 -- stored entry k of a general matrix is at row i and column j
 abbrev pub entryAt : Matrix → ℕ → ℕ → ℕ → Bool
 entryAt m i j k = eqb (getD (m .pattern .rowIdx) k 0) i && eqb (columnOf (m .pattern) k) j
 
--- of a symmetric matrix, of which the lower triangle is stored, entry k is at (i, j) also if its mirror is: if it is
--- stored at row j and column i
+-- entry k of a symmetric matrix, stored as its lower triangle, is at (i, j) if it or its mirror is: if it is stored at
+-- row i and column j or at row j and column i
 abbrev pub eitherAt : Matrix → ℕ → ℕ → ℕ → Bool
 eitherAt m i j k = entryAt m i j k || entryAt m j i k
 
--- the size of the entry at (i, j), whose number is the only one that passes the test: 0 where none is stored, or a zero
+-- the size of the entry at (i, j), the only one that passes the test: 0 if none is stored, or a zero
 unfoldable pub sizeBy : (ℕ → Bool) → Matrix → ℕ
 unfolding sumTo
 sizeBy at m = sumTo (length (m .pattern .rowIdx)) (λ k. orZero (at k) (entryMagnitude m k))
@@ -31,7 +31,7 @@ sizeBy at m = sumTo (length (m .pattern .rowIdx)) (λ k. orZero (at k) (entryMag
 abbrev pub generalSize : Matrix → ℕ → ℕ → ℕ
 generalSize m i j = sizeBy (entryAt m i j) m
 
--- of a symmetric matrix: that of the entry at (j, i) as well
+-- in a symmetric matrix: that of the entry at (j, i) too
 abbrev pub symmetricSize : Matrix → ℕ → ℕ → ℕ
 symmetricSize m i j = sizeBy (eitherAt m i j) m
 
@@ -58,8 +58,8 @@ rowsOf perm j = getD perm j 0
 abbrev pub allowance : ℕ → ℕ
 allowance n = 2 ^ (2 * n)
 
--- the match is a complete choice of entries that are not zero, and the product of any other is at most 2 ^ (n / 32768)
--- times its own; less than that, unless there are no columns
+-- the match is a complete choice of nonzero entries, and the product of any other is at most 2 ^ (n / 32768) times its
+-- own, and less than that unless n is 0
 pub record NearLargest (n : ℕ) (size : ℕ → ℕ → ℕ) (perm : List ℕ) : Type 0 where
   pub complete : CompleteChoice n (rowsOf perm)
   pub some : (j : ℕ) → j < n → 0 < size (rowsOf perm j) j

@@ -61,7 +61,7 @@ pub record OffEnds (n : ℕ) (factors : List Float) : Type 0 where
   pub above : (i : ℕ) → i < n → getD factors i nan ≢ logHuge
   pub under : (i : ℕ) → i < n → getD factors i nan ≢ minusLogHuge
 
--- what is held is no longer what it was
+-- a held factor differs from what it was
 pub held-differs : (x : Float) → (lt x minusLogHuge ≡ true) ⊎ (lt logHuge x ≡ true) → clampLog x ≢ x
 unfolding clampLog lt ofBits
 held-differs x held q = go (lt x minusLogHuge) refl held
@@ -117,7 +117,7 @@ module _ (x y c : Float) (p : IsWhole x) (q : IsWhole y) (r : IsWhole c) where
       let l : minus (wholeOf x +ℤ wholeOf y) * unitsPerOne ≡ minus (wholeOf c) * unitsPerOne = ap (λ (z : ℤ). minus z * unitsPerOne) h in
       omega (arith, k, l, sums, number-key x p, number-key y q, number-key c r)
 
--- a row that is not marked stands nowhere in perm
+-- perm does not contain a row that is not marked
 unmarked : (perm : List ℕ) (i k : ℕ) → isMatchedRow perm i k ≡ false → (j : ℕ) → j < k → getD perm j 0 ≢ i
 unfolding isMatchedRow
 unmarked perm i zero e j h = absurd (not-suc-le-zero h)

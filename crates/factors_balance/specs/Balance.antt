@@ -1,6 +1,6 @@
--- SPECIFICATION 10.1, what the factors are good for: the factors of an entry's row and column plus its log are at most
--- 0, and exactly 0 on every matched pair. This is said of the exact numbers that the doubles stand for: nothing here
--- rounds. The entries are those stored, of the lower triangle; entry (i, j) stands for (j, i) too.
+-- SPECIFICATION 10.1, what the factors achieve: the factors of an entry's row and column plus its log are at most 0,
+-- and exactly 0 on every matched pair. These are the exact numbers that the doubles stand for: nothing here rounds. The
+-- entries are the stored ones, of the lower triangle; entry (i, j) also stands for (j, i).
 use mathlib.Core.Path.{_≡_}
 use mathlib.Core.Bool.{true}
 use mathlib.Core.List.{List}
@@ -30,7 +30,7 @@ pub record KeptEntry (m : Matrix) (k : ℕ) : Type 0 where
 abbrev pub WholeLogs : Matrix → List Float → Type 0
 WholeLogs m logs = (k : ℕ) → KeptEntry m k → IsWhole (getD logs k nan)
 
--- no log factor is held: each is (u + v - cmax) / 2, from which one that is held at 709 or at -709 differs
+-- no log factor is held: each is (u + v - cmax) / 2; one that is held at 709 or -709 differs from that
 pub record NoneHeld (n : ℕ) (c : Match Float) (factors : List Float) : Type 0 where
   pub unheld : (i : ℕ) → i < n
       → getD factors i nan ≡ argument (getD (c .u) i nan) (getD (c .v) i nan) (getD (c .cmax) i nan)
@@ -54,6 +54,6 @@ pub record Balanced (m : Matrix) (logs : List Float) (perm : List ℕ) (factors 
   pub most : (k : ℕ) → KeptEntry m k → balance m logs factors k ≤ℤ pos 0
   -- each column's pair (perm j, j) is a kept entry
   pub pairs : (j : ℕ) → j < m .pattern .n → (k : ℕ) × KeptEntry m k × Joins m k (getD perm j 0) j
-  -- where it is exactly 0
+  -- on which the sum is exactly 0
   pub matched : (j k : ℕ) → j < m .pattern .n → KeptEntry m k → Joins m k (getD perm j 0) j
       → balance m logs factors k ≡ pos 0

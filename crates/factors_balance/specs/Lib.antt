@@ -1,2 +1,2 @@
--- What the log factors of a symmetric matrix with whole logs are good for.
+-- What the log factors of a symmetric matrix with whole logs achieve.
 pub mod Balance

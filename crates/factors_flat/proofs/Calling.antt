@@ -1,4 +1,4 @@
--- The call by the flat rule: what the tests leave is what the steps ask for; a refusal leaves what was lent.
+-- The call by the flat rule: the tests establish what the steps require; a refusal leaves what was lent.
 use mathlib.Core.Path.{_≡_, refl, ap, _∙_}
 use mathlib.Core.Logic.{_≢_}
 use mathlib.Core.Bool.{Bool, true}

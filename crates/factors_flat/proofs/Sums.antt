@@ -1,4 +1,4 @@
--- One stored place more: which index gets a sum by it, and how what is held changes. By cases on the two ends.
+-- One more stored place: which index gets a sum by it, and how what is held changes. By cases on the two ends.
 use mathlib.Core.Path.{_≡_, refl, sym, ap, _∙_, subst}
 use mathlib.Core.Bool.{Bool, true, false, cond, true≢false}
 use mathlib.Core.List.{List, [], _∷_, _++_, append-nil, append-assoc}

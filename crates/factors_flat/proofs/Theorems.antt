@@ -35,7 +35,7 @@ identity-shared n c =
       within = λ i l. subst Within (sym (doubles-at (factorAt n c) n i l)) (factor-within _ _ _ _);
     }
 
--- with no unmatched index both rules have the same
+-- without an unmatched index both rules give the same factors
 pub flat-agrees : (g : Input) → ((i : ℕ) → i < columns g → isMatched (columns g) (g .pairs) i ≡ true) → flatFactors g ≡ symmetricFactors (columns g) (g .pairs)
 flat-agrees g a = doubles-same (flatFactorAt g) (factorAt (columns g) (g .pairs)) (columns g)
     (λ i l. ap (λ (b : Bool). keptOrFlat b (factorAt (columns g) (g .pairs) i) (sumsOf g i)) (a i l))
@@ -53,7 +53,7 @@ module _ (matched : ℕ) (g : Input) (s : Slices) (fine : flatFault matched g s 
         within = λ i l. subst Within (sym (doubles-at (flatFactorAt g) (columns g) i l)) (flat-between i (isMatched (columns g) (g .pairs) i));
       }
 
-  -- both rules leave the same of a call that the flat one accepts, where no index is unmatched
+  -- both rules leave the same of a call that the flat rule accepts, if no index is unmatched
   pub rules-agree : ((i : ℕ) → i < columns g → isMatched (columns g) (g .pairs) i ≡ true) → ruleOutcome Flat matched g s ≡ ruleOutcome Identity matched g s
   unfolding flatOutcome symmetricOutcome
   rules-agree a = rw (fine, identity-fine matched g s fine, flat-agrees g a) refl
@@ -100,7 +100,7 @@ module _ (matched : ℕ) (g : Input) (s : Slices) where
   pub rule-listed : (rule : Rule) → OneOf ruleNumbers (numberOf (ruleOutcome rule matched g s .answer))
   rule-listed rule = subst (OneOf ruleNumbers) (sym (rule-answered rule .number)) (rule-fault-listed rule .is)
 
-  -- all that the call promises, of an outcome that is the rule's
+  -- all that the call promises, from the outcome of the rule
   pub promised : (rule known : Rule) → rule ≡ known → {answer : Scaled} {after : Slices} → outcomeIs answer after ≡ ruleOutcome known matched g s
       → Promises rule matched g s answer after
   promised rule known q {answer} {after} w =

@@ -27,7 +27,7 @@ abbrev pub ruleOf : ℕ → Rule
 ruleOf zero = Identity
 ruleOf (suc number) = Flat
 
--- the fault of a call by the rule whose lengths are wrong
+-- the fault of a call of the rule with wrong lengths
 abbrev pub unfitFault : Rule → ℕ → ℕ → ℕ
 unfitFault Identity n count = sizeFault n 0 0 false
 unfitFault Flat n count = sizeFault n maxSymmetric count false
@@ -40,7 +40,7 @@ pub record Lent : Type 0 where
 abbrev pub lent : Slices → List ℕ → Lent
 lent scaled unmatched = record { scaled = scaled; unmatched = unmatched }
 
--- the count left: how many columns are unmatched, and what was there where there are no factors
+-- the count left: the number of unmatched columns, or what was there if there are no factors
 abbrev pub countLeft : Scaled → List ℕ → List ℕ
 countLeft Applied old = unmatchedOf Applied ∷ []
 countLeft (PartialSingular unmatched) old = unmatchedOf (PartialSingular unmatched) ∷ []

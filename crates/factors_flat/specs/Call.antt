@@ -1,6 +1,6 @@
 -- SPECIFICATION 7.5: What `log_factors_by_rule` answers and leaves by each rule, and what a caller may rely on. The
--- identity rule is `log_factors` and looks at no matrix; the flat one refuses as the symmetric graph's building does,
--- then with 10.
+-- identity rule is `log_factors` and reads no matrix; the flat rule refuses as the building of the symmetric graph
+-- does, then with 10.
 use mathlib.Core.Path.{_≡_}
 use mathlib.Core.Bool.{Bool, true, _&&_}
 use mathlib.Core.List.{List}
@@ -60,7 +60,7 @@ ruleOutcome Identity matched g s = symmetricOutcome (columns g) matched (g .pair
 ruleOutcome Flat matched g s = flatOutcome matched g s
 
 -- ---- what a caller may rely on
--- between -709 and 709, and no NaN
+-- between -709 and 709, and not NaN
 abbrev pub Within : Float → Type 0
 Within x = (le Constants.minusLogHuge x ≡ true) × (le x Constants.logHuge ≡ true)
 
@@ -68,7 +68,7 @@ Within x = (le Constants.minusLogHuge x ≡ true) × (le x Constants.logHuge ≡
 pub record Shared (n : ℕ) (c : Match Float) (factors : List Float) : Type 0 where
   -- a matched index has the factor of the identity rule
   pub kept : (i : ℕ) → i < n → isMatched n c i ≡ true → getD factors i nan ≡ factorAt n c i
-  -- with no unmatched index all are those of that rule
+  -- without an unmatched index all factors are those of that rule
   pub agree : ((i : ℕ) → i < n → isMatched n c i ≡ true) → factors ≡ symmetricFactors n c
   -- every factor lies between -709 and 709
   pub within : (i : ℕ) → i < n → Within (getD factors i nan)
@@ -81,7 +81,7 @@ pub record Promises (rule : Rule) (matched : ℕ) (g : Input) (before : Slices) 
     : Type 0 where
   -- the answer and every slice left are the definition's
   pub outcome : outcomeIs r after ≡ ruleOutcome rule matched g before
-  -- the number is the first fault's, and an accepted call tells how many columns are unmatched
+  -- the number is that of the first fault, and an accepted call answers how many columns are unmatched
   pub answered : AnswersBy (ruleFault rule matched g before) (columns g - matched) r
   -- the number is one of the call's list
   pub number : OneOf ruleNumbers (numberOf r)

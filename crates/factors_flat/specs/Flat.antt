@@ -28,7 +28,7 @@ input pairs stored logs = record { pairs = pairs; stored = stored; logs = logs }
 abbrev pub columns : Input → ℕ
 columns g = g .stored .pattern .n
 
--- whether index i is matched, of n: its column and its row are, and its largest log is finite
+-- whether index i, below n, is matched: its column and its row are, and its largest log is finite
 unfoldable pub matchedBy : ℕ → List ℕ → List Float → ℕ → Bool
 matchedBy n perm cmax i = finite (getD cmax i nan) && matchedBoth n perm i
 
@@ -45,18 +45,18 @@ alone false x = []
 abbrev pub sumAt : Input → ℕ → ℕ → Float
 sumAt g i k = add binary64 (getD (g .logs) k nan) (factorAt (columns g) (g .pairs) (otherEnd (g .stored) i k))
 
--- those of the places whose other end is matched, in the order of the places
+-- the sums of the places whose other end is matched, in their order
 unfoldable pub sumsOver : Input → ℕ → List ℕ → List Float
 sumsOver g i [] = []
 sumsOver g i (k ∷ l) =
     alone (isMatched (columns g) (g .pairs) (otherEnd (g .stored) i k)) (sumAt g i k) ++ sumsOver g i l
 
--- over all places of its column of the graph: the mirrored ones first, by rising row
+-- the sums over all places of its column of the graph: the mirrored ones first, by rising row
 abbrev pub sumsOf : Input → ℕ → List Float
 sumsOf g i = sumsOver g i (placesOf (g .stored) i)
 
 -- ---- the factors
--- minus the largest sum, the first of equals, held to -709..709; plus zero if there is none
+-- minus the largest sum (the first of equal ones), held to -709..709; plus zero if there is no sum
 unfoldable pub flattened : List Float → Float
 flattened [] = Constants.zero
 flattened (x ∷ l) = clampLog (neg (largestFrom x l))

@@ -1,4 +1,4 @@
-// Log factors by a rule for the unmatched indices: the identity leaves them 0, Duff and Pralet's leaves them flat.
+// Log factors by a rule for the unmatched indices: the identity rule gives them 0, Duff and Pralet's leaves them flat.
 use factors_mc64::Scaled;
 use limits::NONE;
 use sparse::layout;
@@ -21,7 +21,7 @@ ghost use Rattle.factors_flat.specs.ByNumber.{ruleOf, unfitFault, Number
 ghost use Rattle.factors_flat.specs.inner.Steps.{Levelled, noSums, MarkedTo, Ready, Enters};
 ghost use Rattle.factors_flat.specs.inner.Steps.{raisedTo, raisedAt, entered, turned, turnedAll};
 
-// What the factor of an unmatched index is: 0, or what leaves its largest entry to a matched index flat.
+// The factor of an unmatched index: 0, or one that leaves its largest entry to a matched index flat.
 pub enum Rule {
     Identity,
     Flat,
@@ -110,7 +110,7 @@ fn fill_matched(
     mark_matched(n, perm, cmax, work);
 }
 
-// The larger of what is held and a sum. The first sum counts, a later one if it is strictly larger.
+// The larger of the sum so far and another. The first sum counts, a later one only if it is strictly larger.
 fn raised(mark: u32, best: f64, sum: f64) -> f64
     ensures { λ r. ⌜ r ≡ raisedTo mark best sum ⌝ }
 {
@@ -134,7 +134,7 @@ fn raise(to: usize, from: usize, log: f64, factors: &mut [f64], work: &mut [u32]
     work[to] = 2;
 }
 
-// An entry of row i and column j counts for its unmatched end, where the other one is matched.
+// An entry of row i and column j counts for its unmatched end if the other one is matched.
 fn enter(i: usize, j: usize, log: f64, factors: &mut [f64], work: &mut [u32])
     requires { ⌜ (i < length (now factors)) × (j < length (now factors)) ⌝ }
     requires { ⌜ length (now work) ≡ length (now factors) ⌝ }
@@ -188,7 +188,7 @@ fn enter_column(
     }
 }
 
-// All kept entries, in stored order: each column of the graph meets its own in column order.
+// All kept entries, in stored order: each column of the graph gets its own in column order.
 fn enter_entries(
     n: usize,
     col_ptr: &[u32],
@@ -211,7 +211,7 @@ fn enter_entries(
     }
 }
 
-// The factor of what is held.
+// The factor of the largest sum.
 fn turn(mark: u32, x: f64) -> f64
     ensures { λ r. ⌜ r ≡ turned mark x ⌝ }
 {
@@ -315,7 +315,7 @@ fn flat_factors(
     factors_mc64::answer(n, matched)
 }
 
-// One log factor of each row and its column, by the rule. The identity rule is `log_factors` and reads no matrix.
+// One log factor for each row and its column, by the rule. The identity rule is `log_factors` and reads no matrix.
 pub fn log_factors_by_rule(
     rule: Rule,
     n: u32,

@@ -1,5 +1,5 @@
--- SPECIFICATION 10.2: What identity factors answer and leave: the first thing wrong, nothing changed, or 0 with factors
--- of 1.0.
+-- SPECIFICATION 10.2: What identity factors answer and leave: the first thing wrong, with nothing changed, or 0 with
+-- factors of 1.0.
 use mathlib.Core.List.{List}
 use Prim.Native.Nat.{ℕ}
 use lib.Ieee.{Float}

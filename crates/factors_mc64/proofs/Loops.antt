@@ -1,4 +1,4 @@
--- The loops: a list that holds f 0, f 1 and so on below i, and the marks of the rows that stand among the first k of perm.
+-- The loops: a list that holds f 0, f 1 and so on below i, and the marks of the rows among the first k of perm.
 use mathlib.Core.Path.{_≡_, refl, sym, ap, _∙_}
 use mathlib.Core.Bool.{Bool, true, false, _||_, true≢false}
 use mathlib.Core.List.{List}

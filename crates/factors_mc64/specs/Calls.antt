@@ -63,7 +63,7 @@ unmatchedOf Applied = 0
 unmatchedOf (PartialSingular unmatched) = unmatched
 unmatchedOf (Refused number) = 0
 
--- an answer by its fault: the number is the fault, and with none the unmatched count is told
+-- an answer by its fault: the number is the fault; without one, the unmatched count is answered
 pub record AnswersBy (fault unmatched : ℕ) (answer : Scaled) : Type 0 where
   pub number : numberOf answer ≡ fault
   pub count : numberOf answer ≡ accepted → unmatchedOf answer ≡ unmatched
@@ -111,7 +111,7 @@ pub record SymmetricPromises (n matched : ℕ) (c : Match Float) (before : Slice
     : Type 0 where
   -- the answer and every slice left are the definition's
   pub outcome : outcomeIs r after ≡ symmetricOutcome n matched c before
-  -- the number is the first fault's, and an accepted call tells how many columns are unmatched
+  -- the number is that of the first fault, and an accepted call answers how many columns are unmatched
   pub answered : AnswersBy (logFactorsFault n matched c before) (n - matched) r
   -- the number is one of the call's list
   pub number : OneOf logFactorNumbers (numberOf r)

@@ -1,5 +1,5 @@
 -- SPECIFICATION 7.1 and 7.2: Log factors: the Rust's scaling factors before `exp`. Symmetric (`scaling_from_cache`):
--- one of a row and its column together. Unsymmetric: one of each.
+-- one for a row and its column. Unsymmetric: one for each row and each column.
 use mathlib.Core.Bool.{Bool, false, not, cond, _&&_, _||_}
 use mathlib.Core.List.{List, [], _∷_, _++_}
 use Prim.Native.Nat.{ℕ, zero, suc}
@@ -18,12 +18,12 @@ doublesOf f zero = []
 doublesOf f (suc i) = doublesOf f i ++ (f i ∷ [])
 
 -- ---- symmetric
--- whether row i stands among the first k of perm
+-- whether row i is among the first k of perm
 unfoldable pub isMatchedRow : List ℕ → ℕ → ℕ → Bool
 isMatchedRow perm i zero = false
 isMatchedRow perm i (suc k) = isMatchedRow perm i k || eqb (getD perm k 0) i
 
--- whether column i and row i are both matched, of n
+-- whether column i and row i, below n, are both matched
 abbrev pub matchedBoth : ℕ → List ℕ → ℕ → Bool
 matchedBoth n perm i = not (eqb (getD perm i 0) none) && isMatchedRow perm i n
 

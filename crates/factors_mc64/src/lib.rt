@@ -13,7 +13,7 @@ ghost use Rattle.factors_mc64.specs.Calls.{sideLengths};
 ghost use Rattle.factors_mc64.specs.Calls.{SymmetricPromises, UnsymmetricPromises};
 ghost use Rattle.factors_mc64.specs.inner.Steps.{Rows, Accepted, Marked, SideRoom};
 
-// What `log_factors` answers: every column is matched, or how many are not, or why there are no factors.
+// What `log_factors` answers: every column is matched, or how many are not, or the refusal.
 pub enum Scaled {
     Applied,
     PartialSingular(u32),
@@ -87,7 +87,7 @@ pub fn mark_rows(n: usize, perm: &[u32], work: &mut [u32])
     }
 }
 
-// The factor of an index whose row and column are both matched, or not.
+// The factor of an index; `both` says whether its row and its column are matched.
 pub fn log_factor(both: bool, u: f64, v: f64, cmax: f64) -> f64
     ensures { λ r. ⌜ r ≡ logFactor both u v cmax ⌝ }
 {
@@ -154,7 +154,7 @@ pub fn answer(n: u32, matched: u32) -> Scaled
     Scaled::PartialSingular(n - matched)
 }
 
-// Symmetric: one log factor of each row and its column, from a match of n columns and the largest log of each.
+// Symmetric: one log factor for each row and its column, from a match of n columns and the largest log of each.
 pub fn log_factors(
     n: u32,
     matched: u32,
@@ -213,7 +213,7 @@ fn write_sides(n: usize, u: &[f64], v: &[f64], cmax: &[f64], rows: &mut [f64], c
     }
 }
 
-// Unsymmetric: a log factor of each row and one of each column.
+// Unsymmetric: a log factor for each row and one for each column.
 pub fn unsymmetric_factors(
     n: u32,
     u: &[f64],

@@ -1,5 +1,5 @@
--- What the proofs of the small functions cite: how a double compares with 0.0, and that x - x is 0.0 exactly where x is finite.
--- By cases on the double; a product that is 0 has a factor 0.
+-- What the proofs of the small functions cite: how a double compares with 0.0, and that x - x is 0.0 exactly if x is finite. By
+-- cases on the double; a product that is 0 has a factor 0.
 use mathlib.Core.Path.{_≡_, refl, sym, ap, ap₂, _∙_, subst}
 use mathlib.Core.Bool.{Bool, true, false, not, cond, _&&_, true≢false, false≢true}
 use Prim.Native.Nat.{ℕ, zero, suc, _+_, _-_, _*_, _^_, _<_}

@@ -1,5 +1,5 @@
--- The order of doubles is the order of their keys: lt, le and eq of two that are no NaN are the tests of the keys. A NaN is never less, at most or equal.
--- Both sizes are brought over one denominator, where the comparison's cross products are the sizes in units times a common factor.
+-- The order of doubles is the order of their keys: lt, le and eq of two doubles other than NaN are the tests of the keys. A NaN is never less, at most or
+-- equal. Both sizes are brought over one denominator, where the comparison's cross products are the sizes in units times a common factor.
 use mathlib.Core.Path.{_≡_, refl, sym, ap, ap₂, _∙_, subst}
 use mathlib.Core.Logic.{_⊎_, inl, inr, ⊎-elim}
 use mathlib.Core.Bool.{Bool, true, false, not, _&&_, _||_, Bool·beq}

@@ -1,4 +1,4 @@
--- SPECIFICATION 3.1: The doubles that the port names, each by its bits.
+-- SPECIFICATION 3.1: Named doubles, each by its bits.
 use lib.Ieee.{Float, binary64, ofBits}
 
 abbrev pub zero : Float
@@ -28,7 +28,7 @@ infnormTol = ofBits binary64 0x3E45_798E_E230_8C3A
 abbrev pub minusInfinity : Float
 minusInfinity = ofBits binary64 0xFFF0_0000_0000_0000
 
--- the NaN that is stored: positive and quiet, with no payload. The logic has one NaN, so its bits are a matter of the
--- code and of a test from Rust
+-- the stored NaN: positive and quiet, without a payload. The logic has only one NaN, so only the code, and a test from
+-- Rust, fix its bits
 abbrev pub quietNan : Float
 quietNan = ofBits binary64 0x7FF8_0000_0000_0000

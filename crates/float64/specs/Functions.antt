@@ -9,7 +9,7 @@ absolute nan = nan
 absolute (inf s) = inf false
 absolute (fin s m e) = fin false m e
 
--- x or -x, whichever is not below 0.0: the sign of a zero is left
+-- x or -x, whichever is not below 0.0; a zero keeps its sign
 unfoldable pub sizeOf : Float → Float
 sizeOf x = cond (lt x zero) (neg x) x
 

@@ -10,13 +10,13 @@ use lib.Ieee.{Float, nan, inf, fin, binary64, fits, up, down}
 use lib.Ieee.Scale.{finite}
 use lib.Ieee.Positive.{num, den}
 
--- whether the sign is set, -0.0's too; a NaN has none
+-- whether the sign is set, also for -0.0; a NaN has none
 abbrev pub negative : Float → Bool
 negative nan = false
 negative (inf s) = s
 negative (fin s m e) = s
 
--- n, or -n where the sign is set
+-- n, or -n if the sign is set
 abbrev pub signed : Bool → ℕ → ℤ
 signed true n = negℤ (pos n)
 signed false n = pos n

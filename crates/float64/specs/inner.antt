@@ -1,4 +1,4 @@
--- What the inner functions ask and promise each other: it serves the proofs alone.
+-- What the inner functions require and promise; only proofs use it.
 pub mod Keys
 pub mod Digits
 pub mod Arithmetic

@@ -32,15 +32,15 @@ pub fn canonical(x: f64) -> f64
     if x != x { quiet_nan() } else { x }
 }
 
-// x or -x, whichever is not below 0.0. The sign of a zero is left, which spares a test.
+// x or -x, whichever is not below 0.0. A zero keeps its sign, which saves a test.
 pub fn size_of(x: f64) -> f64
     ensures { λ r. ⌜ r ≡ sizeOf x ⌝ }
 {
     if x < 0.0 { -x } else { x }
 }
 
-// The Rust's `abs`. The zeros have a case of their own: -0.0 is not below 0.0. Two choices, one after the other, need
-// no branch.
+// The Rust's `abs`. Zeros need a case of their own: -0.0 is not below 0.0. Two choices in a row compile without a
+// branch.
 pub fn abs(x: f64) -> f64
     ensures { λ r. ⌜ r ≡ absolute x ⌝ }
 {
@@ -65,13 +65,13 @@ pub fn clamp_log(x: f64) -> f64
     if x > LOG_HUGE { LOG_HUGE } else { x }
 }
 
-// A double above zero by two integers, of which the first has 53 digits.
+// A double above zero as two integers, the first of 53 digits.
 pub struct Parts {
     pub significand: u64,
     pub exponent: u64,
 }
 
-// The digits of a finite double above zero, by its bits; a subnormal's are moved up until they are 53.
+// The digits of a finite double above zero, by its bits; those of a subnormal are shifted up to 53.
 pub fn full_digits(bits: u64) -> Parts
     requires { ⌜ (0 < bits) × (bits < 0x7ff0_0000_0000_0000) ⌝ }
     ensures { λ r. ⌜ Scaling (magnitude (ofBits binary64 bits) * unitsPerOne) (r .significand) (r .exponent) ⌝ }

@@ -1,6 +1,6 @@
--- Where sums are exact no dual falls below minus 2 n - 1 times the cost limit. A way from the root to a scanned column adds a cost and takes one off
--- at each step, so its offset is at most as many cost limits from zero as its rank, and there are fewer popped rows than rows, for the path ends in a free one.
--- A popped row's new dual is the difference of two such offsets and two costs, plus the dual of that free row, which is not negative; the others stay.
+-- Where sums are exact no dual falls below minus 2 n - 1 times the cost limit. A way from the root to a scanned column adds a cost and subtracts one at each
+-- step, so its offset is at most as many cost limits from zero as its rank, and there are fewer popped rows than rows, for the path ends in a free one. A
+-- popped row's new dual is the difference of two such offsets and two costs, plus the dual of that free row, which is not negative; the others stay.
 use mathlib.Core.Path.{_≡_, refl, sym, ap, _∙_}
 use mathlib.Core.Logic.{inl, inr, ⊎-elim}
 use mathlib.Core.Bool.{Bool, true, false, not, cond}

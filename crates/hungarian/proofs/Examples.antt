@@ -1,5 +1,5 @@
 -- What the Rust answers on a few small graphs with equal costs, fractions, searches with and without a path: the definition computes the same, bit for
--- bit, and the two counts that the Rust has not.
+-- bit, and the two counts that the Rust lacks.
 use mathlib.Core.Path.{_≡_, refl}
 use mathlib.Core.List.{List, [], _∷_, map}
 use Prim.Native.Nat.{ℕ}

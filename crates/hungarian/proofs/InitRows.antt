@@ -1,4 +1,4 @@
--- Phase 1: u of a row is the least cost of its entries, of equal ones by the last; a row without entries has none. By the entries looked at so far.
+-- Phase 1: u of a row is the least cost of its entries, of equal ones by the last; a row without entries has none. By the entries examined so far.
 -- Then the duals that the searches start from: a row without entries has 0, any other keeps its own.
 use mathlib.Core.Path.{_≡_, refl, sym, ap, _∙_}
 use mathlib.Core.Logic.{_≢_, _⊎_, inl, inr}

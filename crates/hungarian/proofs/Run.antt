@@ -1,6 +1,6 @@
 -- From search to search: the pairs stay a matching, the duals bounded (and tight where sums are exact), the arrays clean, and a set of columns from
--- which no free row is reached takes in every column that is searched in vain.
--- One turn is one search, with or without a path; the run is their loop.
+-- which no free row is reached absorbs every column that is searched in vain. One turn is one search, with or without a path; the run is their
+-- loop.
 use mathlib.Core.Path.{_≡_, refl, sym, ap, _∙_, subst}
 use mathlib.Core.Logic.{_⊎_, ⊎-elim, _≢_}
 use mathlib.Core.Bool.{Bool, true, false, cond, not, _||_, true≢false}

@@ -130,7 +130,7 @@ match-work g a f = go (eqb (initial g .pairs .num) (g .pattern .n))
     go false = let R = turns S (exact-start S) (g .pattern .n) (le-refl (g .pattern .n)) in
         late (stateAt g (g .pattern .n) .stats) (initial-counts S .0) (initial-counts S .2) (R .counted) (R .searchesMost)
 
--- where the start matches every column, none is left to search
+-- if the start matches every column, none is left to search
 nothing-free : {Good : Float → Type 0} {err C : ℕ} {g : CostGraph} → Setting Good err C g → initial g .pairs .num ≡ g .pattern .n
     → Hopeless g (initial g .pairs) (g .pattern .n)
 nothing-free {g = g} S e = record {
@@ -181,14 +181,14 @@ match-optimal g a w = match-ends g (whole-setting g a w) .0
 wider : {a b : ℕ} {g : CostGraph} {m : Matching} → a ≤ b → DualsWithin a g m → DualsWithin b g m
 wider h d = record { rows = λ i l. le-trans (d .rows i l) h; columns = λ j l. le-trans (d .columns j l) h }
 
--- the duals are at most 2 n times any limit of the costs, and so at most 2 ^ 50
+-- the duals are at most 2 n times any limit on the costs, and so at most 2 ^ 50
 pub match-within : {C : ℕ} (g : CostGraph) → Setting IsWhole 0 C g → DualsWithin (2 * (g .pattern .n * C)) g (hungarianMatch g)
 match-within g S = match-ends g S .1
 
 pub match-small : (g : CostGraph) → Accepted g → WholeCosts g → DualsWithin (2 ^ 50) g (hungarianMatch g)
 match-small g a w = let S = whole-setting g a w in wider (omega (arith, S .product, S .fewColumns)) (match-within g S)
 
--- the same by any number that all costs are below
+-- the same for any number that all costs are below
 pub match-below : (C : ℕ) (g : CostGraph) → Accepted g → WholeCosts g → ((k : ℕ) → k < entries (g .pattern) → amount g k < C)
     → DualsWithin (2 * (g .pattern .n * C)) g
     (hungarianMatch g)

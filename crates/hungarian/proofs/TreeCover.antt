@@ -1,5 +1,5 @@
--- An entry that a search examines leads to a path's end or to a touched row, and stays so. Rows popped and counts are not an edge's to change. For any
--- accepted costs.
+-- An entry that a search examines leads to a path's end or to a touched row, and stays so. An edge changes neither the popped rows nor the counts. For
+-- any accepted costs.
 use mathlib.Core.Path.{_≡_, refl, sym, ap, _∙_, subst}
 use mathlib.Core.Logic.{_⊎_, inl, inr, ⊎-elim, _≢_}
 use mathlib.Core.Bool.{Bool, true, false, cond, _||_, not, true≢false}

@@ -1,6 +1,6 @@
--- The pairs are flipped along the path, from its free row back to the root: a matching with one pair more. Every column on the way takes the row by
--- which the one after it was reached.
--- By the ranks the way back has at most as many steps as rows were popped. A closed set of columns stays closed.
+-- The pairs are flipped along the path, from its free row back to the root: a matching with one more pair. Every column on the way takes the row by
+-- which the one after it was reached. By the ranks the way back has at most as many steps as rows were popped. A closed set of columns stays
+-- closed.
 use mathlib.Core.Path.{_≡_, refl, sym, ap, _∙_, subst}
 use mathlib.Core.Logic.{_⊎_, inl, inr, _≢_}
 use mathlib.Core.Bool.{Bool, true, false, cond, not}

@@ -1,4 +1,4 @@
--- The nearest row leaves the heap: what holds of the tree holds with one popped row more, and its column's entries are examined next. The ranks,
+-- The nearest row leaves the heap: what holds of the tree holds with one more popped row, and its column's entries are examined next. The ranks,
 -- offsets and the highest popped distance follow.
 use mathlib.Core.Path.{_≡_, refl, sym, ap, _∙_, subst}
 use mathlib.Core.Logic.{_⊎_, inl, inr, ⊎-elim, _≢_}

@@ -1,5 +1,5 @@
--- What the theorems suppose: a graph that the test accepts. Where costs need not be whole they are doubles, as
--- whatever a machine holds is.
+-- What the theorems assume: a graph that the test accepts. If costs need not be whole, they are doubles, as everything
+-- in a machine's slice is.
 use mathlib.Core.Path.{_≡_}
 use Prim.Native.Nat.{ℕ, _<_}
 use lib.Dec.{T}

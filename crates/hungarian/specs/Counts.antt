@@ -1,5 +1,5 @@
--- SPECIFICATION 5.11: The seven counts that come back with every match, the Rust's five in its order and two of ours,
--- and the steps that raise them: each takes the counts and hands them back.
+-- SPECIFICATION 5.11: The seven counts of every match, the Rust's five in its order and two of ours, and the steps that
+-- raise them: each takes the counts and returns them.
 use mathlib.Core.Bool.{cond}
 use mathlib.Core.List.{List, [], _∷_}
 use Prim.Native.Nat.{ℕ, _+_}
@@ -26,7 +26,7 @@ countList c =
 abbrev pub noCounts : HungarianStats
 noCounts = counts 0 0 0 0 0 0 0
 
--- heap slots set: n where the heap is made
+-- heap slots set: n when the heap is made
 unfoldable pub heapMade : ℕ → HungarianStats → HungarianStats
 heapMade n c =
     counts (c .«heap_init_slots» + n) (c .«augment_searches») (c .«touched_total») (c .«phase3_inner_iters»)
@@ -38,7 +38,7 @@ searchBegun c =
     counts (c .«heap_init_slots») (c .«augment_searches» + 1) (c .«touched_total») (c .«phase3_inner_iters»)
     (c .«main_loop_edge_scans») (c .«popped_total») (c .«largest_heap»)
 
--- a search that touched t rows ends: each gives its heap slot back
+-- a search that touched t rows ends: each row gives its heap slot back
 unfoldable pub searchEnded : ℕ → HungarianStats → HungarianStats
 searchEnded t c =
     counts (c .«heap_init_slots» + t) (c .«augment_searches») (c .«touched_total» + t) (c .«phase3_inner_iters»)

@@ -1,7 +1,7 @@
 -- SPECIFICATION 5.12: "With whole costs every sum in the search is exact": each sum and difference of doubles that a
 -- search makes is whole, and is that of the whole numbers. The doubles are those of Search.antt, in its order of
--- operations, on the tree that the search ends with; `edge` passes over a popped row, so its distance is the one that
--- it was popped at.
+-- operations, on the tree that the search ends with; `edge` passes over a popped row, so the row keeps the distance at
+-- which it was popped.
 use mathlib.Core.Path.{_≡_}
 use mathlib.Core.Bool.{true, cond}
 use mathlib.Core.List.{List}
@@ -17,7 +17,7 @@ use Rattle.hungarian.specs.Graph.{CostGraph, costOf}
 use Rattle.hungarian.specs.Init.{Pairs}
 use Rattle.hungarian.specs.Search.{Tree, among, raise}
 
--- x + y, and x - y, rounded: whole, and what the numbers give
+-- x + y and x - y, rounded, are whole and equal the exact results
 pub record ExactSum (x y : Float) : Type 0 where
   pub whole : IsWhole (add binary64 x y)
   pub value : wholeOf (add binary64 x y) ≡ wholeOf x +ℤ wholeOf y
@@ -45,11 +45,11 @@ heldCost g s q = costOf g (getD (s .jperm) (columnFor s q) 0)
 abbrev pub offsetBy : CostGraph → Pairs → List Float → Tree → ℕ → Float
 offsetBy g s u t q = add binary64 (sub binary64 (distanceOf t q) (heldCost g s q)) (dualOf u q)
 
--- the offset of a scanned column as a number: 0 of the root, else that of the row that the column holds
+-- the offset of a scanned column as a number: 0 for the root, else that of the row that the column holds
 abbrev pub offsetOf : CostGraph → Pairs → List Float → ℕ → Tree → ℕ → ℤ
 offsetOf g s u r t j = cond (eqb j r) (pos 0) (wholeOf (offsetBy g s u t (rowOf (g .pattern) (getD (s .jperm) j 0))))
 
--- entry k stands in the column of row q
+-- entry k is in the column of row q
 abbrev pub Holds : CostGraph → Pairs → ℕ → ℕ → Type 0
 Holds g s q k = (start (g .pattern) (columnFor s q) ≤ k) × (k < end (g .pattern) (columnFor s q))
 
@@ -87,7 +87,7 @@ pub record ExactSearch (g : CostGraph) (s : Pairs) (u : List Float) (r : ℕ) (t
   pub root : (k : ℕ) → start (g .pattern) r ≤ k → k < end (g .pattern) r
       → ExactDifference (costOf g k) (dualOf u (rowOf (g .pattern) k))
   pub columns : (q : ℕ) → T (among q (t .popped)) → ExactColumn g s u t q
-  -- a touched row by the column and the entry that reached it, and the path by its last entry
+  -- a touched row by the column and entry that reached it, and the path by its last entry
   pub touched : (i : ℕ) → T (among i (t .touched))
       → ExactDistance g s u r t (parentOf s t i) (entryOf s t i) (distanceOf t i)
   pub path : lt (t .csp) rinf ≡ true → ExactDistance g s u r t (t .jsp) (t .isp) (t .csp)

@@ -68,8 +68,8 @@ phase2 g s = each 0 (g .pattern .n) (claim g (s .least))
     (record { iperm = s .iperm; jperm = replicate (g .pattern .n) none; num = 0 })
 
 -- ---- phase 3: free columns that are not empty, upward
--- `least` has the least cost minus u that phase 3 found in a column, 0 before; `from` the place from which a column is
--- still to be searched for a swap
+-- `least` has the least cost minus u that phase 3 found in a column, at first 0; `from` has the place from which a
+-- column is still to be searched for a swap
 pub record Improving : Type 0 where
   pub pairs : Pairs
   pub least : List Float
@@ -89,7 +89,7 @@ reduced g u k = sub binary64 (costOf g k) (getD u (rowOf (g .pattern) k) nan)
 abbrev pub free : List ℕ → ℕ → Bool
 free iperm i = eqb (getD iperm i 0) none
 
--- least value; equals go to the later entry only if its row is free and the kept one's is not
+-- the least value; of equal ones the later entry counts only if its row is free and that of the kept one is not
 unfoldable pub better : CostGraph → List Float → List ℕ → ℕ → Best → Best
 better g u iperm k b =
     let v = reduced g u k in
@@ -107,12 +107,12 @@ bestOf g u iperm j =
       place = start (g .pattern) j;
     })
 
--- what seeking a free row for a column ends with: the entry, or none; and the counts
+-- the result of seeking a free row for a column: the entry, or none; and the counts
 pub record Sought : Type 0 where
   pub entry : ℕ
   pub stats : HungarianStats
 
--- in column jj from place kk on, m places at most: a free row whose value is at most the column's least
+-- at most m places of column jj from place kk on: a free row whose value is at most the column's least
 unfoldable pub seek : CostGraph → List Float → Improving → HungarianStats → ℕ → ℕ → ℕ → Sought
 unfolding innerStep
 seek g u s c jj zero kk = record { entry = none; stats = c }

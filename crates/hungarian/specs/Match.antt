@@ -18,8 +18,7 @@ use Rattle.hungarian.specs.Counts.{rowsPopped, heapSeen}
 use Rattle.hungarian.specs.Init.{Pairs, Improving, reduced, phase1, phase2, phase3}
 use Rattle.hungarian.specs.Search.{Tree, Found, path, noPath, found, scanRoot, grow, flip, raise, restore}
 
--- what goes from search to search: the pairs and row duals, the arrays of a search as the last one left them, the
--- counts
+-- what is passed from search to search: the pairs and row duals, the arrays as the last search left them, the counts
 pub record Running : Type 0 where
   pub pairs : Pairs
   pub u : List Float
@@ -47,7 +46,7 @@ treeFrom g j s =
       stats = columnScanned (end (g .pattern) j - start (g .pattern) j) (searchBegun (s .stats));
     }))
 
--- with a path the pairs are flipped along it and the popped rows' duals follow; without one both stay
+-- with a path the pairs are flipped along it and the duals of popped rows are raised; without one both stay
 unfoldable pub pairsAfter : CostGraph → Tree → Found → Pairs → Pairs
 unfolding flip
 pairsAfter g t (path c k j) s = flip g t k j s
@@ -71,7 +70,7 @@ settle g t s = record {
   stats = heapSeen (t .peak) (rowsPopped (length (t .popped)) (searchEnded (length (t .touched)) (t .stats)));
 }
 
--- a column that is free roots one search
+-- a free column is the root of one search
 unfoldable pub augment : CostGraph → ℕ → Running → Running
 unfolding settle treeFrom
 augment g j s =

@@ -1,5 +1,5 @@
--- SPECIFICATION 5.12: What the match promises, said of the graph and of all its matchings. For any accepted costs:
--- perm's pairs are entries, and a largest matching, complete where there is a complete one. For whole costs also: of
+-- SPECIFICATION 5.12: What the match promises, in terms of the graph and all its matchings. For any accepted costs:
+-- perm's pairs are entries and a largest matching, complete if the graph has a complete one. For whole costs also:
 -- least total, with duals that show it.
 use mathlib.Core.Path.{_≡_}
 use mathlib.Core.Logic.{_↔_, _⊎_, _≢_}
@@ -41,9 +41,9 @@ pub record IsEntry (g : Pattern) (i j : ℕ) : Type 0 where
   pub row : rowOf g entry ≡ i
   pub column : columnOf g entry ≡ j
 
--- of any accepted costs, whole or not
+-- for any accepted costs, whole or not
 pub record LargestMatch (g : Pattern) (m : Matching) : Type 0 where
-  -- perm has n places; what stands in one is none, or the row of an entry of its column, and so below n
+  -- perm has n places; each holds none, or the row of an entry of its column, which is below n
   pub places : length (m .perm) ≡ g .n
   pub pairs : (j : ℕ) → j < g .n → rowFor m j ≢ none → IsEntry g (rowFor m j) j
   pub rows : (j : ℕ) → j < g .n → (rowFor m j ≡ none) ⊎ (rowFor m j < g .n)

@@ -38,7 +38,7 @@ unfoldable pub among : ℕ → List ℕ → Bool
 among i [] = false
 among i (q ∷ qs) = eqb q i || among i qs
 
--- a path to a free row ends at entry k of column j
+-- entry k of column j ends a path to a free row
 unfoldable pub reach : Float → ℕ → ℕ → Tree → Tree
 reach x j k t = record {
   d = t .d;
@@ -77,7 +77,7 @@ relax g iperm x j k t =
       stats = t .stats;
     }
 
--- entry k of column j, by which its row is x away
+-- entry k of column j, whose row is at distance x
 unfoldable pub edge : CostGraph → List ℕ → Float → ℕ → ℕ → Tree → Tree
 unfolding among reach relax
 edge g iperm x j k t =
@@ -87,12 +87,12 @@ edge g iperm x j k t =
     cond (among i (t .popped) || le (t .csp) x) t
     (cond (free iperm i) reached (cond (lt x (getD (t .d) i nan)) relaxed t))
 
--- the root column's entries are cost minus u away
+-- the entries of the root are at distance cost minus u
 unfoldable pub scanRoot : CostGraph → Pairs → List Float → ℕ → Tree → Tree
 unfolding edge steps
 scanRoot g s u j t = each (start (g .pattern) j) (end (g .pattern) j) (λ k. edge g (s .iperm) (reduced g u k) j k) t
 
--- a column reached at the offset v: its entries are v plus cost minus u away
+-- a column reached at the offset v: its entries are at distance v plus cost minus u
 unfoldable pub scan : CostGraph → Pairs → List Float → Float → ℕ → Tree → Tree
 unfolding edge steps
 scan g s u v j t =
@@ -122,7 +122,7 @@ extend g s u t =
           columnScanned (end (g .pattern) j - start (g .pattern) j) (t .stats);
     })
 
--- until the heap is empty or no row is nearer than the best path; each turn pops another row, so n turns are enough
+-- until the heap is empty or no row is nearer than the best path; each iteration pops another row, so n are enough
 unfoldable pub grow : CostGraph → Pairs → List Float → ℕ → Tree → Tree
 unfolding extend
 grow g s u zero t = t
@@ -139,7 +139,7 @@ abbrev pub found : Tree → Found
 found t = cond (lt (t .csp) rinf) (path (t .csp) (t .isp) (t .jsp)) noPath
 
 -- ---- flipping the pairs along the path
--- from column j back to the root: its entry `out` now belongs to the column before it
+-- from column j back to the root: the entry `out` goes to the column before it
 unfoldable pub walk : CostGraph → Tree → ℕ → ℕ → Pairs → Pairs
 walk g t zero j s = s
 walk g t (suc m) j s =
@@ -161,7 +161,7 @@ unfoldable pub raise : List Float → Float → List ℕ → List Float → List
 raise d c [] u = u
 raise d c (i ∷ is) u = raise d c is (set u i (add binary64 (getD u i nan) (sub binary64 (getD d i nan) c)))
 
--- distances and heap places of the touched rows, as they were before the search
+-- distances and heap places of the touched rows are reset
 unfoldable pub restore : {A : Type 0} → A → List ℕ → List A → List A
 restore x [] l = l
 restore x (i ∷ is) l = restore x is (set l i x)

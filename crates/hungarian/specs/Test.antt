@@ -1,5 +1,5 @@
 -- The graph test of SPECIFICATION 5.1: 1, 2, 3, 4, then columns upward 5 and 7, then costs in stored order 8. The first
--- thing wrong is named, 0 where nothing is.
+-- thing wrong is named, or 0.
 use mathlib.Core.Bool.{Bool}
 use mathlib.Core.List.{List}
 use Prim.Native.Nat.{ℕ}

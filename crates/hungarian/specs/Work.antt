@@ -1,4 +1,4 @@
--- SPECIFICATION 5.11: What the counts of a match are bounded by.
+-- SPECIFICATION 5.11: Bounds on the counts of a match.
 use mathlib.Core.Path.{_≡_}
 use mathlib.Core.Logic.{_⊎_}
 use Prim.Native.Nat.{_+_, _*_, _≤_}
@@ -7,8 +7,8 @@ use Rattle.sparse.specs.Pattern.{entries}
 use Rattle.hungarian.specs.Graph.{CostGraph}
 
 -- phase 3 steps are at most the entries, searches at most n; a search touches a row at most once and scans an entry at
--- most once; heap slots are none, or n and one for each touch; a search pops only rows that it touched, each once, and
--- its heap holds at most n; without a search no row is popped and no heap is seen
+-- most once; heap slots are 0, or n plus one for each touch; a search pops only rows that it touched, each once, and
+-- its heap holds at most n rows; without a search no row is popped and the largest heap is 0
 pub record Work (g : CostGraph) (c : HungarianStats) : Type 0 where
   pub inner : c .«phase3_inner_iters» ≤ entries (g .pattern)
   pub searches : c .«augment_searches» ≤ g .pattern .n

@@ -1,6 +1,6 @@
-// The match of SPECIFICATION 5: its definition (specs/), the theory of it (proofs/), and the counts. The code that runs
-// is in the crates above: hungarian_claim, hungarian_best and hungarian_init (phases 1 to 3), hungarian_path and
-// hungarian_search (the searches) and hungarian_match (the call).
+// The match of SPECIFICATION 5: its definition (specs/), its theory (proofs/), and the counts. The code is in the
+// crates above: hungarian_claim, hungarian_best and hungarian_init (phases 1 to 3), hungarian_path and hungarian_search
+// (the searches) and hungarian_match (the call).
 ghost use mathlib.Core.Path.{_≡_};
 ghost use Prim.Native.Nat.{_+_, _<_, _^_};
 ghost use Rattle.hungarian.specs.Counts.{noCounts, heapMade, searchBegun, searchEnded, innerStep, columnScanned};
@@ -38,7 +38,7 @@ pub fn larger(a: u64, b: u64) -> u64
 }
 
 // The work counters: the Rust's five in its order, the rows popped and the largest size of a heap. A step takes the
-// counts and hands them back.
+// counts and returns them.
 pub struct HungarianStats {
     pub heap_init_slots: u64,
     pub augment_searches: u64,
@@ -80,7 +80,7 @@ impl HungarianStats {
         self
     }
 
-    // One search more.
+    // One more search.
     pub fn search_begun(mut self) -> Self
         requires { ⌜ self .«augment_searches» + 1 < 2 ^ 64 ⌝ }
         ensures { λ r. ⌜ r ≡ searchBegun self ⌝ }
@@ -89,7 +89,7 @@ impl HungarianStats {
         self
     }
 
-    // A search that touched t rows ends, and each gives its slot back.
+    // A search that touched t rows ends; each row gives its slot back.
     pub fn search_ended(mut self, t: u64) -> Self
         requires { ⌜ (self .«heap_init_slots» + t < 2 ^ 64) × (self .«touched_total» + t < 2 ^ 64) ⌝ }
         ensures { λ r. ⌜ r ≡ searchEnded t self ⌝ }
@@ -99,7 +99,7 @@ impl HungarianStats {
         self
     }
 
-    // One inner step of phase 3 more (SPECIFICATION 5.6).
+    // One more inner step of phase 3 (SPECIFICATION 5.6).
     pub fn inner_step(mut self) -> Self
         requires { ⌜ self .«phase3_inner_iters» + 1 < 2 ^ 64 ⌝ }
         ensures { λ r. ⌜ r ≡ innerStep self ⌝ }

@@ -1,4 +1,4 @@
--- The best entry of a column: `Choosing` says that the rest of the definition's scan from the code's best so far is the whole, and where that entry stands.
+-- The best entry of a column: `Choosing` says that the rest of the definition's scan from the code's best so far is the whole, and where that entry is.
 use mathlib.Core.Path.{_≡_, refl, sym, _∙_}
 use mathlib.Core.Bool.{Bool, true, false, not, _&&_, _||_, true≢false, false≢true}
 use mathlib.Core.List.{List}

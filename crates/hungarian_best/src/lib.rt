@@ -18,8 +18,8 @@ pub struct Best {
     pub place: usize,
 }
 
-// The entry of column j with the least cost minus u; equals go to the later one only if its row is free and the kept
-// one's is not. Whether an entry is taken cannot be foretold, so that it is one test.
+// The entry of column j with the least cost minus u; of equal ones the later counts only if its row is free and that of
+// the kept one is not. Which entry is taken is unpredictable, so there is only one test.
 pub fn best_of(
     n: usize,
     col_ptr: &[u32],

@@ -1,2 +1,2 @@
--- What the code of phases 1 and 2 asks and promises, in terms of the match's definition.
+-- What the code of phases 1 and 2 requires and promises, in terms of the match's definition.
 pub mod inner

@@ -1,6 +1,6 @@
-// Phases 1 and 2 of the match, the first part of the Rust's hungarian_init_heuristic, as the definition has them. The
-// work slice is cut into regions of n words (hungarian's Layout): each row's column from 0, each column's entry from
-// n, each row's least entry from 2 n.
+// Phases 1 and 2 of the match, the first part of the Rust's hungarian_init_heuristic, as in the definition. The work
+// slice is cut into regions of n words (hungarian's Layout): each row's column from 0, each column's entry from n, each
+// row's least entry from 2 n.
 use hungarian::LEAST;
 use hungarian::RINF;
 use limits::NONE;
@@ -15,7 +15,7 @@ ghost use Rattle.hungarian_claim.specs.inner.Memory.{Ready};
 ghost use Rattle.hungarian_claim.specs.inner.Steps.{Cleared, Lowered, Minimal, Claimable, ClaimedRow};
 ghost use Rattle.hungarian_claim.specs.inner.Steps.{ClaimedRows};
 
-// No row has a cost, a column or an entry yet, and no column an entry.
+// No row has a cost, a column or an entry yet, and no column has an entry.
 fn clear(n: usize, u: &mut [f64], work: &mut [u32])
     requires { ⌜ Workspace n (now work) ⌝ ∗ ⌜ length (now u) ≡ n ⌝ }
     ensures { λ _. ⌜ Cleared n (now (u .exit)) (now (work .exit)) ⌝ }
@@ -29,22 +29,22 @@ fn clear(n: usize, u: &mut [f64], work: &mut [u32])
     }
 }
 
-// The smaller of two costs; of equal ones the first, since zeros have two signs.
+// The smaller of two costs; the first of equal ones, since a zero has two signs.
 fn lower(x: f64, y: f64) -> f64
     ensures { λ r. ⌜ r ≡ cond (le x y) x y ⌝ }
 {
     if x <= y { x } else { y }
 }
 
-// The first number where it is taken, else the second.
+// The first number if it is taken, else the second.
 fn picked(taken: bool, x: u32, y: u32) -> u32
     ensures { λ r. ⌜ r ≡ cond taken x y ⌝ }
 {
     if taken { x } else { y }
 }
 
-// Phase 1 at column j: of equal costs of a row the last counts. Every entry writes, what was there or what is taken:
-// which of the two it is cannot be foretold. `cost[k] <= lowest` is `cost[k] <= u[i]` before, in a form that compiles
+// Phase 1 at column j: of equal costs of a row the last counts. Every entry writes, either the old or the new value,
+// since which one is unpredictable. `cost[k] <= lowest` equals `cost[k] <= u[i]` before, in a form that compiles
 // without a branch.
 fn lower_column(
     n: usize,

@@ -1,6 +1,6 @@
--- Phase 3: an invariant for each of its three loops, in which the rest of the definition from where the loop stands is the whole. The laws take the
--- loops from one to the other, by the definition's steps and the regions that the stores change.
--- Inner steps stay countable: at most M in a search, M searches in a column.
+-- Phase 3: an invariant for each of its three loops, in which the rest of the definition from the loop's position is the whole. The laws take the
+-- loops from one to the other, by the definition's steps and the regions that the stores change. Inner steps stay countable: at most M in a search,
+-- M searches in a column.
 use mathlib.Core.Path.{_≡_, refl, sym, ap, _∙_}
 use mathlib.Core.Logic.{_≢_, _⊎_, inl, inr}
 use mathlib.Core.Bool.{true, false, not, _&&_, _||_}

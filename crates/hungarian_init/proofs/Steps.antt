@@ -1,4 +1,4 @@
--- The definition of phase 3 step by step, as the code goes: one place more of a scan, or its end, by the tests there.
+-- The definition of phase 3 step by step, as the code goes: one more place of a scan, or its end, by the tests there.
 use mathlib.Core.Path.{_≡_, refl}
 use mathlib.Core.Bool.{true, false, not, cond, _&&_, _||_}
 use mathlib.Core.List.{List}

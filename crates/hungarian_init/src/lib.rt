@@ -1,7 +1,7 @@
-// Phase 3 of the match, and the phases 1 to 3 together, the Rust's hungarian_init_heuristic, as the definition has
-// them. The work slice is cut into regions of n words (hungarian's Layout): each row's column from 0, each column's
-// entry from n, each row's least entry from 2 n, and the place from which phase 3 still searches a column from 3 n.
-// The second region of the doubles has phase 3's value of a column.
+// Phase 3 of the match, and phases 1 to 3 together: the Rust's hungarian_init_heuristic, as in the definition. The work
+// slice is cut into regions of n words (hungarian's Layout): each row's column from 0, each column's entry from n, each
+// row's least entry from 2 n, and the place from which phase 3 still searches a column from 3 n. The second region of
+// the doubles has phase 3's value of a column.
 use hungarian::Counts;
 use hungarian::FROM;
 use hungarian::HungarianStats;
@@ -28,7 +28,7 @@ fn prepare(n: usize, col_ptr: &[u32], work: &mut [u32], fwork: &mut [f64])
 }
 
 // Phase 3: each free column that is not empty takes the row of its best entry, if that is free; else a length-2 swap is
-// tried from that entry on, which leaves both scans at once.
+// tried from that entry on. A swap ends both scans.
 fn improve_assign(
     n: usize,
     col_ptr: &[u32],

@@ -1,4 +1,4 @@
--- The call's answers: a refusal leaves what it was lent, an accepted call leaves the match, of which the theorems of the match speak.
+-- The call's answers: a refusal leaves what was lent, an accepted call leaves the match, of which the theorems of the match speak.
 use mathlib.Core.Path.{_≡_, refl, sym, ap, _∙_, subst}
 use mathlib.Core.Logic.{_≢_}
 use mathlib.Core.Bool.{Bool, true}

@@ -40,7 +40,7 @@ matchLengths g s =
     && (eqb (length (s .v)) (g .pattern .n)
     && (eqb (length (s .work)) (12 * g .pattern .n + 1) && eqb (length (s .fwork)) (2 * g .pattern .n)))))
 
--- the first thing wrong, 0 where nothing is
+-- the first thing wrong, or 0
 abbrev pub matchFault : CostGraph → Slices → ℕ
 matchFault g s = graphFault g (matchLengths g s)
 
@@ -52,7 +52,7 @@ matchCounts m = record { matched = m .matched; stats = m .stats }
 abbrev pub countsOf : Counts → List ℕ
 countsOf m = m .matched ∷ countList (m .stats)
 
--- as many numbers as that
+-- the length of that list
 abbrev pub answerLength : ℕ
 answerLength = 8
 
@@ -62,7 +62,7 @@ abbrev pub numberOf : Answer → ℕ
 numberOf (Matched m) = accepted
 numberOf (Refused number) = number
 
--- what a list for the counts then holds: a match's, and what it held where there is none
+-- what a list for the counts then holds: the counts of a match, or what it held if there is none
 abbrev pub countsLeft : Answer → List ℕ → List ℕ
 countsLeft (Matched m) old = countsOf m
 countsLeft (Refused number) old = old
@@ -84,17 +84,17 @@ matchOutcome g s = refusing Refused (matchFault g s) (finished g s) s
 abbrev pub matchAfter : Counts → Slices → Matching
 matchAfter m s = record { perm = s .perm; u = s .u; v = s .v; matched = m .matched; stats = m .stats }
 
--- the number is the first fault's, and the counts of an accepted graph are its match's
+-- the number is that of the first fault, and the counts of an accepted graph are those of its match
 pub record Answered (g : CostGraph) (s : Slices) (answer : Answer) : Type 0 where
   pub number : numberOf answer ≡ matchFault g s
   pub values : numberOf answer ≡ accepted → (old : List ℕ)
       → countsLeft answer old ≡ countsOf (matchCounts (hungarianMatch g))
 
--- any accepted costs: perm's pairs are entries, and a largest matching, complete where there is a complete one
+-- for any accepted costs perm's pairs are entries and a largest matching, complete if the graph has a complete one
 abbrev pub Matches : CostGraph → Answer → Slices → Type 0
 Matches g answer after = (m : Counts) → answer ≡ Matched m → LargestMatch (g .pattern) (matchAfter m after)
 
--- demand 3, of what the call leaves: with whole costs also of least total, with duals that show it
+-- demand 3 for what the call leaves: with whole costs also least total, with duals that show it
 abbrev pub Promised : CostGraph → Answer → Slices → Type 0
 Promised g answer after = (m : Counts) → answer ≡ Matched m → WholeCosts g → Optimal g (matchAfter m after)
 
@@ -106,7 +106,7 @@ Counted g answer = (m : Counts) → answer ≡ Matched m → Work g (m .stats)
 pub record Promises (g : CostGraph) (before : Slices) (r : Answer) (after : Slices) : Type 0 where
   -- the answer and every slice left are the definition's
   pub outcome : outcomeIs r after ≡ matchOutcome g before
-  -- the number is the first fault's, and the counts of an accepted graph are its match's
+  -- the number is that of the first fault, and the counts of an accepted graph are those of its match
   pub answer : Answered g before r
   -- the pairs are entries and a largest matching, for any accepted costs
   pub matching : Matches g r after

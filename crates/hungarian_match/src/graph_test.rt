@@ -7,7 +7,7 @@ ghost use Rattle.limits.specs.Limits.{maxColumns};
 ghost use Rattle.hungarian.specs.Graph.{graphOf};
 ghost use Rattle.hungarian.specs.Test.{costFault, graphFault};
 
-// Refusal 8, or 0. There is no way out of the loop, so that it runs through several costs at a time.
+// Refusal 8, or 0. The loop has no early exit, so that it can test several costs at a time.
 fn cost_fault(n: u32, cost: &[f64]) -> u32
     requires { ⌜ n ≤ maxColumns ⌝ }
     ensures { λ r. ⌜ r ≡ costFault n (now (cost .entry)) ⌝ }

@@ -11,13 +11,13 @@ ghost use Rattle.hungarian_match.specs.Call.{slices, countsOf, answerLen
 mod finish;
 pub mod graph_test;
 
-// What `hungarian_match` answers: the counts of the match, or why there is none.
+// What `hungarian_match` answers: the counts of the match, or the refusal.
 pub enum Answer {
     Matched(Counts),
     Refused(u32),
 }
 
-// As many numbers as are answered: the matched count and the seven counts.
+// The length of the answer: the matched count and the seven counts.
 pub const ANSWER_LENGTH: usize = 8;
 
 // The matched count and the seven counts, in this order.
@@ -59,8 +59,8 @@ fn lengths_fit(
     graph & ((perm.len() == n) & ((u.len() == n) & ((v.len() == n) & room)))
 }
 
-// The pairs of phases 1 to 3 and of a search from each column that is then free. The searches use `perm` for the places
-// of rows in their heap and v for its keys.
+// The pairs of phases 1 to 3, and of a search from each column that is then still free. The searches use `perm` for the
+// places of rows in their heap and v for its keys.
 fn pair_up(
     n: usize,
     col_ptr: &[u32],
@@ -100,8 +100,7 @@ fn pair_up(
     )
 }
 
-// The match of a graph that is known to be accepted: the pairs, what is left of them in perm, u and v, and cleared
-// work.
+// The match of a graph that is known to be accepted: the pairs, then perm, u and v, and cleared work.
 pub fn solve(
     n: usize,
     col_ptr: &[u32],

@@ -1,5 +1,5 @@
--- The tree grows by a row: what `pop_nearest` and `scan` ask and promise makes the definition's `extend`, and what holds of the tree holds on, by the
--- theory's `extend-keeps`.
+-- The tree grows by a row: what `pop_nearest` and `scan` require and promise makes the definition's `extend`, and what holds of the tree still holds,
+-- by the theory's `extend-keeps`.
 use mathlib.Core.Path.{_≡_, refl, sym, ap, _∙_, subst}
 use mathlib.Core.Logic.{inr}
 use mathlib.Core.Bool.{Bool, true, false, cond, not, _||_, true≢false}

@@ -1,5 +1,5 @@
 -- A column is scanned: at every entry the tree is as the definition has it so far, which the theory's `edge-keeps` carries on; from it follows what
--- `edge` asks.
+-- `edge` requires.
 use mathlib.Core.Path.{_≡_, refl, sym, ap, _∙_, subst}
 use mathlib.Core.Logic.{_⊎_, inl, inr, ⊎-elim, _≢_}
 use mathlib.Core.Bool.{Bool, true, false, not}

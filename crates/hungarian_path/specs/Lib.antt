@@ -1,2 +1,2 @@
--- How a search stands in memory, and what each function of one search promises.
+-- How memory holds a search, and what each function of one search promises.
 pub mod inner

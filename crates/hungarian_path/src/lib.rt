@@ -1,7 +1,7 @@
 // One search of the match: its tree, from the root to the frontier, the pairs flipped along its path, and its arrays
 // before and after. These are regions of `work`, n words each (hungarian's Layout), and the distances d. The heap's
 // rows are the last n + 1 words of `work`, the places of rows are `pos`, and the distance of the row at each place is
-// in `keys`. A popped row has NONE for its place. What is left of a search's state goes from step to step by value.
+// in `keys`. A popped row has NONE for its place. The rest of a search's state is passed from step to step by value.
 use hungarian::HEAP;
 use hungarian::HungarianStats;
 use hungarian::OUT;
@@ -65,8 +65,8 @@ pub enum SearchEnd {
     NoPath,
 }
 
-// A search that has ended: with what, how many rows it touched and popped, the most that were in its heap at once, and
-// the counts.
+// A search that has ended: its result, how many rows it touched and popped, the most rows in its heap at once, and the
+// counts.
 pub struct Ending {
     pub end: SearchEnd,
     pub touched: usize,
@@ -82,7 +82,7 @@ fn least(a: f64, b: f64) -> f64
     if a < b { a } else { b }
 }
 
-// Row i, if it is new to the search, is noted as touched and gets the last place of the heap. A row that is not popped
+// If row i is new to the search, it is noted as touched and gets the last place of the heap. A row that is not popped
 // is new exactly if it has no place there.
 fn touch_row(n: usize, work: &mut [u32], pos: &mut [u32], frontier: Frontier, i: usize) -> Frontier
     requires { ⌜ TouchReady n (now work) (now pos) frontier i ⌝ }
@@ -134,8 +134,8 @@ fn relax(
     next
 }
 
-// Entry k of column j, by which row i is x away. Distances reject it first: an entry to a free row fails there only by
-// the best path's cost, since an untouched row is RINF away.
+// Entry k of column j, whose row i is at distance x. Distances are tested first: an entry to a free row fails there
+// only by the cost of the best path, since an untouched row is at RINF.
 fn edge(
     n: usize,
     work: &mut [u32],
@@ -173,7 +173,7 @@ fn edge(
     relax(n, work, pos, keys, d, frontier, i, x, j, k)
 }
 
-// How far the row of an entry is: cost minus u, from another column than the root with that column's offset v.
+// The distance of the row of an entry: cost minus u, plus the offset v of the column unless it is the root.
 fn entry_distance(root: bool, v: f64, c: f64, u: f64) -> f64
     ensures { λ r. ⌜ r ≡ entryDistance root v c u ⌝ }
 {
@@ -351,7 +351,7 @@ fn grow(
     search
 }
 
-// What a search ends with whose best path this is: none while its cost is RINF.
+// The result of a search whose best path this is: no path if its cost is RINF.
 fn ended(frontier: Frontier) -> SearchEnd
     ensures { λ r. ⌜ foundOf r ≡ cond (lt (frontier .csp) rinf) (path (frontier .csp) (frontier .isp) (frontier .jsp))
         noPath ⌝ }
@@ -421,7 +421,7 @@ pub fn search(
     }
 }
 
-// From column j back to the root each column gives its row to the one before it, in at most `most` steps.
+// From column j back to the root, each column gives its row to the one before it, in at most `most` steps.
 fn walk(n: usize, row_idx: &[u32], work: &mut [u32], j: usize, most: usize)
     requires { ⌜ WalkReady n (now «row_idx») (now work) j ⌝ }
     ensures { λ _. ⌜ Walks n (now («row_idx» .entry)) (now (work .entry)) (now (work .exit)) j most ⌝ }
@@ -453,7 +453,7 @@ pub fn flip(n: usize, row_idx: &[u32], work: &mut [u32], k: usize, j: usize, num
     walk(n, row_idx, work, j, num + 1);
 }
 
-// The touched rows, popped or not, are as they were before the search: unreached, unpopped and out of the heap.
+// Resets the touched rows, popped or not: unreached, not popped, not in the heap.
 pub fn reset(n: usize, work: &[u32], pos: &mut [u32], d: &mut [f64], touched: usize)
     requires { ⌜ ResetReady n (now work) (now pos) (now d) touched ⌝ }
     ensures { λ _. ⌜ Resets n (now (work .entry)) (now (pos .entry)) (now (pos .exit)) (now (d .entry)) (now (d .exit))
@@ -480,7 +480,7 @@ fn fill(w: &mut [u32], from: usize, to: usize, value: u32)
     }
 }
 
-// The arrays of a search, before the first.
+// The arrays of a search, before the first search.
 pub fn prepare(n: usize, work: &mut [u32], pos: &mut [u32], d: &mut [f64])
     requires { ⌜ length (now work) ≡ 12 * n + 1 ⌝
         ∗ ⌜ length (now pos) ≡ n ⌝

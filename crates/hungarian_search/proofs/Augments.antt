@@ -1,5 +1,5 @@
--- A column's turn: the search's tree, its answer followed and the arrays made clean are the definition's `settle`. What the three ask comes from what
--- the theory says of the tree.
+-- A column's turn: the search's tree, its answer followed and the arrays made clean are the definition's `settle`. What the three require comes from
+-- what the theory says of the tree.
 use mathlib.Core.Path.{_≡_, refl, sym, ap, _∙_, subst}
 use mathlib.Core.Logic.{_⊎_, inl, inr}
 use mathlib.Core.Bool.{Bool, true, false, cond, not, true≢false}

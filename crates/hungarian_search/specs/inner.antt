@@ -1,2 +1,2 @@
--- What the inner functions ask and promise each other: it serves the proofs alone.
+-- What the inner functions require and promise; only proofs use it.
 pub mod Steps

@@ -1,5 +1,5 @@
 // The shortest-path searches of the match, one from each free column: what the answer of one (hungarian_path) does to
-// the pairs and the duals, and the turns of all columns. `work`, `pos`, `keys` and d are as hungarian_path has them.
+// the pairs and the duals, and the turns of all columns. `work`, `pos`, `keys` and d are as in hungarian_path.
 use hungarian::Counts;
 use hungarian::HungarianStats;
 use hungarian::POPPED;
@@ -15,7 +15,7 @@ ghost use Rattle.hungarian_path.specs.inner.Views.{pairsOf};
 ghost use Rattle.hungarian_path.specs.inner.StepsSearch.{foundOf, SearchReady};
 ghost use Rattle.hungarian_search.specs.inner.Steps.{ApplyReady, Applies, Augments, Standing, Started, Searched};
 
-// The duals of the popped rows follow the path's cost.
+// The duals of the popped rows gain their distance minus the path's cost.
 fn raise(n: usize, u: &mut [f64], work: &[u32], d: &[f64], popped: usize, csp: f64)
     requires { ⌜ length (now work) ≡ 12 * n + 1 ⌝
         ∗ ⌜ popped ≤ n ⌝
@@ -32,8 +32,8 @@ fn raise(n: usize, u: &mut [f64], work: &[u32], d: &[f64], popped: usize, csp: f
     }
 }
 
-// With a path the pairs are flipped along it and the popped rows' duals follow; without one both stay. The answer is
-// the number of pairs.
+// With a path the pairs are flipped along it and the duals of popped rows are raised; without one both stay. The answer
+// is the number of pairs.
 fn apply_path(
     n: usize,
     row_idx: &[u32],

@@ -1,5 +1,5 @@
 -- Laws of the heap that other crates cite: Rows (inverse arrays, which rows are in it), Order (heap order, the top is least), Keys (the keys beside
--- its places), Marks (what stands for rows that are not in it).
+-- its places), Marks (what `pos` has for rows that are not in it).
 pub mod Keys
 pub mod Steps
 pub mod Marks

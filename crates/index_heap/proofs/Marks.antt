@@ -1,5 +1,5 @@
--- Rows that are not in the heap: whatever stands for them in `pos` stays through a step (`update-others`, `pop-others`). And a step may be taken
--- before or after a function of the places that leaves 1 to m alone (`update-mapped`, `pop-mapped`), so that marks may stand there.
+-- Rows that are not in the heap: whatever `pos` has for them stays through a step (`update-others`, `pop-others`). And a step may be taken
+-- before or after a function of the places that leaves 1 to m alone (`update-mapped`, `pop-mapped`), so that marks may be there.
 use mathlib.Core.Path.{_≡_, refl, sym, ap, _∙_}
 use mathlib.Core.Logic.{_≢_, inl, inr}
 use mathlib.Core.List.{List, [], _∷_, map}

@@ -1,6 +1,6 @@
--- The loops of the code are the definition's steps: the rest of the definition from where a loop stands is the whole from the start.
--- A record says so for each of the two loops, with laws for its start, a turn and its end. How many steps the definition has left is not fixed, only
--- that they are enough.
+-- The loops of the code are the definition's steps: the rest of the definition from a loop's position is the whole from the start. A record says so
+-- for each of the two loops, with laws for its start, a turn and its end. How many steps the definition has left is not fixed, only that they are
+-- enough.
 use mathlib.Core.Path.{_≡_, refl, sym, ap, _∙_}
 use mathlib.Core.Logic.{_⊎_, inl, inr}
 use mathlib.Core.List.{List}

@@ -31,7 +31,7 @@ setRow h p i = record { heap = set (h .heap) p i; pos = set (h .pos) i p; len = 
 unfoldable pub setPlace : Heap → ℕ → ℕ → ℕ → Heap
 setPlace h i x len = record { heap = h .heap; pos = set (h .pos) i x; len = len }
 
--- Row i moves up from place p: parents with a larger key move down, and it stops at a parent that is smaller or equal.
+-- Row i moves up from place p: parents with a larger key move down; it stops below a parent that is smaller or equal.
 -- The first argument bounds the steps; p of them are enough.
 unfoldable pub siftUp : ℕ → List Float → ℕ → Heap → ℕ → Heap
 unfolding setRow
@@ -51,7 +51,7 @@ unfoldable pub insert : List Float → ℕ → Heap → Heap
 unfolding setPlace update
 insert d i h = update d i (setPlace h i (h .len + 1) (h .len + 1))
 
--- of two neighbours, with keys x and y, the left one unless the right one is in the heap and has a smaller key
+-- the left of two neighbours, with keys x and y, unless the right one is in the heap and has a smaller key
 unfoldable pub chosen : (left len : ℕ) → (x y : Float) → ℕ
 chosen left len x y = cond (ltb left len && lt y x) (left + 1) left
 

@@ -1,3 +1,3 @@
--- What the inner functions ask and promise each other: it serves the proofs alone.
+-- What the inner functions require and promise; only proofs use it.
 pub mod Invariant
 pub mod Slices

@@ -34,7 +34,7 @@ fn sift_up(heap: &mut [u32], pos: &mut [u32], keys: &mut [f64], i: usize, x: f64
     keys[p - 1] = x;
 }
 
-// The key of row i, which has a place, is x from now on: it was lowered, or the row is new and has the place after the
+// Sets the key of row i, which has a place, to x: the key was lowered, or the row is new and has the place after the
 // last.
 pub fn update(heap: &mut [u32], pos: &mut [u32], keys: &mut [f64], i: usize, x: f64)
     requires { ⌜ Ready (length (now pos)) (now heap) (now pos) (now keys) ⌝
@@ -48,8 +48,8 @@ pub fn update(heap: &mut [u32], pos: &mut [u32], keys: &mut [f64], i: usize, x: 
     sift_up(heap, pos, keys, i, x, place);
 }
 
-// Of two neighbours with keys x and y the left one, unless the right one is in the heap and has a smaller key.
-// A sum, not a branch: which of the two it is cannot be foretold.
+// The left of two neighbours with keys x and y, unless the right one is in the heap and has a smaller key. A sum, not a
+// branch, since which one is unpredictable.
 fn chosen(left: usize, len: usize, x: f64, y: f64) -> usize
     requires { ⌜ left < 2 ^ 32 ⌝ }
     ensures { λ r. ⌜ r ≡ chosen left len x y ⌝ }
@@ -57,7 +57,7 @@ fn chosen(left: usize, len: usize, x: f64, y: f64) -> usize
     left + ((left < len) & (x > y)) as usize
 }
 
-// Row i, whose key is x, moves down from place 1, in a heap of len rows. The key after the last is read too, and not
+// Row i, whose key is x, moves down from place 1, in a heap of len rows. The key after the last is read too, but not
 // used.
 fn sift_down(heap: &mut [u32], pos: &mut [u32], keys: &mut [f64], len: usize, i: usize, x: f64)
     requires { ⌜ Ready (length (now pos)) (now heap) (now pos) (now keys) ⌝

@@ -1,4 +1,4 @@
--- The calls: what the tests leave is what the steps ask for, and an answer with what is left is the definition's outcome.
+-- The calls: the tests establish what the steps require, and an answer with what is left is the definition's outcome.
 use mathlib.Core.Path.{_≡_, refl, ap, ap₂, _∙_}
 use mathlib.Core.Bool.{Bool, true, _&&_}
 use mathlib.Core.List.{List, map}

@@ -14,7 +14,7 @@ use Rattle.sparse.specs.Matrix.{Matrix}
 use Rattle.infnorm_factors.specs.Maxima.{larger, rowMaxima}
 
 -- ---- the size of an entry
--- iterated: of a value between its row's factor and its column's; a zero of either sign raises no maximum
+-- iterated: a value times its row's factor and its column's; a zero of either sign raises no maximum
 unfoldable pub scaledSize : Float → Float → Float → Float
 unfolding sizeOf
 scaledSize di value dj = sizeOf (mul binary64 (mul binary64 di value) dj)
@@ -27,12 +27,12 @@ abbrev pub ownSizes : List Float → ℕ → ℕ → Float
 ownSizes values j k = sizeOf (getD values k nan)
 
 -- ---- the factor of a row
--- the double that is the root; a maximum above 0 is never refused one (`root-is`)
+-- the root as a double; a maximum above 0 always has one (`root-is`)
 unfoldable pub root : Float → Float
 unfolding sqrtOf
 root x = valueOf (sqrtOf x)
 
--- a new factor that is not finite or not positive is not taken
+-- a new factor counts only if it is finite and positive
 unfoldable pub guarded : Float → Float → Float
 guarded new old = cond (finite new && lt Constants.zero new) new old
 
@@ -56,7 +56,7 @@ invSqrtScaleGuarded m =
 abbrev pub deviation : Float → Float
 deviation m = absolute (sub binary64 m Constants.one)
 
--- the largest deviation with one row more; a row whose maximum is 0 counts none
+-- the largest deviation with one more row; a row whose maximum is 0 has none
 unfoldable pub deviating : Float → Float → Float
 deviating largest m = cond (lt Constants.zero m) (larger largest (deviation m)) largest
 

@@ -1,6 +1,6 @@
 -- SPECIFICATION 8.1: The largest size in each row of a symmetric matrix whose lower triangle is stored by columns. A
 -- walk over the columns and their entries in stored order raises the maximum of the entry's row and, for its mirror, of
--- its column. What the size of an entry is, each kind of factor says for itself.
+-- its column. Each kind of factor defines the size of an entry.
 use mathlib.Core.Bool.{cond}
 use mathlib.Core.List.{List}
 use Prim.Native.Nat.{ℕ, zero, suc, _-_}

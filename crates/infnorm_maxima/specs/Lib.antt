@@ -1,2 +1,2 @@
--- What the walks over the entries ask for.
+-- What the walks over the entries require.
 pub mod inner

@@ -7,8 +7,8 @@ ghost use Rattle.infnorm_factors.specs.Maxima as Maxima;
 ghost use Rattle.infnorm_factors.specs.Factors as Factors;
 ghost use Rattle.infnorm_maxima.specs.inner.Steps.{Accepted, Stretch};
 
-// The entries of column j. Its own maximum is kept apart: what an entry on the diagonal stores there is replaced at the
-// end by the same.
+// The entries of column j. Its own maximum is kept in a local: at the end it replaces what an entry on the diagonal
+// stored there, which is the same.
 fn scan_column(
     j: usize,
     from: usize,

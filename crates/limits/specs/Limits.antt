@@ -1,7 +1,7 @@
--- The limits of a call, and what stands for none: SPECIFICATION 3.
+-- SPECIFICATION 3: the limits of a call, and the number for none.
 use Prim.Native.Nat.{ℕ}
 
--- what stands for no row, no column and no entry: the Rust's usize::MAX
+-- the number for no row, no column and no entry: the Rust's usize::MAX
 abbrev pub none : ℕ
 none = 4294967295
 

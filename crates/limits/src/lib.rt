@@ -1,4 +1,4 @@
-// The limits of a call, and what stands for none (SPECIFICATION 3).
+// The limits of a call, and the number for none (SPECIFICATION 3).
 
 // No row, column or entry.
 pub const NONE: u32 = 4294967295;

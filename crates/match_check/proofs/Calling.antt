@@ -1,4 +1,4 @@
--- The call: what the tests leave is what the next ones ask for, each answer is the first fault's, and what is answered keeps the contract's clauses.
+-- The call: the tests establish what the next ones require, each answer is the first fault's, and what is answered keeps the contract's clauses.
 use mathlib.Core.Path.{_≡_, refl, sym, ap, _∙_, subst}
 use mathlib.Core.Logic.{_≢_}
 use mathlib.Core.Bool.{Bool, true, false, _&&_}

@@ -1,4 +1,4 @@
--- The loops over columns: where a column's entries stand, and what the column's own test is worth among all.
+-- The loops over columns: where a column's entries are, and how the column's own test counts among all.
 use mathlib.Core.Path.{_≡_, sym, ap, _∙_}
 use mathlib.Core.Bool.{Bool}
 use mathlib.Core.List.{List}

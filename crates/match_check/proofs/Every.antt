@@ -1,4 +1,4 @@
--- Loops that test: what the test is worth after k places, whether or not one failed. By one turn of the definition.
+-- Loops that test: the result of the test over k places, whether or not one failed. By one turn of the definition.
 use mathlib.Core.Path.{_≡_, refl, sym, ap, _∙_, subst}
 use mathlib.Core.Bool.{Bool, true, false, _&&_, _||_}
 use Prim.Native.Nat.{ℕ, zero, suc, _+_, _-_, _≤_, _<_}

@@ -1,4 +1,4 @@
--- What the test of the pairs means: it passes exactly where the pairs (perm j, j) are a complete matching. No row comes twice, so entries of one row
+-- What the test of the pairs means: it passes exactly if the pairs (perm j, j) are a complete matching. No row occurs twice, so entries of one row
 -- are of one column; each column is sent to its entry, so there are n. And n entries in n columns leave no column out.
 use mathlib.Core.Path.{_≡_, refl, sym, ap, _∙_, subst}
 use mathlib.Core.Bool.{Bool, true, false, not, _&&_, _||_}

@@ -67,11 +67,11 @@ pub record Certified (g : CostGraph) (s : Claim) : Type 0 where
       → wholeOf (rowDual s (rowOf (g .pattern) k)) +ℤ wholeOf (columnDual s (columnOf (g .pattern) k))
       ≡ wholeOf (costOf g k)
 
--- accepted exactly then
+-- accepted exactly if this holds
 abbrev pub Exactly : CostGraph → Claim → ℕ → Type 0
 Exactly g s number = (number ≡ accepted) ↔ Certified g s
 
--- accepted means: a complete matching, and no complete matching costs less
+-- an accepted claim is a complete matching, and no complete matching costs less
 abbrev pub Least : CostGraph → Claim → ℕ → Type 0
 Least g s number = number ≡ accepted → LeastTotal (bipartite (g .pattern)) (amount g) (pairs (g .pattern) s)
 

@@ -1,5 +1,5 @@
--- SPECIFICATION 5.15: What is wrong with a pairing and its duals, whoever made them, as a match of a graph. The graph's
--- own tests come first, with 8 also for a cost that is not whole; then, each over the whole pairing, 30 (the pairs), 31
+-- SPECIFICATION 5.15: The faults of a pairing and its duals, whoever made them, as a match of a graph. The graph's own
+-- tests come first, with 8 also for a cost that is not whole; then, each over the whole pairing, 30 (the pairs), 31
 -- (the duals and their sums), 32 (the pairs' sums).
 use mathlib.Core.Bool.{Bool, true, false, not, _&&_, _||_}
 use mathlib.Core.List.{List}
@@ -62,22 +62,22 @@ unfolding isWhole
 wholeCosts cost = everyOf (length cost) (λ k. isWhole (getD cost k nan)) 0
 
 -- ---- 30
--- each row is one of the graph's
+-- each row is below n
 unfoldable pub rowsBelow : ℕ → List ℕ → Bool
 rowsBelow n perm = everyOf n (λ j. ltb (getD perm j 0) n) 0
 
--- one of the columns before j has row i
+-- a column before j has row i
 abbrev pub takenBefore : List ℕ → ℕ → ℕ → Bool
 takenBefore perm j i = someOf j (λ c. eqb (getD perm c 0) i) 0
 
--- no row comes twice
+-- no row occurs twice
 abbrev pub rowFresh : List ℕ → ℕ → Bool
 rowFresh perm j = not (takenBefore perm j (getD perm j 0))
 
 unfoldable pub rowsOnce : ℕ → List ℕ → Bool
 rowsOnce n perm = everyOf n (rowFresh perm) 0
 
--- one of the entries from `from` up to `to` is of row i
+-- one of the entries from `from` up to `to` is in row i
 abbrev pub hasRow : List ℕ → ℕ → ℕ → ℕ → Bool
 hasRow rowIdx i from to = someOf (to - from) (λ k. eqb (getD rowIdx k 0) i) from
 
@@ -102,7 +102,7 @@ unfoldable pub smallWholes : List Float → Bool
 unfolding smallWhole
 smallWholes l = everyOf (length l) (λ i. smallWhole (getD l i nan)) 0
 
--- entry k of column j: the sum of the two duals is at most the cost. Of duals that fit, the doubles' sum is exact
+-- entry k of column j: the sum of the two duals is at most the cost. For duals that fit, the sum of doubles is exact
 abbrev pub sumBelow : CostGraph → Claim → ℕ → ℕ → Bool
 sumBelow g s j k = le (add binary64 (rowDual s (rowOf (g .pattern) k)) (columnDual s j)) (costOf g k)
 
@@ -138,7 +138,7 @@ claimFault g s =
     orElse (unless (pairingFits (g .pattern) (s .perm)) incompleteMatching)
     (orElse (unless (dualsHold g s) infeasibleDuals) (unless (sumsReached g s) loosePair))
 
--- the first thing wrong, 0 where nothing is
+-- the first thing wrong, or 0
 unfoldable pub checkFault : CostGraph → Claim → ℕ
 unfolding checkLengths wholeCosts claimFault
 checkFault g s =

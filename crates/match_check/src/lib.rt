@@ -1,5 +1,5 @@
-// The check of a match that others made: a pairing with whole duals against its graph, without a search. Each test runs
-// through its slices without a way out.
+// The check of a match that others made: a pairing with whole duals against its graph, without a search. The loops of
+// the tests have no early exit.
 use hungarian_match::graph_test;
 ghost use mathlib.Core.Path.{_≡_};
 ghost use mathlib.Core.Bool.{not, _||_};
@@ -16,7 +16,7 @@ ghost use Rattle.match_check.specs.Check.{checkLengths, claimFault};
 ghost use Rattle.match_check.specs.Call.{Promises};
 ghost use Rattle.match_check.specs.inner.Steps.{AcceptedPattern, Stretch, Checkable};
 
-// What `check_match` answers: nothing is wrong, or why it refuses.
+// What `check_match` answers: accepted, or the refusal.
 pub enum Verdict {
     Accepted,
     Refused(u32),
@@ -25,7 +25,7 @@ pub enum Verdict {
 // 2^50, the largest size of a dual.
 const DUAL_LIMIT: f64 = 1125899906842624.0;
 
-// 3 · 2^51: a sum with it has no digit for a fraction.
+// 3 · 2^51: a sum with it has no digits left for a fraction.
 const SHIFT: f64 = 6755399441055744.0;
 
 // Whether every slice has its length.
@@ -55,7 +55,7 @@ fn small_whole(x: f64) -> bool
     ((x >= -DUAL_LIMIT) & (x <= DUAL_LIMIT)) & ((x + SHIFT) - SHIFT == x)
 }
 
-// Whether each of them is.
+// Whether each dual is whole and at most 2^50 in size.
 fn small_wholes(list: &[f64]) -> bool
     ensures { λ r. ⌜ r ≡ smallWholes (now (list .entry)) ⌝ }
 {
@@ -66,7 +66,7 @@ fn small_wholes(list: &[f64]) -> bool
     fine
 }
 
-// Whether each row is one of the graph's.
+// Whether each row is below n.
 fn rows_below(n: u32, perm: &[u32]) -> bool
     requires { ⌜ length (now perm) ≡ n ⌝ }
     ensures { λ r. ⌜ r ≡ rowsBelow n (now (perm .entry)) ⌝ }
@@ -78,7 +78,7 @@ fn rows_below(n: u32, perm: &[u32]) -> bool
     fine
 }
 
-// Whether no row comes twice. Those seen are marked.
+// Whether no row occurs twice. Rows seen are marked.
 fn rows_once(perm: &[u32], seen: &mut [u8]) -> bool
     requires { ⌜ T (rowsBelow (length (now perm)) (now perm)) ⌝ }
     requires { ⌜ (length (now perm) ≤ maxColumns) × (now seen ≡ replicate maxColumns 0) ⌝ }
@@ -93,7 +93,7 @@ fn rows_once(perm: &[u32], seen: &mut [u8]) -> bool
     fine
 }
 
-// Whether one of the entries is of this row.
+// Whether one of the entries is in this row.
 pub fn has_row(row: u32, row_idx: &[u32], from: usize, to: usize) -> bool
     requires { ⌜ (from ≤ to) × (to ≤ length (now «row_idx»)) ⌝ }
     ensures { λ r. ⌜ r ≡ hasRow (now («row_idx» .entry)) row from to ⌝ }
@@ -252,7 +252,7 @@ fn duals_hold(
     rows & (columns & sums_below(n, col_ptr, row_idx, cost, perm, u, v))
 }
 
-// 30, 31 or 32, or 0: what is wrong with a claim on an accepted graph.
+// 30, 31, 32 or 0: the first fault of a claim on an accepted graph.
 fn claim_fault(
     n: u32,
     col_ptr: &[u32],

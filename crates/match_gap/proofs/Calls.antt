@@ -1,4 +1,4 @@
--- The call: what it has tested is what the sum asks for, and what it answers keeps the contract's clauses.
+-- The call: its tests establish what the sum requires, and what it answers keeps the contract's clauses.
 use mathlib.Core.Path.{_≡_, refl, sym, ap, _∙_, subst}
 use mathlib.Core.Logic.{_≢_}
 use mathlib.Core.Bool.{true}

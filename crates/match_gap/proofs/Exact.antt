@@ -1,5 +1,5 @@
 -- Whole numbers have no gap: a whole number's size is a multiple of a step, so nothing is rounded, and what `check_match` accepts has sums that
--- neither exceed a cost nor lack of a pair's. By places of the parts of integers.
+-- neither exceed a cost nor fall short of a pair's. By places of the parts of integers.
 use mathlib.Core.Path.{_≡_, refl, sym, ap, ap₂, _∙_, subst}
 use mathlib.Core.Bool.{Bool, true, false, cond}
 use Prim.Native.Nat.{ℕ, zero, suc, _+_, _-_, _*_, _^_, _≤_, _<_}

@@ -1,4 +1,4 @@
--- The call's tests one after the other: each answer is the first fault's number, and what passes is what the next functions ask for.
+-- The call's tests one after the other: each answer is the first fault's number, and what passes is what the next functions require.
 use mathlib.Core.Path.{_≡_, refl, sym, ap, _∙_, subst}
 use mathlib.Core.Logic.{_≢_}
 use mathlib.Core.Bool.{Bool, true, false, _&&_}

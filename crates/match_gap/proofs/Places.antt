@@ -1,7 +1,7 @@
 -- A double's place, in units: its rounded places are steps below and above it. By the two roundings and the cases of the sign.
 use mathlib.Core.Path.{_≡_, refl, _∙_}
 use mathlib.Core.Bool.{Bool, true, false, cond}
-use Prim.Native.Nat.{ℕ, _+_, _-_, _*_, _^_, _≤_, _<_}
+use Prim.Native.Nat.{ℕ, _+_, _-_, _*_, _≤_, _<_}
 use native.Mathlib.Nat.{mul-comm, add-mul, mul-sub, div-mul-le-self, lt-div-mul-add}
 use native.Mathlib.Omega.{arith}
 use lib.Ieee.{Float}
@@ -9,7 +9,6 @@ use Rattle.float64.specs.Number.{Number, negative, origin, magnitude}
 use Rattle.float64.specs.inner.Keys.{place, position}
 use Rattle.float64.proofs.Scale.{mag-lt}
 use Rattle.match_gap.specs.Rounding.{zeroStep, floorIn, ceilingIn, placeBelow, placeAbove, lower, upper}
-use Rattle.match_gap.proofs.Shifts.{floor-most, ceiling-most}
 
 -- the exact place of a number of this sign and size, in units
 pub placed : ℕ → Bool → ℕ → ℕ
@@ -49,23 +48,6 @@ module _ (s : ℕ) (p : 0 < s) where
   upper-above x h = above-placed (negative x) (magnitude x) h
 
   -- both are at most 2 ^ 50
-  low-most : (sign : Bool) (a : ℕ) → a ≤ zeroStep * s → placeBelow s sign a ≤ 2 ^ 50
-  unfolding placeBelow
-  low-most true a h = omega arith
-  low-most false a h = omega (arith, floor-most s a p h)
-
-  high-most : (sign : Bool) (a : ℕ) → a ≤ zeroStep * s → placeAbove s sign a ≤ 2 ^ 50
-  unfolding placeAbove
-  high-most true a h = omega arith
-  high-most false a h = omega (arith, ceiling-most s a p h)
-
-  pub lower-most : (x : Float) → magnitude x ≤ zeroStep * s → lower s x ≤ 2 ^ 50
-  unfolding lower
-  lower-most x h = low-most (negative x) (magnitude x) h
-
-  pub upper-most : (x : Float) → magnitude x ≤ zeroStep * s → upper s x ≤ 2 ^ 50
-  unfolding upper
-  upper-most x h = high-most (negative x) (magnitude x) h
 
 -- a number that is not below zero lies its size above the place of zero
 pub not-below : (s : ℕ) (x : Float) → Number x → origin ≤ position x → unitsAt s x ≡ zeroStep * s + magnitude x

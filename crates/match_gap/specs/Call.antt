@@ -1,5 +1,5 @@
 -- SPECIFICATION 5.17: What `match_gap` answers and leaves, and what a caller may rely on: the total of the pairs is at
--- most that of every complete matching and `gap` steps more, of exact numbers.
+-- most that of every complete matching plus `gap` steps, in exact numbers.
 use mathlib.Core.Path.{_≡_}
 use mathlib.Core.Bool.{Bool}
 use mathlib.Core.List.{List, [], _∷_}
@@ -56,7 +56,7 @@ pub record Promises (digits : ℕ) (g : CostGraph) (c : Claim) (before : List �
   pub outcome : outcomeIs r after ≡ gapOutcome digits g c before
   -- the number is one of the call's list
   pub number : OneOf gapNumbers (numberOf r)
-  -- the total of the pairs is at most that of every complete matching and the gap
+  -- the total of the pairs is at most that of every complete matching plus the gap
   pub near : Near digits g c (numberOf r) after
   -- what `check_match` accepts has no gap
   pub none : NoGap g c (numberOf r) after

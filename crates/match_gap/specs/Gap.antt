@@ -1,5 +1,5 @@
--- The gap of a pairing with duals, whoever made them, and what is wrong with it: SPECIFICATION 5.17. The natural
--- numbers' difference is 0 where it would be negative.
+-- The gap of a pairing with duals, whoever made them, and its faults: SPECIFICATION 5.17. The difference of natural
+-- numbers is 0 if it would be negative.
 use mathlib.Core.Bool.{Bool, cond, _&&_}
 use mathlib.Core.List.{List}
 use Prim.Native.Nat.{ℕ, zero, suc, _+_, _-_}
@@ -22,7 +22,7 @@ abbrev pub excessAt : ℕ → CostGraph → Claim → ℕ → ℕ → ℕ
 excessAt s g c j k =
     upper s (rowDual c (rowOf (g .pattern) k)) + upper s (columnDual c j) - (lower s (costOf g k) + zeroStep)
 
--- how much it can lack of its cost, if it is the column's pair
+-- how far it can be below its cost, if it is the column's pair
 abbrev pub lackAt : ℕ → CostGraph → Claim → ℕ → ℕ → ℕ
 lackAt s g c j k =
     cond (eqb (rowOf (g .pattern) k) (rowFor c j))
@@ -48,11 +48,11 @@ unfolding mostOf
 gapOf s g c = sumTo (g .pattern .n) (λ j. columnExcess s g c j + columnLack s g c j)
 
 -- ---- what is wrong
--- the digits that a step may have behind the point
+-- the most digits of a step
 abbrev pub maxDigits : ℕ
 maxDigits = 50
 
--- each number of a list has few enough steps
+-- no number of the list has too many steps
 unfoldable pub allInSteps : ℕ → List Float → Bool
 unfolding inSteps
 allInSteps s l = everyOf (length l) (λ i. inSteps s (getD l i nan)) 0
@@ -69,7 +69,7 @@ pairsFault s g c =
     orElse (unless (pairingFits g (c .perm)) incompleteMatching)
     (unless (allInSteps s (c .u) && allInSteps s (c .v)) infeasibleDuals)
 
--- the first thing wrong, 0 where nothing is
+-- the first thing wrong, or 0
 unfoldable pub gapFault : ℕ → CostGraph → Claim → List ℕ → ℕ
 unfolding gapLengths allInSteps pairsFault step
 gapFault digits g c gap =

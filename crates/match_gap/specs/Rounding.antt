@@ -1,5 +1,5 @@
 -- SPECIFICATION 5.17: Finite doubles in whole steps of 2 ^ -digits, rounded down and up. A number's place is a natural
--- number: zero is at `zeroStep`, and a step is 1. Nothing here rounds but `floorIn` and `ceilingIn`.
+-- number: zero is at `zeroStep`, and a step is 1. Only `floorIn` and `ceilingIn` round.
 use mathlib.Core.Bool.{Bool, cond, _&&_}
 use Prim.Native.Nat.{ℕ, _+_, _-_, _*_, _/_, _^_}
 use lib.Dec.{leb}
@@ -7,7 +7,7 @@ use lib.Ieee.{Float}
 use lib.Ieee.Scale.{finite}
 use Rattle.float64.specs.Number.{negative, magnitude}
 
--- SPECIFICATION 5.17: no number has more steps, and the place of zero
+-- SPECIFICATION 5.17: the most steps of a number, and the place of zero
 abbrev pub zeroStep : ℕ
 zeroStep = 2 ^ 49
 

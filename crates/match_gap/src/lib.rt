@@ -1,5 +1,5 @@
-// How far a complete matching can be from least total, whoever made it, for any costs: the sum over the columns of what
-// the duals exceed a cost, and of what they lack of the pair's, in whole steps of 2 ^ -digits. Integers alone.
+// How far a complete matching can be from the least total, whoever made it, for any costs: the sum over the columns of
+// the excess of the duals over a cost and of their lack on the pair, in whole steps of 2 ^ -digits. Integers only.
 use hungarian::larger;
 use hungarian_match::graph_test;
 use match_check::lengths_fit;
@@ -21,7 +21,7 @@ ghost use Rattle.match_gap.specs.Call.{Promises};
 ghost use Rattle.match_gap.specs.inner.Scans.{digitsOf, scaleOf, Measured, Shifted, InSteps, StepLimit};
 ghost use Rattle.match_gap.specs.inner.Scans.{Scannable, Scanned, Measurable};
 
-// What `match_gap` answers: the slice has the gap, or why it refuses.
+// What `match_gap` answers: the slice has the gap, or the refusal.
 pub enum Gap {
     Found,
     Refused(u32),
@@ -36,7 +36,7 @@ struct Column {
 // The place of zero, and the most steps that a number may have.
 const ORIGIN: u64 = 0x2_0000_0000_0000;
 
-// 2 ^ 52, the first pattern of a normal number, and what its digits leave out.
+// 2 ^ 52, the bits of the smallest normal number, and the digit that its fraction leaves out.
 const NORMAL: u64 = 0x10_0000_0000_0000;
 
 // The bit of the sign.
@@ -61,7 +61,7 @@ fn scale_of(bits: u64) -> u64
     if bits < NORMAL { 0 } else { bits / NORMAL - 1 }
 }
 
-// How far the digits lie from a step of 2 ^ unit units; 60 where none of them reaches it.
+// The shift from the digits to a step of 2 ^ unit units; 60 if no digit reaches it.
 fn shift_of(bits: u64, unit: u64) -> u64
     requires { ⌜ Measured bits unit ⌝ }
     ensures { λ r. ⌜ Shifted bits unit r ⌝ }
@@ -114,14 +114,14 @@ fn upper_place(x: f64, unit: u64) -> u64
     }
 }
 
-// How far a is above b, 0 where it is not.
+// How far a is above b; 0 if it is not.
 fn above(a: u64, b: u64) -> u64
     ensures { λ r. ⌜ r ≡ a - b ⌝ }
 {
     if a > b { a - b } else { 0 }
 }
 
-// What the sum of the duals of an entry exceeds its cost; `high` is the place of the column's dual, rounded up.
+// How far the sum of the duals of an entry exceeds its cost; `high` is the place of the column's dual, rounded up.
 fn excess_of(dual: f64, cost: f64, high: u64, unit: u64) -> u64
     requires { ⌜ InSteps unit dual ⌝ ∗ ⌜ InSteps unit cost ⌝ }
     requires { ⌜ (unit ≤ 1074) × (high ≤ 2 ^ 50) ⌝ }
@@ -133,7 +133,7 @@ fn excess_of(dual: f64, cost: f64, high: u64, unit: u64) -> u64
     )
 }
 
-// What it lacks of the cost; `low` is the place of the column's dual, rounded down.
+// How far it is below the cost; `low` is the place of the column's dual, rounded down.
 fn lack_of(dual: f64, cost: f64, low: u64, unit: u64) -> u64
     requires { ⌜ InSteps unit dual ⌝ ∗ ⌜ InSteps unit cost ⌝ }
     requires { ⌜ (unit ≤ 1074) × (low ≤ 2 ^ 50) ⌝ }
@@ -145,7 +145,7 @@ fn lack_of(dual: f64, cost: f64, low: u64, unit: u64) -> u64
     )
 }
 
-// The same of an entry that is its column's pair, 0 of any other.
+// The same for an entry that is its column's pair, 0 for any other.
 fn pair_lack(paired: bool, dual: f64, cost: f64, low: u64, unit: u64) -> u64
     requires { ⌜ InSteps unit dual ⌝ ∗ ⌜ InSteps unit cost ⌝ }
     requires { ⌜ (unit ≤ 1074) × (low ≤ 2 ^ 50) ⌝ }
@@ -159,7 +159,7 @@ fn pair_lack(paired: bool, dual: f64, cost: f64, low: u64, unit: u64) -> u64
     }
 }
 
-// The entries of a column: the most that a sum of duals exceeds its cost, and what the pair's sum lacks.
+// The entries of a column: the most by which a sum of duals exceeds its cost, and the lack of the pair's sum.
 fn scan_column(
     row: u32,
     row_idx: &[u32],
@@ -219,7 +219,7 @@ fn sum_columns(
     gap
 }
 
-// The largest number that has few enough steps.
+// The largest number that does not have too many steps.
 fn step_limit(digits: u32) -> f64
     requires { ⌜ digits ≤ 50 ⌝ }
     ensures { λ r. ⌜ StepLimit digits r ⌝ }
@@ -227,7 +227,7 @@ fn step_limit(digits: u32) -> f64
     f64::from_bits(((1072 - digits) as u64) << 52)
 }
 
-// Whether each number has few enough steps.
+// Whether no number has too many steps.
 fn all_in_steps(list: &[f64], limit: f64, digits: u32) -> bool
     requires { ⌜ StepLimit digits limit ⌝ }
     ensures { λ r. ⌜ r ≡ allInSteps (step digits) (now (list .entry)) ⌝ }
@@ -239,7 +239,7 @@ fn all_in_steps(list: &[f64], limit: f64, digits: u32) -> bool
     fine
 }
 
-// 30 or 31, or 0: what is wrong with a pairing and its duals on an accepted graph.
+// 30, 31 or 0: the first fault of a pairing and its duals on an accepted graph.
 fn pairs_fault(
     n: u32,
     col_ptr: &[u32],
@@ -267,7 +267,7 @@ fn pairs_fault(
     }
 }
 
-// What is wrong with the call, or 0.
+// The first fault of the call, or 0.
 fn gap_fault(
     n: u32,
     digits: u32,
@@ -299,8 +299,8 @@ fn gap_fault(
     pairs_fault(n, col_ptr, row_idx, perm, u, v, limit, digits)
 }
 
-// Bounds how far a complete pairing is from least total, whoever made it and its duals: the total of the pairs is at
-// most that of every complete matching and gap[0] steps of 2 ^ -digits, exactly.
+// Bounds how far a complete pairing is from the least total, whoever made it and its duals: the total of the pairs is
+// at most that of every complete matching plus gap[0] steps of 2 ^ -digits, exactly.
 pub fn match_gap(
     n: u32,
     digits: u32,

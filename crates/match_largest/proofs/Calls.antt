@@ -1,4 +1,4 @@
--- The call: what it has tested is what its parts ask for, what they write are the definition's marks, and what it answers keeps the contract's
+-- The call: its tests establish what its parts require, what they write are the definition's marks, and what it answers keeps the contract's
 -- clauses. Our own matches are accepted by the match's theorem on its range, which speaks of no cost.
 use mathlib.Core.Path.{_≡_, refl, sym, ap, _∙_, subst}
 use mathlib.Core.Logic.{_≢_}

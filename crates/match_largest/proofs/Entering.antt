@@ -1,4 +1,4 @@
--- The columns of the rows, entered column by column: what the array says after j columns, and what the test of the next pair is worth.
+-- The columns of the rows, entered column by column: what the array says after j columns, and the result of the test of the next pair.
 use mathlib.Core.Path.{_≡_, refl, sym, ap, _∙_, subst}
 use mathlib.Core.Logic.{_≢_}
 use mathlib.Core.Bool.{Bool, true, false}

@@ -141,7 +141,10 @@ module _ (g : Pattern) (perm : List ℕ) (w : Columns (g .n) (g .colPtr) (g .row
             (λ k h. split (R k) (eqb (columnMark (columnOf g k)) 1)),
         sum-add (entries g) (λ k. orZero (R k && eqb (columnMark (columnOf g k)) 1) 1) (λ k. orZero (R k && not (eqb (columnMark (columnOf g k)) 1)) 1),
         count-le (entries g) (g .n) (λ k. R k && eqb (columnMark (columnOf g k)) 1) (λ i. eqb (rowMark i) 1) (rowOf g)
-            (λ k h t. (in-range g w .rows k h, eq→eqb (closed k h (eqb→eq (columnMark (columnOf g k)) 1 (both-in (R k) (eqb (columnMark (columnOf g k)) 1) t .1)))))
+            (λ k h t. (
+              in-range g w .rows k h,
+              eq→eqb (closed k h (eqb→eq (columnMark (columnOf g k)) 1 (both-in (R k) (eqb (columnMark (columnOf g k)) 1) t .1))),
+            ))
             (λ k l b d s t e. m .rows k l b d (both-in (R k) _ s .0) (both-in (R l) _ t .0) e),
         count-le (entries g) (g .n) (λ k. R k && not (eqb (columnMark (columnOf g k)) 1)) (λ j. not (eqb (columnMark j) 1)) (columnOf g)
             (λ k h t. (in-range g w .cols k h, both-in (R k) (not (eqb (columnMark (columnOf g k)) 1)) t .1))

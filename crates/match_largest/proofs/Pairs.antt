@@ -1,4 +1,4 @@
--- The test of the pairs passes exactly where each is an entry of its column and no row comes twice. By the places of each test.
+-- The test of the pairs passes exactly if each is an entry of its column and no row occurs twice. By the places of each test.
 use mathlib.Core.Path.{_≡_, refl, sym, _∙_, subst}
 use mathlib.Core.Logic.{_≢_}
 use mathlib.Core.Bool.{Bool, true, false, _&&_, _||_}

@@ -1,4 +1,4 @@
--- The columns without a row, queued one after the other: the places so far are those of the columns before j. By one column more.
+-- The columns without a row, queued one after the other: the places so far are those of the columns before j. By one more column.
 use mathlib.Core.Path.{_≡_, refl, sym, ap, _∙_}
 use mathlib.Core.Bool.{Bool, true, false}
 use mathlib.Core.List.{List}

@@ -1,4 +1,4 @@
--- The search between two entries: how one entry more keeps what holds (`step`), and what holds at the end (`sweep-ends`). The queue has room since
+-- The search between two entries: how one more entry keeps what holds (`step`), and what holds at the end (`sweep-ends`). The queue has room since
 -- each place that it takes is that of a row that was not marked.
 use mathlib.Core.Path.{_≡_, refl, sym, ap, _∙_, subst}
 use mathlib.Core.Logic.{_≢_}

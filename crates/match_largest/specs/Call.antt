@@ -48,7 +48,7 @@ largestLengths n colPtr perm s =
     && (eqb (length perm) n
     && (eqb (length (s .columns)) n && (eqb (length (s .rows)) n && eqb (length (s .matched)) 1)))
 
--- the first thing wrong, 0 where nothing is
+-- the first thing wrong, or 0
 unfoldable pub largestFault : Pattern → List ℕ → Slices → ℕ
 unfolding largestLengths patternFault pairingFault
 largestFault g perm s =
@@ -73,8 +73,8 @@ largestOutcome g perm s = refusing Refused (largestFault g perm s) (outcomeIs Ac
 abbrev pub pairs : Pattern → List ℕ → ℕ → Bool
 pairs g perm = pairedEntries (bipartite g) (rowAt perm)
 
--- a pattern within the limits, whose pairs are a largest matching; what stands in perm is none or the row of an entry
--- of its column
+-- a pattern within the limits, whose pairs are a largest matching; perm holds none or the row of an entry of each
+-- column
 pub record IsLargestOf (g : Pattern) (perm : List ℕ) : Type 0 where
   pub few : g .n ≤ maxColumns
   pub fewEntries : entries g ≤ maxGeneral
@@ -90,7 +90,7 @@ pub record Room (g : Pattern) (s : Slices) : Type 0 where
   pub rows : length (s .rows) ≡ g .n
   pub matched : length (s .matched) ≡ 1
 
--- accepted exactly then
+-- accepted exactly if this holds
 abbrev pub Exactly : Pattern → List ℕ → Slices → ℕ → Type 0
 Exactly g perm s number = (number ≡ accepted) ↔ (IsLargestOf g perm × Room g s)
 
@@ -119,7 +119,7 @@ pub record HeldBy (g : Pattern) (perm columns : List ℕ) (i : ℕ) : Type 0 whe
 abbrev pub marksIn : ℕ → List ℕ → ℕ
 marksIn n list = sumTo n (λ i. getD list i 0)
 
--- the marks are 1 exactly where an alternating path leads, and show that so many columns stay empty in every matching
+-- the marks are 1 exactly where an alternating path leads, and show how many columns stay empty in every matching
 pub record Shown (g : Pattern) (perm : List ℕ) (s : Slices) : Type 0 where
   pub columnLength : length (s .columns) ≡ g .n
   pub rowLength : length (s .rows) ≡ g .n
@@ -130,10 +130,10 @@ pub record Shown (g : Pattern) (perm : List ℕ) (s : Slices) : Type 0 where
   -- every entry of a marked column is in a marked row, every marked row is paired with a marked column
   pub closed : (k : ℕ) → k < entries g → getD (s .columns) (columnOf g k) 0 ≡ 1 → getD (s .rows) (rowOf g k) 0 ≡ 1
   pub held : (i : ℕ) → i < g .n → getD (s .rows) i 0 ≡ 1 → HeldBy g perm (s .columns) i
-  -- the count is that of the pairs; marked columns less marked rows is the number of columns without a row
+  -- the count is that of the pairs; the marked columns less the marked rows are the columns without a row
   pub count : s .matched ≡ size (bipartite g) (pairs g perm) ∷ []
   pub short : marksIn (g .n) (s .columns) + size (bipartite g) (pairs g perm) ≡ g .n + marksIn (g .n) (s .rows)
-  -- so many stay empty in every matching
+  -- at least that many stay empty in every matching
   pub empty : (R : ℕ → Bool) → IsMatching (bipartite g) R
       → size (bipartite g) R + marksIn (g .n) (s .columns) ≤ g .n + marksIn (g .n) (s .rows)
 
@@ -142,8 +142,8 @@ abbrev pub Shows : Pattern → List ℕ → ℕ → Slices → Type 0
 Shows g perm number after = number ≡ accepted → Shown g perm after
 
 -- ---- our own matches
--- perm is what a call of `hungarian_match` left on this pattern with some costs, doubles as whatever a machine holds
--- is: whatever the slices held before, the call answered 0 and left this perm
+-- perm is what a call of `hungarian_match` left on this pattern with some costs, which are doubles: whatever the slices
+-- held before, the call answered 0 and left this perm
 pub record Ours (g : Pattern) (perm : List ℕ) : Type 0 where
   pub cost : List Float
   pub doubles : Doubles (withCosts g cost)

@@ -1,5 +1,5 @@
--- The marks of a pairing, and what is wrong with it: SPECIFICATION 5.18. Columns are marked in rounds: first those
--- without a row, then each whose row has an entry of a marked column. After n rounds no round marks more.
+-- The marks of a pairing, and its faults: SPECIFICATION 5.18. Columns are marked in rounds: first those without a row,
+-- then each whose row has an entry of a marked column. After n rounds no round marks more.
 use mathlib.Core.Bool.{Bool, true, false, not, _&&_, _||_}
 use mathlib.Core.List.{List}
 use Prim.Native.Nat.{ℕ, zero, suc}
@@ -40,7 +40,7 @@ unfoldable pub isMet : Pattern → List ℕ → ℕ → Bool
 unfolding columnOf
 isMet g columns i = someOf (entries g) (λ k. eqb (rowOf g k) i && eqb (getD columns (columnOf g k) 0) 1) 0
 
--- the columns that are marked after so many rounds, each 1, the others 0
+-- the columns that are marked after this many rounds: 1 if marked, else 0
 unfoldable pub columnsAfter : Pattern → List ℕ → ℕ → List ℕ
 unfolding isMet
 columnsAfter g perm zero = tabulate (g .n) (λ j. mark (isFree perm j))

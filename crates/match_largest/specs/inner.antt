@@ -1,2 +1,2 @@
--- What the inner functions ask of each other: it serves the proofs alone.
+-- What the inner functions require; only proofs use it.
 pub mod Sweeps

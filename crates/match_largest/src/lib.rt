@@ -1,5 +1,5 @@
-// Whether a pairing, complete or not, is a largest matching of a pattern, whoever made it: a search from the columns
-// without a row, whose marks show why no matching has more pairs. Nothing lent is written before the search has ended.
+// Checks whether a pairing, complete or not, is a largest matching of a pattern, by a search from the columns without a
+// row, whose marks show why no matching has more pairs. Nothing lent is written before the search has ended.
 use limits::NONE;
 use match_check::has_row;
 ghost use mathlib.Core.Path.{_≡_};
@@ -18,13 +18,13 @@ ghost use Rattle.match_largest.specs.Marks.{rowAt, pairFits, pairsFit, p
 ghost use Rattle.match_largest.specs.Call.{slices, largestLengths, Promises};
 ghost use Rattle.match_largest.specs.inner.Sweeps.{Entered, Queued, Sweeping, Swept, Searched};
 
-// What `check_largest` answers: the pairing is a largest matching, or why it refuses.
+// What `check_largest` answers: the pairing is a largest matching, or the refusal.
 pub enum Verdict {
     Accepted,
     Refused(u32),
 }
 
-// No column: above every number of one.
+// No column: larger than the number of any column.
 const FREE: u16 = 4096;
 
 // Whether every slice has its length.
@@ -119,7 +119,7 @@ fn enter_pairs(
     fine
 }
 
-// The columns without a row to the front of the queue; answers how many.
+// Puts the columns without a row at the front of the queue; answers how many there are.
 fn queue_free(perm: &[u32], queue: &mut [u16]) -> usize
     requires { ⌜ (length (now perm) ≤ maxColumns) × (length (now queue) ≡ 4097) ⌝ }
     ensures { λ r. ⌜ Queued (now (perm .entry)) (length (now (perm .entry))) (now (queue .exit)) r ⌝ }
@@ -189,7 +189,7 @@ fn sweep(
     }
 }
 
-// The search from the columns without a row: each row that an entry of a reached column is in gets its mark.
+// The search from the columns without a row: marks each row that has an entry of a reached column.
 fn search(n: usize, col_ptr: &[u32], row_idx: &[u32], perm: &[u32], inverse: &[u16], met: &mut [u8])
     requires { ⌜ AcceptedPattern n (now «col_ptr») (now «row_idx») ⌝ ∗ ⌜ length (now perm) ≡ n ⌝ }
     requires { let g = pattern n (now «col_ptr») (now «row_idx») in
@@ -217,7 +217,7 @@ fn all_held(n: usize, inverse: &[u16], met: &[u8]) -> bool
     fine
 }
 
-// 30 or 33, or 0: what is wrong with a pairing on an accepted pattern. `met` gets the marks of the rows.
+// 30, 33 or 0: the first fault of a pairing on an accepted pattern. `met` gets the marks of the rows.
 fn pairing_fault(n: usize, col_ptr: &[u32], row_idx: &[u32], perm: &[u32], met: &mut [u8]) -> u32
     requires { ⌜ AcceptedPattern n (now «col_ptr») (now «row_idx») ⌝ ∗ ⌜ length (now perm) ≡ n ⌝ }
     requires { ⌜ now met ≡ replicate maxColumns 0 ⌝ }
@@ -288,7 +288,7 @@ fn count_pairs(perm: &[u32]) -> u32
     count
 }
 
-// Tells whether a pairing is a largest matching of a pattern, whoever made it, and leaves the marks that show it: 1 for
+// Says whether a pairing is a largest matching of a pattern, whoever made it, and leaves the marks that show it: 1 for
 // each column that an alternating path leads to from a column without a row, and for each row of its entries; and the
 // number of pairs in matched[0].
 pub fn check_largest(

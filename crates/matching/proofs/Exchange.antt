@@ -1,5 +1,5 @@
--- Of any graph: where duals exceed the costs by at most e in each column, and lack at most l on the entries of a complete matching, its total is at
--- most that of any other complete matching with the sums of both added. Duals add up to the same over both.
+-- For any graph: if duals exceed the costs by at most e in each column, and lack at most l on the entries of a complete matching, its total is at
+-- most that of any other complete matching plus the sums of both. Duals add up to the same over both.
 use mathlib.Core.Path.{refl}
 use mathlib.Core.Bool.{Bool}
 use Prim.Native.Nat.{ℕ, _+_, _≤_, _<_}

@@ -1,5 +1,5 @@
--- A pairing changes along a path one column at a time: the column takes the row that hangs loose, and if it had another row, that one hangs loose
--- then. By cases on whether a place is the changed one.
+-- A pairing changes along a path one column at a time: the column takes the loose row, and if it had another row, that row becomes loose. By
+-- cases on whether a place is the changed one.
 use mathlib.Core.Path.{_≡_, sym, ap, _∙_}
 use mathlib.Core.Logic.{_≢_, inr}
 use mathlib.Core.Bool.{Bool, not}

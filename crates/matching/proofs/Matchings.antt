@@ -1,5 +1,5 @@
--- A matching is largest if a set of columns proves it, complete exactly when some matching is, and of least total if potentials prove it; of every
--- graph, by counting entries.
+-- A matching is largest if a set of columns proves it, complete exactly when some matching is, and of least total if potentials prove it; for
+-- every graph, by counting entries.
 use mathlib.Core.Path.{_≡_, refl, sym, ap, _∙_}
 use mathlib.Core.Logic.{_↔_}
 use mathlib.Core.Bool.{Bool, true, false, not}

@@ -1,5 +1,5 @@
--- A match as it is handed on: the Rust's `Mc64Cache`, beside the matched count. Its numbers are doubles where it is
--- computed with, and the bits of doubles where it travels.
+-- A match as calls pass it on: the Rust's `Mc64Cache` without the matched count. Its numbers are doubles in
+-- computations, and bits of doubles in files.
 use mathlib.Core.List.{List}
 use Prim.Native.Nat.{ℕ}
 

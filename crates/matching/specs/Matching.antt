@@ -1,6 +1,6 @@
--- SPECIFICATION 2, "Matching": any set of the graph's entries of which no two are in one row or in one column. It is
--- complete if it has n entries; its total is the exact sum of the costs of its entries. A set of entries is
--- S : ℕ → Bool, of which only the numbers below `entries` count.
+-- SPECIFICATION 2, "Matching": a set of entries of the graph, no two in one row or in one column. It is complete if it
+-- has n entries; its total is the exact sum of the costs of its entries. A set of entries is S : ℕ → Bool, of which
+-- only the numbers below `entries` count.
 use mathlib.Core.Path.{_≡_}
 use mathlib.Core.Bool.{Bool}
 use Prim.Native.Nat.{ℕ, _≤_, _<_}

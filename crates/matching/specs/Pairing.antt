@@ -16,23 +16,23 @@ heldEntries g jperm k = eqb (jperm (g .col k)) k
 unfoldable pub pairedEntries : Bipartite → (ℕ → ℕ) → ℕ → Bool
 pairedEntries g perm k = eqb (perm (g .col k)) (g .row k)
 
--- the matched count: how many of the numbers below n f sends elsewhere than to `none`
+-- the matched count: how many numbers below n f does not send to `none`
 unfoldable pub matchedCount : ℕ → ℕ → (ℕ → ℕ) → ℕ
 matchedCount none n f = sumTo n (λ j. orZero (not (eqb (f j) none)) 1)
 
--- what holds of a column j that has an entry: it is an entry of column j, and its row has the column j
+-- if column j has an entry: it is an entry of column j, and its row has the column j
 pub record OfColumn (g : Bipartite) (iperm jperm : ℕ → ℕ) (j : ℕ) : Type 0 where
   pub entry : jperm j < g .entries
   pub column : g .col (jperm j) ≡ j
   pub back : iperm (g .row (jperm j)) ≡ j
 
--- what holds of a row i that has a column: that column has an entry, of row i
+-- if row i has a column: that column has an entry, of row i
 pub record OfRow (g : Bipartite) (none : ℕ) (iperm jperm : ℕ → ℕ) (i : ℕ) : Type 0 where
   pub range : iperm i < g .n
   pub taken : jperm (iperm i) ≢ none
   pub back : g .row (jperm (iperm i)) ≡ i
 
--- `none` is no entry, row or column
+-- `none` is not the number of an entry, row or column
 pub record Outside (g : Bipartite) (none : ℕ) : Type 0 where
   pub entries : g .entries ≤ none
   pub indices : g .n ≤ none
@@ -48,7 +48,7 @@ pub record RowsOf (g : Bipartite) (none : ℕ) (jperm perm : ℕ → ℕ) : Type
   pub free : (j : ℕ) → j < g .n → jperm j ≡ none → perm j ≡ none
   pub taken : (j : ℕ) → j < g .n → jperm j ≢ none → perm j ≡ g .row (jperm j)
 
--- Z is a set of columns that no entry leads out of: the row of an entry of a column in Z has a column, in Z too
+-- Z is a closed set of columns: the row of an entry of a column in Z has a column, which is in Z
 pub record ClosedColumns (g : Bipartite) (none : ℕ) (iperm : ℕ → ℕ) (Z : ℕ → Bool) : Type 0 where
   pub matched : (k : ℕ) → k < g .entries → T (Z (g .col k)) → iperm (g .row k) ≢ none
   pub inside : (k : ℕ) → k < g .entries → T (Z (g .col k)) → T (Z (iperm (g .row k)))

@@ -13,6 +13,6 @@ abbrev pub orZero : Bool → ℕ → ℕ
 orZero true a = a
 orZero false a = 0
 
--- f, but a at the place i
+-- f, but with a at place i
 unfoldable pub updated : {A : Type 0} → (ℕ → A) → ℕ → A → ℕ → A
 updated f i a j = cond (eqb j i) a (f j)

@@ -1,2 +1,2 @@
-// No code: the theory of matchings in bipartite graphs that other crates cite. specs/ says what is meant, proofs/ has
-// the theorems.
+// No code: the theory of matchings in bipartite graphs that other crates cite. specs/ has the definitions, proofs/ the
+// theorems.

@@ -1,5 +1,5 @@
--- The call: a refusal of the lengths or of the building is its own, and what the building leaves is what the match and the factors ask for.
--- The number, the unmatched count and what the factors are good for follow from the outcome.
+-- The call: a refusal of the lengths or of the building is its own, and the building leaves what the match and the factors require. The
+-- number, the unmatched count and what the factors achieve follow from the outcome.
 use mathlib.Core.Path.{_≡_, refl, sym, ap, _∙_, subst}
 use mathlib.Core.Bool.{Bool, true, false, cond, _&&_, false≢true, and-true, and-false}
 use mathlib.Core.List.{List}

@@ -1,4 +1,4 @@
--- The match of a built graph and its factors: the factors ask for nothing that the match does not leave, since it has rows below n or none.
+-- The match of a built graph and its factors: the match leaves all that the factors require, since it has rows below n or none.
 use mathlib.Core.Path.{_≡_, refl, ap, _∙_}
 use mathlib.Core.Bool.{true, or-true}
 use mathlib.Core.Logic.{_⊎_, ⊎-elim}

@@ -1,6 +1,6 @@
 -- SPECIFICATION 10.1: What `compute_symmetric` answers and leaves: the symmetric cost graph, its match and the log
--- factors, one after the other. A refusal is that of the building, with the lengths of every slice tested as 3, and
--- changes nothing.
+-- factors, one after the other. It refuses as the building does, with the lengths of every slice at 3, and then changes
+-- nothing.
 use mathlib.Core.Path.{_≡_}
 use mathlib.Core.Bool.{Bool, _&&_}
 use mathlib.Core.List.{List}
@@ -94,8 +94,8 @@ unfoldable pub symmetricScaling : Matrix → List Float → ScalingSlices → Ou
 unfolding scaled restFits
 symmetricScaling m logs l = refusing Refused (scalingFault m logs l) (scaled m logs l) l
 
--- what the factors are good for, where every column is matched, the logs that are read are whole and no factor is held:
--- with the log of an entry its two factors are never above 0, and exactly 0 on every matched pair
+-- what the factors achieve if every column is matched, the logs read are whole and no factor is held: the two factors
+-- of an entry and its log never exceed 0, and are exactly 0 on every matched pair
 abbrev pub Balances : Matrix → List Float → Scaled → Match Float → List Float → Type 0
 Balances m logs answer c factors =
     answer ≡ Applied → WholeLogs m logs → NoneHeld (m .pattern .n) c factors → Balanced m logs (c .perm) factors
@@ -109,9 +109,9 @@ pub record Promises (m : Matrix) (logs : List Float) (before : ScalingSlices) (r
     (after : ScalingSlices) : Type 0 where
   -- the answer and every slice left are the definition's
   pub outcome : outcomeIs r after ≡ symmetricScaling m logs before
-  -- the number is the first fault's, and an accepted call tells how many columns are unmatched
+  -- the number is that of the first fault, and an accepted call answers how many columns are unmatched
   pub answered : Factors.AnswersBy (scalingFault m logs before) (unmatchedColumns m logs) r
   -- the number is one of the call's list
   pub number : OneOf symmetricGraphNumbers (Factors.numberOf r)
-  -- the factors of whole logs balance the entries, where every column is matched
+  -- if every column is matched, the factors of whole logs balance the entries
   pub balanced : Balances m logs r (cacheLeft after) (after .scaled .factors)

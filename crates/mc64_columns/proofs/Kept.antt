@@ -1,4 +1,4 @@
--- One place more of a column, or none (`keep`): what holds of all its places, that they rise, and that what agrees at them is alike.
+-- One more place of a column, or none (`keep`): what holds of all its places, that they rise, and that what agrees at them is alike.
 use mathlib.Core.Path.{_≡_, refl, sym, ap, _∙_, subst}
 use mathlib.Core.Bool.{Bool, true, false}
 use mathlib.Core.List.{List, [], _∷_, _++_, map, map-append, append-nil}

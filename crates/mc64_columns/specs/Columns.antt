@@ -5,7 +5,7 @@ use lib.Ieee.{Float, binary64, lt, sub}
 use Rattle.float64.specs.Constants.{minusInfinity}
 use Rattle.whole_log.specs.Log.{wholeLog, doubleOf}
 
--- the logs of values: each value's whole-number logarithm as a double, a NaN where it has none
+-- the logs of values: each value's whole-number logarithm as a double, NaN if it has none
 abbrev pub valueLogs : List Float → List Float
 valueLogs values = map (λ x. doubleOf (wholeLog x)) values
 

@@ -26,7 +26,7 @@ abbrev pub slices : List ℕ → List ℕ → List Float → List Float → List
 slices graphPtr graphIdx cost cmax work =
     record { graphPtr = graphPtr; graphIdx = graphIdx; cost = cost; cmax = cmax; work = work }
 
--- 3: whether every slice has its length for n columns, with room for so many entries of the graph
+-- 3: whether every slice has its length for n columns, with room for this many entries of the graph
 unfoldable pub slicesFit : ℕ → Matrix → List Float → Slices → Bool
 slicesFit room m logs s =
     let p = m .pattern in
@@ -48,7 +48,7 @@ abbrev pub keptOf : Built → ℕ
 keptOf (Kept count) = count
 keptOf (Refused number) = 0
 
--- an answer by its fault: the number is the fault, and with none the kept count is told
+-- an answer by its fault: the number is the fault; without one, the kept count is answered
 pub record AnswersBy (fault kept : ℕ) (answer : Built) : Type 0 where
   pub number : numberOf answer ≡ fault
   pub count : numberOf answer ≡ accepted → keptOf answer ≡ kept
@@ -72,7 +72,7 @@ abbrev pub costsOf : (ℕ → List Float) → ℕ → List Float
 costsOf logs n = joined (λ c. normalised (logs c)) n
 
 -- ---- the graph of a matrix
--- which stored places each column of the graph has, the row that a place has there, and the largest of a column's logs
+-- which stored places each column of the graph has, the row of a place there, and the largest log of a column
 pub record GraphColumns : Type 0 where
   pub places : ℕ → List ℕ
   pub row : ℕ → ℕ → ℕ

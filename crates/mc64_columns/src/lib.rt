@@ -5,13 +5,13 @@ ghost use lib.ListN.{length};
 ghost use Rattle.mc64_columns.specs.Columns.{largest, below, normalised};
 ghost use Rattle.mc64_columns.specs.inner.Steps.{entryLog, WordOf, WordsPut};
 
-// What a builder answers: how many entries the graph has, or why there is none.
+// What a builder answers: how many entries the graph has, or the refusal.
 pub enum Built {
     Kept(u32),
     Refused(u32),
 }
 
-// Where the logs of entries come from: they are lent, or values are lent for them and the logs are the values' own.
+// Where the logs of entries come from: they are lent, or values are lent and the logs are computed from them.
 pub enum LogSource {
     Lent,
     Own,
@@ -63,7 +63,7 @@ fn subtract(top: f64, column: &mut [f64])
     }
 }
 
-// A column of logs becomes its costs, in the buffer itself. Its largest log is returned.
+// Turns a column of logs into its costs, in place, and answers its largest log.
 pub fn normalise(column: &mut [f64]) -> f64
     requires { ⌜ 0 < length (now column) ⌝ }
     ensures top { λ r. ⌜ r ≡ largest (now (column .entry)) ⌝ }

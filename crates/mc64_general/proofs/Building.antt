@@ -1,4 +1,4 @@
--- One column more of the graph: its kept entries stand after those before, its stretch is normalised, and what lies past it is as it was.
+-- One more column of the graph: its kept entries follow those before, its stretch is normalised, and what lies past it is as it was.
 use mathlib.Core.Path.{_≡_, refl, sym, ap, _∙_}
 use mathlib.Core.List.{List, [], _∷_, _++_, append-nil, append-assoc}
 use Prim.Native.Nat.{ℕ, zero, suc, _+_, _-_, _≤_, _<_}

@@ -1,4 +1,4 @@
--- The kept entries of a column, written one after the other: one place more is one element more, or none.
+-- The kept entries of a column, written one after the other: one more place is one more element, or none.
 use mathlib.Core.Path.{_≡_, refl, sym, ap, _∙_}
 use mathlib.Core.Bool.{Bool, true, false}
 use mathlib.Core.List.{List, [], _∷_, _++_, append-nil, append-assoc, map-append}

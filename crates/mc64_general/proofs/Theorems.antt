@@ -3,7 +3,7 @@
 use mathlib.Core.Path.{_≡_, refl, ap, subst, fun-ext, _∙_}
 use mathlib.Core.Bool.{true, Bool, false, not, _||_}
 use mathlib.Core.List.{List}
--- Logs of dropped places do not matter: neither a fault nor a column of the graph has one of them.
+-- Logs of dropped places do not matter: neither a fault nor a column of the graph uses one.
 use Prim.Native.Nat.{ℕ, zero, suc, _+_, _-_, _≤_, _<_}
 use native.Mathlib.Nat.{not-suc-le-zero, le-refl}
 use native.Mathlib.Omega.{arith}
@@ -64,7 +64,7 @@ module _ {n : ℕ} (colPtr rows : List ℕ) (columns : Columns n colPtr rows) wh
 
 -- ---- the graph
 module _ (m : Matrix) (columns : Columns (m .pattern .n) (m .pattern .colPtr) (m .pattern .rowIdx)) where
-  -- a place of column c stands between its pointers
+  -- a place of column c lies between its pointers
   pub place-in : (c i : ℕ) → c < m .pattern .n → i < length (placesOf m c) → let k = getD (placesOf m c) i 0 in
       (getD (m .pattern .colPtr) c 0 ≤ k) × (k < getD (m .pattern .colPtr) (suc c) 0) × (k < length (m .pattern .rowIdx)) ×
       (isKept (getD (m .values) k nan) ≡ true)
@@ -107,7 +107,7 @@ module _ (m : Matrix) (columns : Columns (m .pattern .n) (m .pattern .colPtr) (m
         (graphCosts (keptColumns m) logs (m .pattern .n))) ≡ 0
     graph-accepted = columns-accepted (keptColumns m) (m .pattern .n) row-inside row-rises few kept-few logs
 
-    -- and where the logs of kept places are doubles in range, its own test accepts the graph
+    -- and if the logs of kept places are doubles in range, the match's own test accepts the graph
     pub match-accepts : ((k : ℕ) → k < length (m .pattern .rowIdx) → isKept (getD (m .values) k nan) ≡ true → T (fits binary64 (getD logs k nan))
         × (inLogRange (m .pattern .n) (getD logs k nan) ≡ true))
         → Accepted (graphOf (m .pattern .n) (graphPointers (keptColumns m) (m .pattern .n)) (graphRows (keptColumns m) (m .pattern .n))
@@ -117,7 +117,7 @@ module _ (m : Matrix) (columns : Columns (m .pattern .n) (m .pattern .colPtr) (m
         (λ c i h l. let t = place-in c i h l in fine (getD (placesOf m c) i 0) (t .2) (t .3))
 
 -- ---- the call
--- whatever it accepts, the match accepts the graph that it leaves
+-- the match accepts the graph that an accepted call leaves
 pub graph-matched : (m : Matrix) (logs : List Float) (s : Slices) → inputFault m logs (lengthsFit m logs s) ≡ 0
     → ((k : ℕ) → k < length logs → T (fits binary64 (getD logs k nan)))
     → Accepted (graphOf (m .pattern .n) (graphPointers (keptColumns m) (m .pattern .n)) (graphRows (keptColumns m) (m .pattern .n))
@@ -144,7 +144,7 @@ fault-listed m logs s =
     (or-listed (part generalNumbers (general-listed m) refl)
     (first-listed (length (m .values)) 0 refl (λ k. test (logFits (m .pattern .n) (getD (m .values) k nan) (getD logs k nan)) costRange refl refl)))
 
--- all that the call promises, of an outcome by its fault
+-- all that the call promises, from an outcome by its fault
 pub promised : (m : Matrix) (logs : List Float) (s : Slices) {r : Built} {after : Slices}
     → (outcomeIs r after ≡ outcome (generalGraphFault m logs s) (m .pattern .n) (keptColumns m) logs s)
     × AnswersBy (generalGraphFault m logs s) (keptBefore (keptColumns m) (m .pattern .n)) r

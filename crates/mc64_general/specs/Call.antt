@@ -24,7 +24,7 @@ use Rattle.mc64_general.specs.Graph.{isKept, keptColumns}
 abbrev pub lengthsFit : Matrix → List Float → Slices → Bool
 lengthsFit m logs s = slicesFit (length (m .pattern .rowIdx)) m logs s
 
--- a value is dropped, whatever its log is, or its log is in range for n columns
+-- a value is dropped, whatever its log, or its log is in range for n columns
 abbrev pub logFits : ℕ → Float → Float → Bool
 logFits n value log = not (isKept value) || inLogRange n log
 
@@ -55,7 +55,7 @@ pub record Promises (m : Matrix) (logs : List Float) (before : Slices) (r : Buil
     : Type 0 where
   -- the answer and every slice left are the definition's
   pub outcome : outcomeIs r after ≡ generalGraph m logs before
-  -- the number is the first fault's, and an accepted call tells how many entries the graph has
+  -- the number is that of the first fault, and an accepted call answers how many entries the graph has
   pub answered : AnswersBy (generalGraphFault m logs before) (keptBefore (keptColumns m) (m .pattern .n)) r
   -- the number is one of the call's list
   pub number : OneOf graphNumbers (numberOf r)

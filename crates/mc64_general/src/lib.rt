@@ -51,7 +51,7 @@ fn is_kept(value: f64) -> bool
     float64::is_finite(value) & (value != 0.0)
 }
 
-// Whether a value is dropped, whatever its log is, or its log is in range.
+// Whether a value is dropped, whatever its log, or its log is in range.
 fn log_fits(limit: f64, value: f64, log: f64) -> bool
     ensures { λ r. ⌜ ((n : ℕ) → LogLimit n limit → r ≡ logFits n value log) ⌝ }
 {
@@ -59,7 +59,7 @@ fn log_fits(limit: f64, value: f64, log: f64) -> bool
     !is_kept(value) | fits
 }
 
-// Refusal 8, or 0. There is no way out of the loop, so that it runs through several entries at a time.
+// Refusal 8, or 0. The loop has no early exit, so that it can test several entries at a time.
 fn logs_fault(n: u32, values: &[f64], logs: &[f64]) -> u32
     requires { ⌜ (n ≤ maxColumns) × (length (now logs) ≡ length (now values)) ⌝ }
     ensures { λ r. ⌜ r ≡ logsFault n (now (values .entry)) (now (logs .entry)) ⌝ }
@@ -101,7 +101,7 @@ fn input_fault(
     logs_fault(n, values, logs)
 }
 
-// The kept entries among the places from `from` up to `to`, written from `at` on; where the next one goes.
+// Writes the kept entries among the places from `from` up to `to`, from `at` on; answers where the next one goes.
 fn keep_column(
     from: usize,
     to: usize,
@@ -135,8 +135,7 @@ fn keep_column(
     next
 }
 
-// The logs from `start` up to `end` become costs, in the buffer itself; the largest of them, or 0.0 where there is
-// none.
+// Turns the logs from `start` up to `end` into costs, in place; answers the largest log, or 0.0 if there is none.
 fn normalise_stretch(start: usize, end: usize, cost: &mut [f64]) -> f64
     requires { ⌜ (start ≤ end) × (end ≤ length (now cost)) ⌝ }
     ensures { λ r. ⌜ r ≡ largestLog (stretch start end (now (cost .entry))) ⌝ }

@@ -1,4 +1,4 @@
--- The call: what the tests leave is what the building asks for.
+-- The call: the tests establish what the building requires.
 use mathlib.Core.Path.{_≡_}
 use mathlib.Core.List.{List}
 use Prim.Native.Nat.{_+_, _*_}

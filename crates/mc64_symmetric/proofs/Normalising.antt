@@ -1,4 +1,4 @@
--- One column more is normalised: the buffer before it holds costs, the buffer from it on holds logs still. By the lengths of the columns before.
+-- One more column is normalised: the buffer before it holds costs, the buffer from it on holds logs still. By the lengths of the columns before.
 use mathlib.Core.Path.{_≡_, refl, sym, ap, _∙_}
 use mathlib.Core.List.{List, [], _∷_, _++_, append-nil, append-assoc}
 use Prim.Native.Nat.{ℕ, zero, suc, _+_, _-_, _≤_, _<_}

@@ -1,8 +1,8 @@
 -- The graph of an accepted matrix has strictly rising rows in every column, although nothing is sorted: a column's places of other columns
--- stand before its own and rise by column, its own rise by row. So the match's test of pointers and rows accepts it, and its test of costs too.
+-- come before its own and rise by column, its own rise by row. So the match's test of pointers and rows accepts it, and its test of costs too.
 -- And the building answers no number but those of its list.
 use mathlib.Core.Path.{_≡_, refl, sym, ap, _∙_, subst, fun-ext}
--- Logs of zeros do not matter: neither a fault nor a column of the graph has one of them.
+-- Logs of zeros do not matter: neither a fault nor a column of the graph uses one.
 use mathlib.Core.Bool.{Bool, true, false, not, cond, _||_, false≢true}
 use mathlib.Core.List.{List}
 use mathlib.Core.Logic.{_⊎_, inl, inr, ⊎-elim}
@@ -48,11 +48,11 @@ use Rattle.mc64_symmetric.proofs.Calling.{ready}
 
 -- ---- stored places
 module _ (m : Matrix) (t : Triangle m) where
-  -- every place stands in its column
+  -- every place is in its column
   pub stands : (k : ℕ) → k < length (m .pattern .rowIdx) → InColumn (m .pattern) (columnOf (m .pattern) k) k
   stands k h = in-column (m .pattern) (t .columns) k h
 
-  -- later places do not stand in earlier columns
+  -- later places are not in earlier columns
   columns-climb : {a b p q : ℕ} → InColumn (m .pattern) a p → InColumn (m .pattern) b q → p < q → a ≤ b
   columns-climb {a} {b} i j l = go (decLt b a)
     where
@@ -182,7 +182,7 @@ module _ (m : Matrix) (t : Triangle m) where
         (graphRows (mirroredColumns m) (m .pattern .n)) (graphCosts (mirroredColumns m) logs (m .pattern .n))) ≡ 0
     graph-accepted = columns-accepted (mirroredColumns m) (m .pattern .n) row-inside row-rises (t .few) entries-few logs
 
-    -- and where the logs of kept places are doubles in range, its own test accepts the graph
+    -- and if the logs of kept places are doubles in range, the match's own test accepts the graph
     pub match-accepts : ((k : ℕ) → k < length (m .pattern .rowIdx) → kept m k ≡ true → T (fits binary64 (getD logs k nan)) ×
         (inLogRange (m .pattern .n) (getD logs k nan) ≡ true))
         → Accepted (graphOf (m .pattern .n) (graphPointers (mirroredColumns m) (m .pattern .n)) (graphRows (mirroredColumns m) (m .pattern .n))
@@ -211,7 +211,7 @@ module _ (m : Matrix) (logs : List Float) (s : Slices) (fine : inputFault m logs
       go true e h = absurd (false≢true h)
       go false e h = unless-holds (inLogRange (m .pattern .n) (getD logs k nan)) costRange (λ z. let y : ⊥ = omega arith in absurd y) e
 
-  -- whatever it accepts, the match accepts the graph that it leaves
+  -- the match accepts the graph that an accepted call leaves
   pub graph-matched : ((k : ℕ) → k < length logs → T (fits binary64 (getD logs k nan)))
       → Accepted (graphOf (m .pattern .n) (graphPointers (mirroredColumns m) (m .pattern .n)) (graphRows (mirroredColumns m) (m .pattern .n))
       (graphCosts (mirroredColumns m) logs (m .pattern .n)))
@@ -234,7 +234,7 @@ input-listed m logs lengths =
 pub fault-listed : (m : Matrix) (logs : List Float) (s : Slices) → Listed symmetricGraphNumbers (costGraphFault m logs s)
 fault-listed m logs s = input-listed m logs (lengthsFit m logs s)
 
--- all that the call promises, of an outcome by its fault
+-- all that the call promises, from an outcome by its fault
 pub promised : (m : Matrix) (logs : List Float) (s : Slices) {r : Built} {after : Slices}
     → (outcomeIs r after ≡ outcome (costGraphFault m logs s) (m .pattern .n) (mirroredColumns m) logs s)
     × AnswersBy (costGraphFault m logs s) (keptBefore (mirroredColumns m) (m .pattern .n)) r

@@ -22,11 +22,11 @@ use Rattle.mc64_columns.specs.declared.Built.{Built}
 use Rattle.mc64_symmetric.specs.Graph.{mirroredColumns}
 
 -- ---- refusals
--- 3: whether every slice has its length for n columns: an entry may be mirrored
+-- 3: whether every slice has its length for n columns; entries may be mirrored
 abbrev pub lengthsFit : Matrix → List Float → Slices → Bool
 lengthsFit m logs s = slicesFit (2 * length (m .pattern .rowIdx)) m logs s
 
--- 9 and 8 of place k; a zero's log is not looked at
+-- 9 and 8 of place k; the log of a zero is not tested
 abbrev pub valueFault : List Float → ℕ → ℕ
 valueFault values k = unless (finite (getD values k nan)) valueNotFinite
 
@@ -59,7 +59,7 @@ pub record Promises (m : Matrix) (logs : List Float) (before : Slices) (r : Buil
     : Type 0 where
   -- the answer and every slice left are the definition's
   pub outcome : outcomeIs r after ≡ costGraph m logs before
-  -- the number is the first fault's, and an accepted call tells how many entries the graph has
+  -- the number is that of the first fault, and an accepted call answers how many entries the graph has
   pub answered : AnswersBy (costGraphFault m logs before) (keptBefore (mirroredColumns m) (m .pattern .n)) r
   -- the number is one of the call's list
   pub number : OneOf symmetricGraphNumbers (numberOf r)

@@ -31,10 +31,10 @@ placesTo m c (suc k) = placesTo m c k ++ keep (touches m c k) k
 abbrev pub placesOf : Matrix → ℕ → List ℕ
 placesOf m c = placesTo m c (entries (m .pattern))
 
--- a place of row c is mirrored: there its column is the row
+-- a place of row c is mirrored: its column becomes the row
 abbrev pub otherEnd : Matrix → ℕ → ℕ → ℕ
 otherEnd m c k = cond (eqb (rowOf (m .pattern) k) c) (columnOf (m .pattern) k) (rowOf (m .pattern) k)
 
--- the columns of the graph: an empty one has minus infinity as its largest log
+-- the columns of the graph; the largest log of an empty one is minus infinity
 abbrev pub mirroredColumns : Matrix → GraphColumns
 mirroredColumns m = record { places = placesOf m; row = otherEnd m; top = largest }

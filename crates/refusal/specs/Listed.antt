@@ -1,5 +1,5 @@
--- Which numbers each public call answers, by the names of SPECIFICATION's table. That it answers no other is the clause
--- `number` of its contract, native and over C.
+-- Which numbers each public call answers, by the names of SPECIFICATION's table. The clause `number` of its contract,
+-- native and over C, says that it answers no other.
 use mathlib.Core.Path.{_≡_}
 use mathlib.Core.Bool.{Bool, true, false, _||_}
 use mathlib.Core.List.{List, [], _∷_}
@@ -12,7 +12,7 @@ unfoldable pub listed : List ℕ → ℕ → Bool
 listed [] number = false
 listed (one ∷ numbers) number = eqb one number || listed numbers number
 
--- what the clause says: one of these, and no other
+-- what the clause says: the number is one of these
 abbrev pub OneOf : List ℕ → ℕ → Type 0
 OneOf numbers number = listed numbers number ≡ true
 
@@ -86,7 +86,7 @@ symmetricGraphNumbers =
     ∷ Refusal.valueNotFinite
     ∷ []
 
--- graphs from logarithms of our own: never 8
+-- graphs from whole-number logarithms: never 8
 abbrev pub wholeGeneralNumbers : List ℕ
 wholeGeneralNumbers =
     Refusal.accepted
@@ -183,7 +183,7 @@ chooserNumbers =
 abbrev pub logFactorNumbers : List ℕ
 logFactorNumbers = Refusal.accepted ∷ Refusal.tooManyColumns ∷ Refusal.sliceLength ∷ Refusal.matchingRange ∷ []
 
--- `log_factors_by_rule`, by either rule, and by the number of a rule, of which another gives 5
+-- `log_factors_by_rule`, by either rule, and by the number of a rule; an unknown number gives 5
 abbrev pub ruleNumbers : List ℕ
 ruleNumbers =
     Refusal.accepted

@@ -67,7 +67,7 @@ scaling-listed m external logs s Mc64Symmetric = part symmetricGraphNumbers (cho
 scaling-listed m external logs s Identity = part symmetricNumbers (choice-listed m external logs s Identity) refl
 scaling-listed m external logs s External = part externalNumbers (choice-listed m external logs s External) refl
 
--- a number that is no choice: 5, or what is wrong before
+-- an unknown choice: 5, or an earlier fault
 pub no-choice-listed : (m : Matrix) (factors : List Float) → Listed symmetricNumbers (noChoice m factors)
 unfolding listed noChoice
 no-choice-listed m factors = or-listed (input-listed m (lengthsFit m factors)) (record { is = refl })

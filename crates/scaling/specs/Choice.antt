@@ -43,11 +43,11 @@ abbrev pub slices : List Float → List Float → Graphs.Slices → Match.Slices
 slices factors maxima graph pairs factorWork =
     record { factors = factors; maxima = maxima; graph = graph; pairs = pairs; factorWork = factorWork }
 
--- only the factors are others
+-- the same with other factors
 abbrev pub withFactors : List Float → Slices → Slices
 withFactors factors s = slices factors (s .maxima) (s .graph) (s .pairs) (s .factorWork)
 
--- those that `compute_symmetric` is lent
+-- the slices that `compute_symmetric` is lent
 abbrev pub mc64Slices : Slices → Mc64.ScalingSlices
 mc64Slices s = Mc64.scalingSlices (s .graph) (s .pairs) (Factors.slices (s .factors) (s .factorWork))
 
@@ -59,7 +59,7 @@ ofScaled (scaled.PartialSingular unmatched) = PartialSingular unmatched
 ofScaled (scaled.Refused number) = Refused number
 
 -- ---- the choices
--- the external choice is refused: n and the entry count are tested before, no slice's length or contents
+-- the external choice is refused: only n and the entry count are tested before, no length or contents of a slice
 unfoldable pub externalFault : ℕ → ℕ → ℕ
 externalFault n count = orElse (sizeFault n maxSymmetric count true) externalChoice
 
@@ -93,8 +93,8 @@ unfolding choiceFault chosen
 computeScaling strategy m external logs s =
     refusing Refused (choiceFault strategy m external logs s) (chosen strategy m logs s) s
 
--- what the factors of the MC64 choice are good for, as `compute_symmetric` says it: every column is matched, the logs
--- that are read are whole and no factor is held
+-- what the factors of the MC64 choice achieve, as for `compute_symmetric`: every column is matched, the logs read are
+-- whole and no factor is held
 abbrev pub cacheOf : Slices → Match Float
 cacheOf s = matchOf (s .pairs .perm) (s .pairs .u) (s .pairs .v) (s .graph .cmax)
 
@@ -105,7 +105,7 @@ Balances strategy m logs answer after =
     → Balanced m logs (after .pairs .perm) (after .factors)
 
 -- ---- as numbers
--- the strategy of a number, in the Rust's order; above 4 there is none
+-- the strategy of a number, in the Rust's order; none above 4
 abbrev pub lastChoice : ℕ
 lastChoice = 4
 
@@ -116,7 +116,7 @@ strategyFor (suc (suc zero)) = Mc64Symmetric
 strategyFor (suc (suc (suc zero))) = Identity
 strategyFor (suc (suc (suc (suc more)))) = External
 
--- what a number that is no choice answers: the matrix is tested as for every choice, then the number
+-- the answer for an unknown number: the matrix is tested as for every choice, then the number
 unfoldable pub noChoice : Matrix → List Float → ℕ
 noChoice m factors = orElse (inputFault m (lengthsFit m factors)) indexRange
 
@@ -127,7 +127,7 @@ numberOf (PartialSingular unmatched) = accepted
 numberOf NotApplied = accepted
 numberOf (Refused number) = number
 
--- what was done and how many columns are unmatched; what was there where there are no factors
+-- what was done and how many columns are unmatched; what was there if there are no factors
 abbrev pub infoOf : Scaling → List ℕ → List ℕ
 infoOf Applied old = 0 ∷ 0 ∷ []
 infoOf (PartialSingular unmatched) old = 1 ∷ unmatched ∷ []
@@ -143,5 +143,5 @@ pub record Promises (strategy : ScalingStrategy) (m : Matrix) (external logs : L
   pub answered : numberOf r ≡ choiceFault strategy m external logs before
   -- the number is one of the call's list
   pub number : OneOf chooserNumbers (numberOf r)
-  -- the MC64 factors of whole logs balance the entries, where every column is matched
+  -- if every column is matched, the MC64 factors of whole logs balance the entries
   pub balanced : Balances strategy m logs r after

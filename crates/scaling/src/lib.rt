@@ -20,7 +20,7 @@ pub enum ScalingStrategy {
     External,
 }
 
-// What was done, or why nothing was.
+// What was done, or the refusal.
 pub enum Scaling {
     Applied,
     PartialSingular(u32),
@@ -28,7 +28,7 @@ pub enum Scaling {
     Refused(u32),
 }
 
-// The answer of an inf-norm call as the chooser's: its factors are applied, or its refusal.
+// The chooser's answer for that of an inf-norm call: its factors are applied, or its refusal.
 fn applied(answer: Validity) -> Scaling
     ensures { λ r. ⌜ r ≡ unlessRefused (factorNumber answer) Applied ⌝ }
 {
@@ -40,7 +40,7 @@ fn applied(answer: Validity) -> Scaling
     }
 }
 
-// The answer of the identity factors' number as the chooser's: nothing is applied, or its refusal.
+// The chooser's answer for the number of the identity factors: nothing is applied, or its refusal.
 fn not_applied(number: u32) -> Scaling
     ensures { λ r. ⌜ r ≡ unlessRefused number NotApplied ⌝ }
 {
@@ -51,7 +51,7 @@ fn not_applied(number: u32) -> Scaling
     }
 }
 
-// The answer of the log factors as the chooser's.
+// The chooser's answer for that of the log factors.
 fn of_scaled(answer: Scaled) -> Scaling
     ensures { λ r. ⌜ r ≡ ofScaled answer ⌝ }
 {
@@ -62,7 +62,7 @@ fn of_scaled(answer: Scaled) -> Scaling
     }
 }
 
-// Why the external choice is refused: n or the entry count is over its limit, else that it is external.
+// The refusal of the external choice: n or the entry count is over its limit, or else 12.
 pub fn external_fault(n: u32, count: usize) -> u32
     ensures { λ r. ⌜ r ≡ externalFault n count ⌝ }
 {
@@ -73,7 +73,7 @@ pub fn external_fault(n: u32, count: usize) -> u32
     refusal::EXTERNAL_CHOICE
 }
 
-// The factors by the strategy. `logs` and the slices behind `maxima` belong to MC64, `maxima` to the iterated kind;
+// The factors by the strategy. MC64 uses `logs` and the slices after `maxima`, the iterated kind uses `maxima`;
 // `external` is lent by hosts that still keep such factors, and is not read.
 pub fn compute_scaling(
     strategy: ScalingStrategy,
@@ -166,7 +166,7 @@ pub fn strategy_for(choice: u32) -> ScalingStrategy
     ScalingStrategy::External
 }
 
-// What a number that is no choice answers: the first thing wrong with the matrix or the length of the factors, else 5
+// The answer for an unknown choice: the first thing wrong with the matrix or the length of the factors, else 5
 // (SPECIFICATION 10.2).
 pub fn no_choice(n: u32, col_ptr: &[u32], row_idx: &[u32], values: &[f64], factors: &[f64]) -> u32
     ensures { λ r.
@@ -181,7 +181,7 @@ pub fn no_choice(n: u32, col_ptr: &[u32], row_idx: &[u32], values: &[f64], facto
     refusal::INDEX_RANGE
 }
 
-// What was done as two numbers, and 0; a refusal is answered and leaves them.
+// Writes what was done as two numbers and answers 0; a refusal is answered and leaves them as they were.
 pub fn put_info(done: Scaling, info: &mut [u32]) -> u32
     requires { ⌜ length (now info) ≡ 2 ⌝ }
     ensures { λ r. ⌜ (r ≡ numberOf done) × (now (info .exit) ≡ infoOf done (now (info .entry))) ⌝ }

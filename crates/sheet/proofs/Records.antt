@@ -1,4 +1,4 @@
--- The records of bytes, one after the other, and a record's bytes read back. By induction on the bytes that are left; each field stands where the
+-- The records of bytes, one after the other, and a record's bytes read back. By induction on the bytes that are left; each field is where the
 -- parts before it end.
 use mathlib.Core.Path.{_≡_, refl, sym, ap, ap₂, _∙_}
 use mathlib.Core.Bool.{Bool, true, false, cond}

@@ -11,7 +11,7 @@ use Rattle.sheet.proofs.RoundTrip as round
 use Rattle.sheet.proofs.Canonical as canonical
 use Rattle.sheet.proofs.Rewritten as rewritten
 
--- what is written, the reader of any order takes, and it means the same match, bits included
+-- the reader of any order takes what is written, and it means the same match, bits included
 pub written-reads-back : {n : ℕ} {m : Match ℕ} → round.Good n m → Means (sheetBytes n m) n m
 written-reads-back g = round.reads-back g
 
@@ -32,7 +32,7 @@ same-meaning-same-bytes a b c d e f o m =
 pub same-bytes-same-meaning : (a b : List ℕ) → a ≡ b → (orderOf a ≡ orderOf b) × (sheetMatch a ≡ sheetMatch b)
 same-bytes-same-meaning a b e = (ap orderOf e, ap sheetMatch e)
 
--- what the canonical reader accepts, the reader of any order accepts; both read the same match, `sheetMatch`
+-- the reader of any order accepts what the canonical reader accepts; both read the same match, `sheetMatch`
 pub canonical-is-taken : (sheet : List ℕ) → Canonical sheet → sheetFault sheet ≡ 0
 canonical-is-taken sheet c = canonical.canonical-taken sheet c
 
@@ -40,7 +40,7 @@ canonical-is-taken sheet c = canonical.canonical-taken sheet c
 pub taken-can-be-written : (sheet : List ℕ) → sheetFault sheet ≡ 0 → ((i : ℕ) → getD sheet i 0 < 256) → round.Good (orderOf sheet) (sheetMatch sheet)
 taken-can-be-written sheet e b = rewritten.taken-good sheet e b
 
--- an old sheet that was read and written again: the canonical reader accepts it, and it means what it meant
+-- the canonical reader accepts a sheet that was read and written again, which means what it meant
 pub rewritten-is-canonical : (sheet : List ℕ) → sheetFault sheet ≡ 0 → ((i : ℕ) → getD sheet i 0 < 256)
     → Canonical (sheetBytes (orderOf sheet) (sheetMatch sheet))
 rewritten-is-canonical sheet e b = written-is-canonical (taken-can-be-written sheet e b)

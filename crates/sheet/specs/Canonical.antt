@@ -13,7 +13,7 @@ use Rattle.sheet.specs.declared.Found.the-variants.{Is, Cut}
 use Rattle.sheet.specs.Format.{bitsOf}
 use Rattle.sheet.specs.Reading.{recordsOf, indexFault, orderOf, headFault}
 
--- 45: an empty map, or a field equal to what its absence means: the map is not that of the fields
+-- 45: an empty map, or a field equal to what its absence means: the map is not the writer's map of the fields
 unfoldable pub needlessFault : Record → ℕ
 needlessFault r = unless (ltb 0 (r .bits) && eqb (r .bits) (bitsOf (r .row) (r .u) (r .v) (r .cmax))) needlessField
 
@@ -21,7 +21,7 @@ needlessFault r = unless (ltb 0 (r .bits) && eqb (r .bits) (bitsOf (r .row) (r .
 unfoldable pub risingFault : ℕ → Record → ℕ
 risingFault next r = unless (leb next (r .patch)) patchOrder
 
--- the first fault of the records behind the patches below `next`
+-- the first fault of the records after the patches below `next`
 unfoldable pub canonicalFault : ℕ → ℕ → List Found → ℕ
 canonicalFault n next [] = accepted
 canonicalFault n next (Cut ∷ rest) = sheetCut

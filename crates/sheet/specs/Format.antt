@@ -1,5 +1,5 @@
 -- SPECIFICATION 5.16: The sheet file: n in two bytes, then records, each of a patch number, a map of bits and the
--- fields whose bits stand. All numbers are low byte first. u, v and cmax are the bits of doubles.
+-- fields whose bits are set. All numbers are low byte first. u, v and cmax are the bits of doubles.
 use mathlib.Core.Bool.{Bool, true, cond, _&&_, _||_}
 use mathlib.Core.List.{List, [], _∷_, _++_}
 use Prim.Native.Nat.{ℕ, zero, suc, _+_, _*_, _/_, _%_}
@@ -39,12 +39,12 @@ abbrev pub recordSize : ℕ → ℕ
 recordSize bits = cmaxAt bits + 8 * cmaxBit bits
 
 -- ---- a record read
--- a field of a bit: what its absence means, or the number that stands there
+-- the field of a bit: what its absence means, or the number in the record
 unfoldable pub fieldAt : (bit absent width : ℕ) → List ℕ → ℕ → ℕ
 fieldAt zero absent width bytes at = absent
 fieldAt (suc bit) absent width bytes at = numberAt width bytes at
 
--- the record of a map at the front of the bytes
+-- the record with this map at the front of the bytes
 unfoldable pub recordWith : ℕ → List ℕ → Record
 recordWith bits bytes = record {
   patch = numberAt 2 bytes 0;
@@ -63,7 +63,7 @@ firstRecord bytes =
     cond (leb (recordSize (getD bytes 2 0)) (length bytes)) (Is (recordWith (getD bytes 2 0) bytes)) Cut
 
 -- ---- a record written
--- a field where its bit stands, and nothing else
+-- a field if its bit is set, else nothing
 unfoldable pub part : (bit width value : ℕ) → List ℕ
 part zero width value = []
 part (suc bit) width value = bytesOf width value
@@ -74,7 +74,7 @@ recordBytes r =
     ++ (r .bits ∷ (part (rowBit (r .bits)) 2 (r .row) ++ (part (uBit (r .bits)) 8 (r .u)
     ++ (part (vBit (r .bits)) 8 (r .v) ++ part (cmaxBit (r .bits)) 8 (r .cmax)))))
 
--- 1 where a value differs from what its absence means
+-- 1 if a value differs from what its absence means
 abbrev pub stands : (absent value : ℕ) → ℕ
 stands absent value = cond (eqb value absent) 0 1
 

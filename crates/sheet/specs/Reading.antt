@@ -1,4 +1,4 @@
--- SPECIFICATION 5.16: What a sheet file means, and the refusal of one that is not taken: at the first record at fault.
+-- SPECIFICATION 5.16: What a sheet file means, and the refusal of a bad file: at the first record at fault.
 use mathlib.Core.Path.{_≡_}
 use mathlib.Core.Bool.{_&&_}
 use mathlib.Core.List.{List, [], _∷_}
@@ -15,13 +15,13 @@ use Rattle.sheet.specs.declared.Found.{Found}
 use Rattle.sheet.specs.declared.Found.the-variants.{Is, Cut}
 use Rattle.sheet.specs.Format.{recordSize, firstRecord, rowOrNone}
 
--- ---- the records of the bytes behind n
--- a record and those behind it; nothing is read behind a cut
+-- ---- the records of the bytes after n
+-- a record and those after it; nothing is read after a cut
 abbrev pub follow : Found → List Found → List Found
 follow (Is r) behind = Is r ∷ behind
 follow Cut behind = Cut ∷ []
 
--- the bytes behind a record
+-- the bytes after a record
 abbrev pub behind : Found → List ℕ → List ℕ
 behind (Is r) bytes = drop (recordSize (r .bits)) bytes
 behind Cut bytes = []
@@ -33,7 +33,7 @@ records (suc fuel) [] = []
 records (suc fuel) (byte ∷ bytes) =
     follow (firstRecord (byte ∷ bytes)) (records fuel (behind (firstRecord (byte ∷ bytes)) (byte ∷ bytes)))
 
--- all of them: there are fewer than bytes
+-- all of them: there are fewer records than bytes
 unfoldable pub recordsOf : List ℕ → List Found
 recordsOf bytes = records (length bytes) bytes
 
@@ -42,11 +42,11 @@ recordsOf bytes = records (length bytes) bytes
 unfoldable pub indexFault : ℕ → Record → ℕ
 indexFault n r = unless (ltb (r .bits) 16 && (ltb (r .patch) n && rowOrNone n (r .row))) sheetIndex
 
--- 42: a patch that was given before, which its mark says
+-- 42: a patch that was given before, as its mark says
 unfoldable pub repeatFault : ℕ → ℕ
 repeatFault mark = unless (eqb mark 0) patchTwice
 
--- the first fault of the records behind those that left the marks
+-- the first fault of the records after those that left the marks
 unfoldable pub recordsFault : ℕ → List ℕ → List Found → ℕ
 recordsFault n marks [] = accepted
 recordsFault n marks (Cut ∷ rest) = sheetCut
@@ -59,7 +59,7 @@ recordsFault n marks (Is r ∷ rest) =
 abbrev pub blank : ℕ → Match ℕ
 blank n = matchOf (replicate n none) (replicate n 0) (replicate n 0) (replicate n 0)
 
--- a record's fields put at its patch
+-- the fields of a record stored at its patch
 abbrev pub store : Record → Match ℕ → Match ℕ
 store r m =
     matchOf (set (m .perm) (r .patch) (r .row)) (set (m .u) (r .patch) (r .u)) (set (m .v) (r .patch) (r .v))
@@ -71,7 +71,7 @@ stored (Cut ∷ rest) m = m
 stored (Is r ∷ rest) m = stored rest (store r m)
 
 -- ---- a file
--- n is at most 4,096, and so many patches can be marked
+-- n is at most 4,096, which is the number of marks
 abbrev pub maxPatches : ℕ
 maxPatches = maxColumns
 

@@ -1,4 +1,4 @@
-// One record of a sheet file, read and sized.
+// One record of a sheet file: reading it, and its length.
 use limits::NONE;
 ghost use mathlib.Core.Path.{_≡_};
 ghost use Prim.Native.Nat.{_+_, _≤_};
@@ -26,7 +26,7 @@ pub enum Found {
     Cut,
 }
 
-// The number whose two bytes stand from `at` on.
+// The number of the two bytes from `at` on.
 pub fn get_two(bytes: &[u8], at: usize) -> u32
     requires { ⌜ at + 2 ≤ length (now bytes) ⌝ }
     ensures { λ r. ⌜ r ≡ numberAt 2 (now (bytes .entry)) at ⌝ }
@@ -47,19 +47,19 @@ pub fn record_size(bits: u32) -> usize
     3 + row + u + v + cmax
 }
 
-// A row, or NONE, and the place behind it; or it is cut.
+// A row, or NONE, and the place after it; or cut.
 enum TakenRow {
     Row(u32, usize),
     RowCut,
 }
 
-// A number, or 0, and the place behind it; or it is cut.
+// A number, or 0, and the place after it; or cut.
 enum TakenNumber {
     Number(u64, usize),
     NumberCut,
 }
 
-// A field's own branch says where the next one begins: the processor need not wait for the map.
+// The branch of each field says where the next one begins: the processor need not wait for the map.
 fn take_row(bit: u32, bytes: &[u8]) -> TakenRow
     requires { ⌜ bit ≤ 1 ⌝ }
     requires { ⌜ 3 ≤ length (now bytes) ⌝ }
@@ -74,7 +74,7 @@ fn take_row(bit: u32, bytes: &[u8]) -> TakenRow
     TakenRow::Row(get_two(bytes, 3), 5)
 }
 
-// The bits of a number and the place behind it: 0 where its bit does not stand, cut where bytes lack.
+// The bits of a number and the place after it: 0 if its bit is not set, cut if bytes are missing.
 fn take_number(bit: u32, bytes: &[u8], at: usize) -> TakenNumber
     requires { ⌜ bit ≤ 1 ⌝ }
     requires { ⌜ at ≤ length (now bytes) ⌝ }
@@ -120,7 +120,7 @@ pub fn first_record(bytes: &[u8]) -> Found
     })
 }
 
-// 1 where a column has a row.
+// 1 if a column has a row.
 pub fn row_stands(row: u32) -> u32
     ensures { λ r. ⌜ r ≡ stands none row ⌝ }
 {
@@ -130,7 +130,7 @@ pub fn row_stands(row: u32) -> u32
     1
 }
 
-// 1 where the bits of a number are not those of +0.0.
+// 1 if the bits of a number are not those of +0.0.
 fn number_stands(bits: u64) -> u32
     ensures { λ r. ⌜ r ≡ stands 0 bits ⌝ }
 {

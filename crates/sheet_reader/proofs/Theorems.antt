@@ -63,7 +63,7 @@ canonical-records-listed n next (Is r ∷ rest) =
     (or-listed (test (ltb 0 (r .bits) && eqb (r .bits) (bitsOf (r .row) (r .u) (r .v) (r .cmax))) needlessField refl refl)
     (or-listed (test (leb next (r .patch)) patchOrder refl refl) (canonical-records-listed n (suc (r .patch)) rest)))
 
--- where a slice of the caller's has another length
+-- if a slice of the caller has a wrong length
 pub length-listed : (sheet : List ℕ) → Listed readSheetNumbers (sizes sheet false)
 unfolding listed
 length-listed sheet = sizes-listed readSheetNumbers refl refl refl refl sheet false
@@ -140,7 +140,7 @@ fault-is : (fault : ℕ) (sheet : List ℕ) (before : Match ℕ) → numberOf (o
 fault-is zero sheet before e = refl
 fault-is (suc fault) sheet before e = e
 
--- what the canonical reader accepts, the other reads alike
+-- the other reader reads what the canonical reader accepts, with the same meaning
 pub canonical-reads-alike : (sheet : List ℕ) (before : Match ℕ) → numberOf (canonicalOutcome sheet before .answer) ≡ 0
     → canonicalOutcome sheet before ≡ readOutcome sheet before
 unfolding outcomeBy

@@ -67,7 +67,7 @@ abbrev pub canonicalOutcome : List ℕ → Match ℕ → Outcome Reading (Match 
 canonicalOutcome sheet before = outcomeBy (bodyOf true sheet) sheet before
 
 -- ---- of an accepted call
--- `read_sheet` takes the file, which means the match that the slices then hold; its rows are counted
+-- `read_sheet` takes the file, which means the match that the slices then hold, and counts its rows
 pub record Holds (sheet : List ℕ) (n matched : ℕ) (after : Match ℕ) : Type 0 where
   pub means : Means sheet n after
   pub count : matched ≡ rowsPresent (after .perm)
@@ -75,7 +75,7 @@ pub record Holds (sheet : List ℕ) (n matched : ℕ) (after : Match ℕ) : Type
 abbrev pub Holding : List ℕ → (number n matched : ℕ) → Match ℕ → Type 0
 Holding sheet number n matched after = number ≡ accepted → Holds sheet n matched after
 
--- what was read and is written is canonical, and means the same
+-- the match that was read is written as a canonical file that means the same
 pub record Rewritten (n : ℕ) (after : Match ℕ) : Type 0 where
   pub canonical : Canonical (sheetBytes n after)
   pub means : Means (sheetBytes n after) n after
@@ -83,7 +83,7 @@ pub record Rewritten (n : ℕ) (after : Match ℕ) : Type 0 where
 abbrev pub Rewriting : (number n : ℕ) → Match ℕ → Type 0
 Rewriting number n after = number ≡ accepted → Rewritten n after
 
--- what the canonical reader took is written as it was
+-- the match that the canonical reader read is written as the same file
 abbrev pub WrittenAgain : List ℕ → (number n : ℕ) → Match ℕ → Type 0
 WrittenAgain sheet number n after = number ≡ accepted → sheetBytes n after ≡ sheet
 

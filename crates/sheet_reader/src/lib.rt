@@ -16,7 +16,7 @@ ghost use Rattle.slices.specs.Outcome.{outcomeIs};
 ghost use Rattle.sheet_reader.specs.inner.Steps.{faultOf};
 ghost use Rattle.sheet_reader.specs.Call.{bodyOf, lengths, sizes, outcomeBy, ReadPromises, CanonicalPromises};
 
-// What `read_sheet` answers: n and the matched count, or why nothing was read.
+// What `read_sheet` answers: n and the matched count, or the refusal.
 pub enum Reading {
     Read(u32, u32),
     Refused(u32),
@@ -68,7 +68,7 @@ fn test_records(n: u32, sheet: &[u8], marks: &mut [u8]) -> u32
     refusal::ACCEPTED
 }
 
-// The first fault of the records behind n.
+// The first fault of the records after n.
 fn records_fault(n: u32, sheet: &[u8]) -> u32
     requires { ⌜ n ≤ maxColumns ⌝ }
     ensures { λ r. ⌜ r ≡ recordsFault n noMarks (recordsOf (drop 2 (now (sheet .entry)))) ⌝ }
@@ -157,7 +157,7 @@ fn clear_numbers(list: &mut [u64])
     }
 }
 
-// Puts every record's fields at its patch.
+// Stores the fields of every record at its patch.
 fn store_records(sheet: &[u8], perm: &mut [u32], u: &mut [u64], v: &mut [u64], cmax: &mut [u64])
     requires { ⌜ Inside (length (now perm)) (recordsOf (drop 2 (now sheet))) ⌝ }
     requires { ⌜ length (now u) ≡ length (now perm) ⌝ }
@@ -210,7 +210,7 @@ fn head_fault(sheet: &[u8]) -> u32
     refusal::ACCEPTED
 }
 
-// What a caller answers where a slice of its own has another length: the fault of n, or refusal 3.
+// What a caller answers if a slice of its own has a wrong length: the fault of n, or refusal 3.
 pub fn length_fault(sheet: &[u8]) -> u32
     ensures { λ r. ⌜ r ≡ sizes (now (sheet .entry)) false ⌝ }
 {
@@ -230,7 +230,7 @@ fn lengths_fit(n: usize, perm: &[u32], u: &[u64], v: &[u64], cmax: &[u64]) -> bo
     (perm.len() == n) & ((u.len() == n) & ((v.len() == n) & (cmax.len() == n)))
 }
 
-// The first record at fault, by the tests of the one reader or of the other.
+// The first record at fault, by the tests of either reader.
 fn body_fault(canonical: bool, n: u32, sheet: &[u8]) -> u32
     requires { ⌜ n ≤ maxColumns ⌝ }
     ensures { λ r. ⌜ r ≡ faultOf canonical n (recordsOf (drop 2 (now (sheet .entry)))) ⌝ }
@@ -241,7 +241,7 @@ fn body_fault(canonical: bool, n: u32, sheet: &[u8]) -> u32
     records_fault(n, sheet)
 }
 
-// Both readers, which differ in the tests of a record.
+// Both readers, which differ only in the tests of a record.
 fn read_by(
     canonical: bool,
     sheet: &[u8],

@@ -44,7 +44,7 @@ unfolding rowsFit
 rows-fit n [] h = refl
 rows-fit n (row ∷ perm) h = rw (h 0 (omega arith)) (rows-fit n perm (λ k l. h (suc k) (omega arith)))
 
--- so a match that was read from a file that is taken is written again
+-- so a match read from an accepted file is written again
 pub can-be-written : {n : ℕ} {m : Match ℕ} (old : List ℕ) → Good n m → length old ≡ roomFor n → writeFault n (rowsPresent (m .perm)) m old ≡ 0
 unfolding sizeFault lengths matchFault
 can-be-written {n} {m} old g room =
@@ -60,7 +60,7 @@ can-be-written {n} {m} old g room =
     )
     refl
 
--- what was read from a file that is taken is written, with the count of its rows
+-- the match read from an accepted file is written, with the count of its rows
 pub read-is-written : (sheet old : List ℕ) → sheetFault sheet ≡ 0 → ((i : ℕ) → getD sheet i 0 < 256) → length old ≡ roomFor (orderOf sheet)
     → writeOutcome (orderOf sheet) (rowsPresent (sheetMatch sheet .perm)) (sheetMatch sheet) old
     ≡ outcomeIs (Used (length (sheetBytes (orderOf sheet) (sheetMatch sheet)))) (sets old 0 (sheetBytes (orderOf sheet) (sheetMatch sheet)))

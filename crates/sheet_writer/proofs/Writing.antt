@@ -1,4 +1,4 @@
--- What the writer's functions cite: a field by its bit, a record that is not empty, one patch more, and the tests of the call. By the cases of each
+-- What the writer's functions cite: a field by its bit, a record that is not empty, one more patch, and the tests of the call. By the cases of each
 -- definition.
 use mathlib.Core.Path.{_≡_, refl, sym}
 use mathlib.Core.Bool.{Bool, true, false, _&&_}

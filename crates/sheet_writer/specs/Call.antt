@@ -38,7 +38,7 @@ lengths n m sheet =
     && (eqb (length (m .u)) n
     && (eqb (length (m .v)) n && (eqb (length (m .cmax)) n && eqb (length sheet) (roomFor n))))
 
--- 10: an entry of perm neither none nor below n, or a matched count that is not the number of rows present
+-- 10: an entry of perm is neither none nor below n, or the matched count is not the number of rows present
 unfoldable pub matchFault : ℕ → ℕ → List ℕ → ℕ
 matchFault n matched perm = unless (rowsFit n perm && eqb (rowsPresent perm) matched) matchingRange
 
@@ -49,7 +49,7 @@ sizes n fit = sizeFault n 0 0 fit
 abbrev pub writeFault : ℕ → ℕ → Match ℕ → List ℕ → ℕ
 writeFault n matched m sheet = orElse (sizes n (lengths n m sheet)) (matchFault n matched (m .perm))
 
--- an accepted call: the file, and behind it what was there
+-- an accepted call: the file, followed by what was there
 abbrev pub written : ℕ → Match ℕ → List ℕ → Outcome Written (List ℕ)
 written n m old = outcomeIs (Used (length (sheetBytes n m))) (sets old 0 (sheetBytes n m))
 

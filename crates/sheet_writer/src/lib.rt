@@ -12,7 +12,7 @@ ghost use Rattle.text_report.specs.inner.Steps.{Wrote};
 ghost use Rattle.sheet.specs.Format.{part, recordBytes, patchBytes, sheetBytes, rowOrNone, rowsFit};
 ghost use Rattle.sheet_writer.specs.Call.{lengths, matchFault, Promises};
 
-// What `write_sheet` answers: how many bytes it used, or why there are none.
+// What `write_sheet` answers: how many bytes it used, or the refusal.
 pub enum Written {
     Used(u32),
     Refused(u32),
@@ -28,7 +28,7 @@ fn put_two(out: &mut [u8], at: usize, value: u32) -> usize
     at + 2
 }
 
-// The two bytes of a row, if its bit stands.
+// The two bytes of a row, if its bit is set.
 fn put_row(out: &mut [u8], at: usize, bit: u32, row: u32) -> usize
     requires { ⌜ at + 2 * bit ≤ length (now out) ⌝ }
     ensures { λ r. ⌜ Wrote (now (out .entry)) at (part bit 2 row) (now (out .exit)) r ⌝ }
@@ -39,7 +39,7 @@ fn put_row(out: &mut [u8], at: usize, bit: u32, row: u32) -> usize
     put_two(out, at, row)
 }
 
-// The eight bytes of a number, if its bit stands.
+// The eight bytes of a number, if its bit is set.
 fn put_long(out: &mut [u8], at: usize, bit: u32, value: u64) -> usize
     requires { ⌜ at + 8 * bit ≤ length (now out) ⌝ }
     ensures { λ r. ⌜ Wrote (now (out .entry)) at (part bit 8 value) (now (out .exit)) r ⌝ }
@@ -51,7 +51,7 @@ fn put_long(out: &mut [u8], at: usize, bit: u32, value: u64) -> usize
     at + 8
 }
 
-// A record: its patch, its map of bits, and the fields whose bits stand.
+// A record: its patch, its map of bits, and the fields whose bits are set.
 fn put_record(out: &mut [u8], at: usize, r: Record) -> usize
     requires { ⌜ r .bits < 256 ⌝ }
     requires { ⌜ at + 29 ≤ length (now out) ⌝ }
@@ -66,7 +66,7 @@ fn put_record(out: &mut [u8], at: usize, r: Record) -> usize
     put_long(out, v, bits / 8 % 2, r.cmax)
 }
 
-// The record of a patch that has something to say.
+// The record of a patch that has a field.
 fn put_patch(out: &mut [u8], at: usize, patch: u32, row: u32, u: u64, v: u64, cmax: u64) -> usize
     requires { ⌜ at + 29 ≤ length (now out) ⌝ }
     ensures { λ r. ⌜ Wrote (now (out .entry)) at (patchBytes patch row u v cmax) (now (out .exit)) r ⌝ }
@@ -87,7 +87,7 @@ fn put_patch(out: &mut [u8], at: usize, patch: u32, row: u32, u: u64, v: u64, cm
     put_record(out, at, r)
 }
 
-// The file: n, then the record of each patch that has something to say.
+// The file: n, then the record of each patch that has a field.
 fn put_sheet(n: u32, perm: &[u32], u: &[u64], v: &[u64], cmax: &[u64], out: &mut [u8]) -> usize
     requires { ⌜ n ≤ maxColumns ⌝ }
     requires { ⌜ lengths n (matchOf (now perm) (now u) (now v) (now cmax)) (now out) ≡ true ⌝ }

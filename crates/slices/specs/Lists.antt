@@ -1,4 +1,4 @@
--- Lists by parts: a number that is kept or not, and a table of a function.
+-- Two small lists: one number or none, and the values of a function.
 use mathlib.Core.Bool.{Bool, true, false}
 use mathlib.Core.List.{List, [], _∷_, _++_}
 use Prim.Native.Nat.{ℕ, zero, suc}

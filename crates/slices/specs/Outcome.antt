@@ -12,8 +12,8 @@ outcomeIs answer after = record { answer = answer; after = after }
 abbrev pub asNumber : ℕ → ℕ
 asNumber number = number
 
--- A refused call changes nothing: with no fault the call does what it is for; any other number is answered, and
--- everything is as it was before.
+-- A refused call changes nothing: without a fault the call does its work; otherwise it answers the fault and leaves
+-- everything as it was.
 abbrev pub refusing : {A S : Type 0} → (ℕ → A) → ℕ → Outcome A S → S → Outcome A S
 refusing refused zero done before = done
 refusing refused (suc fault) done before = outcomeIs (refused (suc fault)) before

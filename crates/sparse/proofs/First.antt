@@ -1,4 +1,4 @@
--- Laws of the first fault: how a loop finds it, and that it is 0 exactly where nothing is wrong. By one step of the definition each.
+-- Laws of the first fault: how a loop finds it, and that it is 0 exactly if nothing is wrong. By one step of the definition each.
 use mathlib.Core.Path.{_≡_, refl, sym, ap, _∙_, subst}
 use mathlib.Core.Bool.{Bool, true, false, not, _||_}
 use mathlib.Core.Logic.{_↔_, _≢_}

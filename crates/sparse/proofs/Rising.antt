@@ -1,4 +1,4 @@
--- A column has no fault exactly where its rows rise to one below n: every row is below the last one, or it.
+-- A column has no fault exactly if its rows rise to one below n: every row is below the last one, or it.
 use mathlib.Core.Path.{_≡_, refl, sym, _∙_, subst}
 use mathlib.Core.Bool.{Bool, true, false, cond, _&&_}
 use mathlib.Core.List.{List}

@@ -7,7 +7,7 @@ use lib.ListN.{length, getD}
 use Rattle.limits.specs.Limits.{maxColumns}
 use Rattle.sparse.specs.Matrix.{Matrix}
 
--- within the limits, and every slice as long as it should be
+-- within the limits, and every slice has its length
 pub record Sizes (limit : ℕ) (m : Matrix) : Type 0 where
   pub columns : m .pattern .n ≤ maxColumns
   pub entries : length (m .pattern .rowIdx) ≤ limit

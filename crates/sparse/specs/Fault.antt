@@ -1,14 +1,14 @@
--- SPECIFICATION 3.5: Faults have an order: what is said is 0 where nothing is wrong, else the number of the first thing
--- that is.
+-- SPECIFICATION 3.5: Faults have an order: the answer is 0 if nothing is wrong, else the number of the first thing
+-- wrong.
 use mathlib.Core.Bool.{Bool, true, false}
 use Prim.Native.Nat.{ℕ, zero, suc}
 
--- no fault where the test holds, else the number
+-- no fault if the test holds, else the number
 abbrev pub unless : Bool → ℕ → ℕ
 unless true number = 0
 unless false number = number
 
--- the first fault, and the second where there is no first
+-- the first fault, or the second if there is no first
 abbrev pub orElse : ℕ → ℕ → ℕ
 orElse zero second = second
 orElse (suc first) second = suc first

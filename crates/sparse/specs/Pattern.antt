@@ -26,7 +26,7 @@ start p j = getD (p .colPtr) j 0
 abbrev pub end : Pattern → ℕ → ℕ
 end p j = getD (p .colPtr) (suc j) 0
 
--- how many entries
+-- the number of entries
 abbrev pub entries : Pattern → ℕ
 entries p = length (p .rowIdx)
 
@@ -39,7 +39,7 @@ columnOf p k = sumTo (p .n) (λ j. orZero (leb (end p j) k) 1)
 abbrev pub bipartite : Pattern → Bipartite
 bipartite p = record { n = p .n; entries = entries p; row = rowOf p; col = columnOf p }
 
--- entry k stands in column j
+-- entry k is in column j
 pub record InColumn (p : Pattern) (j k : ℕ) : Type 0 where
   pub column : j < p .n
   pub above : start p j ≤ k

@@ -1,4 +1,4 @@
-// A symmetric matrix, of which the lower triangle is stored.
+// A symmetric matrix, stored as its lower triangle.
 use crate::general;
 use crate::layout;
 use crate::layout::Assembled;
@@ -18,7 +18,7 @@ ghost use Rattle.triplets.specs.Built.{triplets, slices, keptCount};
 ghost use Rattle.sparse.specs.Assemble.{AnswersBy, lowerTriplet, symmetricTripletFault};
 ghost use Rattle.sparse.specs.Assemble.{symmetricAssembly, numberOf as tripletNumber};
 
-// Refusals 5 and 6 of column j, whose entries stand from `from` up to `to`.
+// Refusals 5 and 6 of column j, whose entries are those from `from` up to `to`.
 pub fn lower_fault(n: usize, row_idx: &[u32], j: usize, from: usize, to: usize) -> u32
     requires { ⌜ to ≤ length (now «row_idx») ⌝ }
     ensures { λ r. ⌜ r ≡ lowerColumn n (now («row_idx» .entry)) j from to ⌝ }
@@ -99,7 +99,7 @@ pub fn columns_fault(n: usize, col_ptr: &[u32], row_idx: &[u32]) -> u32
     refusal::ACCEPTED
 }
 
-// Whether it is a matrix within the limits: the first thing that is wrong refuses it.
+// Tests a matrix: the first thing wrong refuses it.
 pub fn validate(n: u32, col_ptr: &[u32], row_idx: &[u32], values: &[f64]) -> Validity
     ensures answer { λ r.
         let fault = symmetricFault (matrix n (now («col_ptr» .entry)) (now («row_idx» .entry)) (now (values .entry))) in

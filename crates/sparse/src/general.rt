@@ -1,4 +1,4 @@
-// A general matrix: every entry stands for itself.
+// A general matrix: every entry is stored.
 use crate::layout;
 use crate::layout::Assembled;
 use crate::layout::Validity;
@@ -16,8 +16,8 @@ ghost use Rattle.triplets.specs.Built.{triplets, slices, keptCount};
 ghost use Rattle.sparse.specs.Assemble.{AnswersBy, generalTriplet, generalTripletFault};
 ghost use Rattle.sparse.specs.Assemble.{generalAssembly, numberOf as tripletNumber};
 
-// Whether a column has no fault: it rises to a row below n. There is no way out of the loop, so that it runs through
-// several entries at a time.
+// Whether a column has no fault: it rises to a row below n. The loop has no early exit, so that it can test several
+// entries at a time.
 pub fn column_rises(n: usize, row_idx: &[u32], from: usize, to: usize) -> bool
     requires { ⌜ from ≤ to ⌝ ∗ ⌜ to ≤ length (now «row_idx») ⌝ }
     ensures { λ r. ⌜ r ≡ eqb (generalColumn n (now («row_idx» .entry)) from to) 0 ⌝ }
@@ -55,7 +55,7 @@ fn first_fault(n: usize, row_idx: &[u32], from: usize, to: usize) -> u32
     refusal::ACCEPTED
 }
 
-// Refusals 5 and 7 of one column, whose entries stand from `from` up to `to`.
+// Refusals 5 and 7 of one column, whose entries are those from `from` up to `to`.
 fn column_fault(n: usize, row_idx: &[u32], from: usize, to: usize) -> u32
     requires { ⌜ from ≤ to ⌝ ∗ ⌜ to ≤ length (now «row_idx») ⌝ }
     ensures { λ r. ⌜ r ≡ generalColumn n (now («row_idx» .entry)) from to ⌝ }
@@ -83,7 +83,7 @@ pub fn columns_fault(n: usize, col_ptr: &[u32], row_idx: &[u32]) -> u32
     refusal::ACCEPTED
 }
 
-// Whether it is a matrix within the limits: the first thing that is wrong refuses it.
+// Tests a matrix: the first thing wrong refuses it.
 pub fn validate(n: u32, col_ptr: &[u32], row_idx: &[u32], values: &[f64]) -> Validity
     ensures answer { λ r.
         let fault = generalFault (matrix n (now («col_ptr» .entry)) (now («row_idx» .entry)) (now (values .entry))) in

@@ -1,5 +1,5 @@
--- The two accounts of the root agree: the computed answer is an answer as IEEE 754 asks it (`sqrt-correct`), and there is one at most
--- (`answer-unique`). Its number is 0 or 11 (`root-listed`).
+-- The two accounts of the root agree: the computed answer is an answer as IEEE 754 requires it (`sqrt-correct`), and there is at most
+-- one (`answer-unique`). Its number is 0 or 11 (`root-listed`).
 use mathlib.Core.Path.{_≡_, refl, sym, ap, _∙_, subst}
 use mathlib.Core.Bool.{true, false}
 use Prim.Native.Nat.{ℕ, zero, suc, _+_, _*_, _/_, _^_, _≤_, _<_}

@@ -1,7 +1,6 @@
--- Whole roots of plain numbers. There is one at most (`root-unique`), and the definition's digit steps find it (`root-found`). Half of it, rounded up,
--- is the nearest number to
--- half of the exact root (`over-half`, `under-half`). And one division gives 27 digits more of it (`extended-down`, `extended-up`);
--- near a power of 4 it lies on a straight line (`near-above`, `near-below`).
+-- Whole roots of plain numbers. There is at most one (`root-unique`), and the definition's digit steps find it (`root-found`). Half of it, rounded up,
+-- is the nearest number to half of the exact root (`over-half`, `under-half`). And one division gives 27 more digits of it (`extended-down`,
+-- `extended-up`); near a power of 4 it lies on a straight line (`near-above`, `near-below`).
 use mathlib.Core.Path.{_≡_, sym, ap, _∙_, subst}
 use mathlib.Core.Bool.{Bool, true, false, not, cond}
 use mathlib.Core.Logic.{_⊎_, inl, inr, _≢_}

@@ -18,12 +18,12 @@ abbrev pub numberOf : Root → ℕ
 numberOf (Is y) = accepted
 numberOf (Refused number) = number
 
--- the root itself, a NaN where there is none
+-- the root itself, NaN if there is none
 abbrev pub valueOf : Root → Float
 valueOf (Is y) = y
 valueOf (Refused number) = quietNan
 
--- 11 for a NaN and for whatever is below zero, else 0
+-- 11 for a NaN and for a number below zero, else 0
 abbrev pub rootFault : Float → ℕ
 rootFault nan = noRoot
 rootFault (inf true) = noRoot
@@ -40,7 +40,7 @@ unfoldable pub square : Float → ℕ
 unfolding magnitude unitsPerOne
 square x = magnitude x * unitsPerOne
 
--- ---- what IEEE 754 asks
+-- ---- what IEEE 754 requires
 
 -- y is the double that is nearest to the exact root of x, a finite x above zero: the exact root lies below the middle
 -- of y and any larger double z, and above the middle of y and any smaller one. The middle is (magnitude y + magnitude
@@ -55,8 +55,8 @@ pub record Nearest (x y : Float) : Type 0 where
   pub over : (z : Float) → Number z → negative z ≡ false → magnitude z < magnitude y
       → (magnitude y + magnitude z) * (magnitude y + magnitude z) < 4 * square x
 
--- r answers for x: a NaN and whatever is below zero is refused, infinity and the zeros are their own roots, -0.0 with
--- its sign, and of other numbers the nearest double is given
+-- r is the answer for x: a NaN and a number below zero are refused, infinity and the zeros are their own roots, -0.0
+-- with its sign, and other numbers get the nearest double
 abbrev pub Answer : Float → Root → Type 0
 Answer nan r = r ≡ Refused noRoot
 Answer (inf true) r = r ≡ Refused noRoot
@@ -71,7 +71,7 @@ Answer (fin false (suc m) e) r = (y : Float) × (r ≡ Is y) × Nearest (fin fal
 abbrev pub longer : ℕ → ℕ → ℕ
 longer n q = cond (leb ((q + 1) * (q + 1)) n) (q + 1) q
 
--- the whole root of an n below 4 ^ d, a digit a step
+-- the whole root of an n below 4 ^ d, one digit at a time
 unfoldable pub wholeRoot : ℕ → ℕ → ℕ
 wholeRoot zero n = 0
 wholeRoot (suc d) n = longer n (2 * wholeRoot d (n / 4))

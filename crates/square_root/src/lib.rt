@@ -51,8 +51,8 @@ fn positive_root(bits: u64) -> f64
     f64::from_bits((h - 52) / 2 * 0x10_0000_0000_0000 + (q + 1) / 2)
 }
 
-// The whole root of n * 2 ^ 54; the double from 1 to 4 that has these bits is n / 2 ^ 52, of which only the guess
-// depends. Near a power of 4 the root lies on a straight line, and needs no search.
+// The whole root of n * 2 ^ 54; the double from 1 to 4 that has these bits is n / 2 ^ 52; only the guess depends on it.
+// Near a power of 4 the root lies on a straight line and needs no search.
 fn whole_root(n: u64, bits: u64) -> u64
     requires { ⌜ (2 ^ 52 ≤ n) × (n < 2 ^ 54) ⌝ }
     requires { ⌜ bits < 0x4010_0000_0000_0000 ⌝ }
@@ -121,8 +121,8 @@ fn raised(n: u64, from: u64) -> u64
     s
 }
 
-// The whole root of n * 2 ^ 54 from the whole root s of n (Zimmermann, Karatsuba Square Root): what is
-// left of n, divided by 2 * s, gives the 27 digits that follow, or one more than they are.
+// The whole root of n * 2 ^ 54 from the whole root s of n (Zimmermann, Karatsuba Square Root): the rest of n, divided
+// by 2 * s, gives the 27 digits that follow, or one more.
 fn extended(n: u64, s: u64) -> u64
     requires { ⌜ (2 ^ 52 ≤ n) × (n < 2 ^ 54) × WholeRoot n s ⌝ }
     ensures { λ r. ⌜ WholeRoot (n * 2 ^ 54) r ⌝ }

@@ -1,4 +1,4 @@
--- suontarvi_scaling: the number and the info of each way out. The other clauses follow from what is answered and left.
+-- suontarvi_scaling: the number and the info of each return. The other clauses follow from what is answered and left.
 use mathlib.Core.Path.{_≡_, refl, sym, ap, ap₂, _∙_, subst}
 use mathlib.Core.Logic.{_≢_}
 use mathlib.Core.Bool.{Bool, true, false, cond, false≢true}

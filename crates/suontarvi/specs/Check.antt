@@ -1,4 +1,4 @@
--- SPECIFICATION 5.15: suontarvi_check_match: what a host may rely on of its own matches, by what suontarvi_match left.
+-- SPECIFICATION 5.15: suontarvi_check_match: what a host may rely on for its own matches, by what suontarvi_match left.
 use mathlib.Core.Path.{_≡_}
 use mathlib.Core.List.{List}
 use Prim.Native.Nat.{ℕ}

@@ -15,7 +15,7 @@ use Rattle.factors_mc64.specs.declared.Scaled.the-variants.{Applied, PartialSin
 use Rattle.factors_mc64.specs.Calls.{numberOf, unmatchedOf, sizes, Slices, logFactorsFault, scaled}
 use Rattle.byte_forms.specs.FactorBytes.{FactorBytes}
 
--- the count left: how many columns are unmatched, and what was there where there are no factors
+-- the count left: the number of unmatched columns, or what was there if there are no factors
 abbrev pub unmatchedLeft : Scaled → List ℕ → List ℕ
 unmatchedLeft Applied old = unmatchedOf Applied ∷ []
 unmatchedLeft (PartialSingular unmatched) old = unmatchedOf (PartialSingular unmatched) ∷ []

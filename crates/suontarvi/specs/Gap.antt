@@ -16,7 +16,7 @@ pub record GapPromises (digits : ℕ) (g : CostGraph) (c : Claim) (before : List
   pub slice : after ≡ gapOutcome digits g c before .after
   -- the number is one of the call's list
   pub number : OneOf gapNumbers r
-  -- the total of the pairs is at most that of every complete matching and the gap
+  -- the total of the pairs is at most that of every complete matching plus the gap
   pub near : Near digits g c r after
   -- what `check_match` accepts has no gap
   pub none : NoGap g c r after

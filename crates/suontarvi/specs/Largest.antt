@@ -13,8 +13,8 @@ use Rattle.hungarian_match.specs.Call.{Slices as MatchSlices}
 use Rattle.match_largest.specs.Call.{numberOf, Slices, Room, largestOutcome, Exactly, Shows}
 use Rattle.suontarvi.specs.Match.{matchResult}
 
--- perm is what a call of `suontarvi_match` left on this pattern with some costs, doubles as whatever a machine holds
--- is: whatever the slices held before, the call answered 0 and left this perm
+-- perm is what a call of `suontarvi_match` left on this pattern with some costs, which are doubles: whatever the slices
+-- held before, the call answered 0 and left this perm
 pub record Ours (g : Pattern) (perm : List ℕ) : Type 0 where
   pub cost : List Float
   pub doubles : Doubles (withCosts g cost)

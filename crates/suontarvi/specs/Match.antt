@@ -58,12 +58,12 @@ matchOfResult s answer =
           (getD answer 6 0) (getD answer 7 0);
     }
 
--- any accepted costs: perm's pairs are entries, and a largest matching, complete where there is a complete one
+-- for any accepted costs perm's pairs are entries and a largest matching, complete if the graph has a complete one
 abbrev pub ResultMatches : CostGraph → Outcome ℕ Lent → Type 0
 ResultMatches g t =
     t .answer ≡ accepted → LargestMatch (g .pattern) (matchOfResult (t .after .slices) (t .after .answer))
 
--- demand 3, of what the call leaves: with whole costs also of least total, with duals that show it
+-- demand 3 for what the call leaves: with whole costs also least total, with duals that show it
 abbrev pub ResultPromised : CostGraph → Outcome ℕ Lent → Type 0
 ResultPromised g t =
     t .answer ≡ accepted → WholeCosts g → Optimal g (matchOfResult (t .after .slices) (t .after .answer))

@@ -31,7 +31,7 @@ abbrev pub scalingResultOf : Outcome Scaling Slices → List ℕ → Outcome ℕ
 scalingResultOf o old = outcomeIs (numberOf (o .answer)) (lent (o .after) (infoOf (o .answer) old))
 
 -- the first thing wrong, or 0. A wrong length of `info` is a wrong length: 1 and 2 come before it. The external choice,
--- the last one, looks at no length
+-- the last one, tests no length
 unfoldable pub numberFault : ℕ → Matrix → List Float → List Float → Slices → List ℕ → ℕ
 numberFault choice m external logs s old =
     cond (eqb choice lastChoice || eqb (length old) 2)
@@ -45,8 +45,8 @@ scalingByNumber choice m external logs s old =
     refusing asNumber (numberFault choice m external logs s old)
     (scalingResultOf (chosen (strategyFor choice) m logs s) old) (lent s old)
 
--- what the factors of the MC64 choice, 2, are good for: where 0 is answered and `info` says that every column is
--- matched, the logs that are read are whole and no factor is held
+-- what the factors of the MC64 choice, 2, achieve if 0 is answered, `info` says that every column is matched, the logs
+-- read are whole and no factor is held
 abbrev pub Balances : ℕ → Matrix → List Float → Outcome ℕ Lent → Type 0
 Balances choice m logs t =
     let after = t .after .slices in
@@ -60,5 +60,5 @@ pub record ScalingPromises (choice : ℕ) (m : Matrix) (external logs : List Flo
   pub outcome : t ≡ scalingByNumber choice m external logs before old
   -- the number is one of the call's list
   pub number : OneOf chooserNumbers (t .answer)
-  -- the MC64 factors of whole logs balance the entries, where every column is matched
+  -- if every column is matched, the MC64 factors of whole logs balance the entries
   pub balanced : Balances choice m logs t

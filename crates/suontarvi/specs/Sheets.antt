@@ -25,7 +25,7 @@ pub record WriteLent : Type 0 where
 abbrev pub writeLent : List ℕ → List ℕ → WriteLent
 writeLent sheet used = record { sheet = sheet; used = used }
 
--- the length used, and what was there where nothing is written
+-- the length used, or what was there if nothing is written
 abbrev pub usedLeft : Written → List ℕ → List ℕ
 usedLeft (written.Used count) old = count ∷ []
 usedLeft (written.Refused number) old = old
@@ -55,7 +55,7 @@ pub record ReadLent : Type 0 where
 abbrev pub readLent : Match ℕ → List ℕ → ReadLent
 readLent found answer = record { found = found; answer = answer }
 
--- n and the matched count, and what was there where nothing is read
+-- n and the matched count, or what was there if nothing is read
 abbrev pub valuesLeft : Reading → List ℕ → List ℕ
 valuesLeft (read.Read n matched) old = n ∷ matched ∷ []
 valuesLeft (read.Refused number) old = old

@@ -1,4 +1,4 @@
--- The version that a host asks for at run time, as one number: SPECIFICATION 12.2.
+-- The version of the library at run time, as one number: SPECIFICATION 12.2.
 use Prim.Native.Nat.{ℕ, _+_, _*_}
 
 abbrev pub major : ℕ

@@ -4,8 +4,8 @@ ghost use Rattle.hungarian.specs.Graph.{graphOf};
 ghost use Rattle.match_check.specs.Check.{claim};
 ghost use Rattle.suontarvi.specs.Check.{CheckPromises};
 
-// Whether a pairing with duals is a complete matching of least total, and the duals show it. Answers 0 or the refusal;
-// nothing is written.
+// Checks whether a pairing with duals is a complete matching of least total and the duals show it. Answers 0 or the
+// refusal; nothing is written.
 #[no_mangle]
 pub extern "C" fn suontarvi_check_match(
     n: u32,

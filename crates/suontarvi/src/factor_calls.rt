@@ -48,7 +48,7 @@ pub extern "C" fn suontarvi_log_factors(
     }
 }
 
-// Unsymmetric: a log factor of each row and one of each column. Answers 0 or the number of the refusal.
+// Unsymmetric: a log factor for each row and one for each column. Answers 0 or the number of the refusal.
 #[no_mangle]
 pub extern "C" fn suontarvi_unsymmetric_factors(
     n: u32,
@@ -93,7 +93,7 @@ pub extern "C" fn suontarvi_log_factors_bytes(
     factor_bytes::read_factors(n, matched, perm, u, v, cmax, factors, unmatched)
 }
 
-// The unsymmetric factors of a small match, likewise.
+// The same for the unsymmetric factors of a small match.
 #[no_mangle]
 pub extern "C" fn suontarvi_unsymmetric_factors_bytes(
     n: u32,

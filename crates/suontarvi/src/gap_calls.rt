@@ -1,11 +1,11 @@
-// How far a match that anyone made can be from least total, over the C interface, with native slices.
+// How far a match, whoever made it, can be from the least total, over the C interface, with native slices.
 use match_gap::Gap;
 ghost use Rattle.hungarian.specs.Graph.{graphOf};
 ghost use Rattle.match_check.specs.Check.{claim};
 ghost use Rattle.suontarvi.specs.Gap.{GapPromises};
 
-// Into gap[0]: the total of the pairs is at most that of every complete matching and so many steps of 2 ^ -digits more,
-// exactly. Answers 0 or the refusal; a refused call leaves the slice as it is.
+// gap[0] gets a number of steps of 2 ^ -digits: the total of the pairs is at most that of every complete matching plus
+// these, exactly. Answers 0 or the refusal; a refused call leaves the slice as it is.
 #[no_mangle]
 pub extern "C" fn suontarvi_match_gap(
     n: u32,

@@ -1,11 +1,11 @@
-// Whether a pairing that anyone made is a largest matching of a pattern, over the C interface, with native slices.
+// Whether a pairing, whoever made it, is a largest matching of a pattern, over the C interface, with native slices.
 use match_largest::Verdict;
 ghost use Rattle.sparse.specs.Pattern.{pattern};
 ghost use Rattle.match_largest.specs.Call.{slices};
 ghost use Rattle.suontarvi.specs.Largest.{LargestPromises};
 
-// Into columns and rows 1 for each that an alternating path leads to from a column without a row, else 0; into
-// matched[0] the number of pairs. Answers 0 or the refusal; a refused call leaves every slice as it is.
+// columns and rows get 1 for each that an alternating path reaches from a column without a row, else 0; matched[0] gets
+// the number of pairs. Answers 0 or the refusal; a refused call leaves every slice as it is.
 #[no_mangle]
 pub extern "C" fn suontarvi_check_largest(
     n: u32,

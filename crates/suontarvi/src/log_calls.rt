@@ -56,7 +56,7 @@ pub extern "C" fn suontarvi_whole_symmetric_graph(
     }
 }
 
-// The cost graph of a general matrix, likewise.
+// The same for a general matrix.
 #[no_mangle]
 pub extern "C" fn suontarvi_whole_general_graph(
     n: u32,

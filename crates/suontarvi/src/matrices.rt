@@ -9,7 +9,7 @@ ghost use Rattle.triplets.specs.Built.{triplets, slices};
 ghost use Rattle.sparse.specs.Assemble.{symmetricAssembly, generalAssembly};
 ghost use Rattle.suontarvi.specs.Matrices.{ValidatePromises, TripletPromises};
 
-// Tests a symmetric matrix, of which the lower triangle is stored. Answers 0 or the number of the refusal.
+// Tests a symmetric matrix, stored as its lower triangle. Answers 0 or the number of the refusal.
 #[no_mangle]
 pub extern "C" fn suontarvi_validate_symmetric(
     n: u32,
@@ -66,7 +66,7 @@ pub extern "C" fn suontarvi_triplets_symmetric(
     }
 }
 
-// The general matrix of the triplets, likewise.
+// The same for a general matrix.
 #[no_mangle]
 pub extern "C" fn suontarvi_triplets_general(
     n: u32,

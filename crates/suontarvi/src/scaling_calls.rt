@@ -49,7 +49,7 @@ pub extern "C" fn suontarvi_scaling(
         ⌜ ScalingPromises choice m (now (external .entry)) (now (logs .entry)) before (now (info .entry))
         (outcomeIs r (lent after (now (info .exit)))) ⌝ }
 {
-    // refused before any length is looked at
+    // refused before any length is tested
     if choice == 4 {
         return scaling::external_fault(n, row_idx.len());
     }

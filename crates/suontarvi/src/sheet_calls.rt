@@ -68,7 +68,7 @@ pub extern "C" fn suontarvi_read_sheet(
     }
 }
 
-// The match of a canonical file, likewise.
+// The same for a canonical file.
 #[no_mangle]
 pub extern "C" fn suontarvi_read_canonical_sheet(
     sheet: &[u8],

@@ -1,4 +1,4 @@
--- Entries with costs as triplets: nothing more is asked to assemble them, the kept count tells whether a pair repeats, and what is built is the
+-- Entries with costs as triplets: assembling them requires nothing more, the kept count tells whether a pair repeats, and what is built is the
 -- file's graph.
 use mathlib.Core.Path.{_≡_, refl, sym, ap, _∙_, subst}
 use mathlib.Core.Logic.{_≢_}

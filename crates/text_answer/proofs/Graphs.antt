@@ -1,4 +1,4 @@
--- The entries of a file by its kind: doubles stand for their weights, and their graph has a text where no pair stands twice.
+-- The entries of a file by its kind: doubles stand for their weights, and their graph has a text if no pair occurs twice.
 use mathlib.Core.Path.{_≡_, refl}
 use mathlib.Core.Bool.{false}
 use mathlib.Core.List.{List}

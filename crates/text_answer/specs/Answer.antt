@@ -50,15 +50,15 @@ answerText form input = textOf form (fileOf input)
 abbrev pub fileRows : Kind → ℕ → List Entry → List ℕ
 fileRows kind n entries = hungarianMatch (entriesGraph kind n entries) .perm
 
--- a text that is the pattern file of a file's matched pairs; the match of that file is these pairs, and its pairs make
--- the same text
+-- a text that is the pattern file of a file's matched pairs; the match of that text is these pairs, and prints the same
+-- text
 pub record ReadAgain (kind : Kind) (n : ℕ) (entries : List Entry) (text : List ℕ) : Type 0 where
   pub pairs : fileOf text ≡ file Pattern n (pairEntries n (fileRows kind n entries))
   pub rows : fileRows Pattern n (pairEntries n (fileRows kind n entries)) ≡ fileRows kind n entries
   pub same : answerText Pairs text ≡ text
 
 -- ---- the call
--- one byte more than an input may have
+-- one more byte than an input may have
 abbrev pub bufferLength : ℕ
 bufferLength = 32769
 
@@ -70,18 +70,18 @@ pub record ReportAnswer : Type 0 where
 abbrev pub reportAnswer : ℕ → List ℕ → ReportAnswer
 reportAnswer length output = record { length = length; output = output }
 
--- a text over the front of the output
+-- a text written over the front of the output
 abbrev pub reportWritten : List ℕ → List ℕ → ReportAnswer
 reportWritten text old = reportAnswer (length text) (sets old 0 text)
 
--- whichever input it is whose first bytes these are, as many as the buffer takes, the answer is that input's
+-- the answer is that of any input whose first bytes, as many as the buffer takes, are these
 abbrev pub Whole : Form → ℕ → List ℕ → List ℕ → ReportAnswer → Type 0
 Whole form count buffer old reported =
     (input : List ℕ) → take (length buffer) input ≡ take count buffer
     → reported ≡ reportWritten (answerText form input) old
 
--- by what the input is: the text of a file is that of its match, and an input that is to be refused with k has the text
--- of that refusal. Theorem `file-or-refused` of tie_file: every input is one of the two
+-- by what the input is: the text of a file is that of its match, and the text of an input that is to be refused with k
+-- is that refusal. Theorem `file-or-refused` of text_tie_file: every input is one of the two
 abbrev pub ByInput : Form → ℕ → List ℕ → List ℕ → ReportAnswer → Type 0
 ByInput form count buffer old reported =
     (input : List ℕ) → take (length buffer) input ≡ take count buffer
@@ -89,7 +89,7 @@ ByInput form count buffer old reported =
     → reported ≡ reportWritten (graphText form (entriesGraph kind n entries)) old)
     × ((k : ℕ) → IsRefused input k → reported ≡ reportWritten (refusedText k) old)
 
--- where a file is read and its pairs are asked for, the text that is left at the front is one that is read again
+-- if a file is read and its pairs are asked for, the text left at the front is read again as these pairs
 abbrev pub Again : Form → ℕ → List ℕ → ReportAnswer → Type 0
 Again form count buffer reported =
     (kind : Kind) (n : ℕ) (entries : List Entry) → form ≡ Pairs → fileOf (take count buffer) ≡ file kind n entries
@@ -100,9 +100,9 @@ Again form count buffer reported =
 pub record Promises (form : Form) (count : ℕ) (buffer before : List ℕ) (r : ℕ) (after : List ℕ) : Type 0 where
   -- the length answered and the output left are the definition's
   pub text : reportAnswer r after ≡ reportWritten (answerText form (take count buffer)) before
-  -- they are those of every input that begins so
+  -- they are those of every input whose first bytes these are
   pub whole : Whole form count buffer before (reportAnswer r after)
-  -- a file has the text of its match, and what is to be refused that of its refusal
+  -- a file has the text of its match, an input that is to be refused the text of its refusal
   pub file : ByInput form count buffer before (reportAnswer r after)
   -- the pairs of a file are read again as the same pairs
   pub again : Again form count buffer (reportAnswer r after)

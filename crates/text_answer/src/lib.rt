@@ -18,10 +18,10 @@ ghost use Rattle.text_report.specs.inner.Steps.{outputLength};
 ghost use Rattle.text_answer.specs.Answer.{reportAnswer, reportWritten, answerText, graphText, Promises};
 ghost use Rattle.text_answer.specs.inner.Steps.{Reportable, FileEntries, Entries, EntriesReported, entriesText};
 
-// One byte more than an input may have.
+// One more byte than an input may have.
 pub const BUFFER_LENGTH: usize = 32769;
 
-// What the match asks for: twelve words for each column and one more, and two doubles for each.
+// What the match needs: twelve words for each column and one more, and two doubles for each column.
 const MATCH_WORDS: usize = 12 * COLUMNS + 1;
 
 const DISTANCES: usize = 2 * COLUMNS;
@@ -74,7 +74,7 @@ fn answer_graph(
     )
 }
 
-// The graph of entries with costs, if no pair is repeated, and its text. A repeated pair makes fewer than were given.
+// The graph of entries with costs, if no pair is repeated, and its text. A repeated pair leaves fewer than were given.
 fn answer_triplets(
     form: Form,
     n: u32,
@@ -232,9 +232,9 @@ fn answer_input(form: Form, input: &[u8], output: &mut [u8]) -> usize
     }
 }
 
-// The text, in a form, of an input whose first bytes, `count` of them, are at the front of `buffer`: all that it has,
-// or as many as the buffer takes, which is one more than an input may have. It is put at the front of `output`, and its
-// length answered.
+// Writes the text, in a form, of an input to the front of `output` and answers its length. The first `count` bytes of
+// the input are at the front of `buffer`: all of them, or as many as the buffer takes, which is one more than an input
+// may have.
 pub fn answer(
     form: Form,
     buffer: &[u8; BUFFER_LENGTH],

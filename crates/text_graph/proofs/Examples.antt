@@ -1,4 +1,4 @@
--- The definitions on the file of SPECIFICATION 13, sample 2, and a pair that stands twice, by computing.
+-- The definitions on the file of SPECIFICATION 13, sample 2, and a pair that occurs twice, by computing.
 use mathlib.Core.Path.{_≡_, refl}
 use mathlib.Core.Bool.{true, false}
 use mathlib.Core.List.{List, [], _∷_}

@@ -1,5 +1,5 @@
 -- Where no pair repeats, each cost of the graph is a whole number in range: it is 0.0 plus the one cost of its pair, an exact sum.
--- By induction on the entries: an entry that stands at a position finds none there before it.
+-- By induction on the entries: an entry at a position finds none there before it.
 use mathlib.Core.Path.{_≡_, refl, sym, ap₂, _∙_, subst₂}
 use mathlib.Core.Bool.{Bool, true, false, _&&_, _||_}
 use mathlib.Core.List.{List, [], _∷_, map}

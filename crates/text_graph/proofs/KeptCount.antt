@@ -1,4 +1,4 @@
--- As many positions are filled as there are entries exactly where no pair repeats. The positions are counted one by one: one entry more fills one
+-- As many positions are filled as there are entries exactly if no pair repeats. The positions are counted one by one: one more entry fills one
 -- more exactly if its pair is not among the rest. By induction on the entries.
 use mathlib.Core.Path.{_≡_, refl, sym, ap, ap₂, _∙_}
 use mathlib.Core.Bool.{Bool, true, false, not, _&&_, _||_, and-false, or-false, or-assoc}

@@ -12,13 +12,13 @@ use Rattle.triplets.specs.Order.{Below}
 use Rattle.hungarian.specs.Graph.{CostGraph, graphOf}
 
 -- ---- the file
--- n rows and n columns, and each entry has one of each
+-- n rows and n columns; each entry has a row and a column
 pub record Inside (n : ℕ) (rows cols : List ℕ) : Type 0 where
   pub pairs : length cols ≡ length rows
   pub rowsIn : Below n rows
   pub colsIn : Below n cols
 
--- each entry has a cost, n times which is below 2 ^ 48
+-- n times the cost of each entry is below 2 ^ 48
 pub record CostsFit (n : ℕ) (rows costs : List ℕ) : Type 0 where
   pub sameLength : length costs ≡ length rows
   pub costsIn : (k : ℕ) → k < length costs → n * getD costs k 0 < 2 ^ 48

@@ -1,4 +1,4 @@
--- The numbers of a line, one word after the other. A word that is found to be a number leaves the words behind it; by the cases of the list of words.
+-- The numbers of a line, one word after the other. A word that is found to be a number leaves the words after it; by the cases of the list of words.
 use mathlib.Core.Path.{_≡_, refl, sym, ap, _∙_}
 use mathlib.Core.Bool.{false, true≢false}
 use mathlib.Core.List.{List, [], _∷_}

@@ -1,5 +1,5 @@
--- A reading line by line: what comes of the input is what comes of the lines from here on, and the lists hold the entries taken so far. By one step of
--- the definition each.
+-- A reading line by line: the result for the input is the result for the lines from here on, and the lists hold the entries taken so far. By one step
+-- of the definition each.
 use mathlib.Core.Path.{_≡_, refl, sym, ap, _∙_, subst}
 use mathlib.Core.Bool.{true}
 use mathlib.Core.List.{List, _∷_}

@@ -1,4 +1,4 @@
--- What a reading leaves in the lists: a line adds its entry behind those before it, or nothing, and what is stored in two parts is stored at once.
+-- What a reading leaves in the lists: a line adds its entry after those before it, or nothing, and what is stored in two parts is stored at once.
 use mathlib.Core.Path.{_≡_, refl, sym, ap, _∙_}
 use mathlib.Core.Bool.{Bool, true, false, cond, _&&_, _||_, true≢false, false≢true}
 use mathlib.Core.List.{List, [], _∷_, _++_, map, map-append, append-nil}

@@ -1,4 +1,4 @@
--- Lines and words by places: where the first line or word ends, and what is left behind it. By induction on the list.
+-- Lines and words by places: where the first line or word ends, and what follows it. By induction on the list.
 use mathlib.Core.Path.{_≡_, refl, sym, ap, _∙_}
 use mathlib.Core.Bool.{Bool, true, false, not, cond}
 use mathlib.Core.Logic.{_⊎_, inl, inr, ⊎-elim}

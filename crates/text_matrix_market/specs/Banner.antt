@@ -47,7 +47,7 @@ bannerWords field symmetry =
 unfoldable pub isBanner : List ℕ → List ℕ → List ℕ → Bool
 isBanner field symmetry line = beginsPercent line && sameWords (wordsOf line) (bannerWords field symmetry)
 
--- the kind, if the test holds; else what comes of the others
+-- the kind, if the test holds; else the result of the others
 abbrev pub kindIf : Bool → Kind → BannerRead → BannerRead
 kindIf true kind others = Is kind
 kindIf false kind others = others

@@ -1,5 +1,5 @@
 -- SPECIFICATION 11.2 and 11.3: The file that an input holds, or the number of its refusal. Lines are read from the top,
--- as the banner's kind asks.
+-- as the banner's kind requires.
 use mathlib.Core.Bool.{Bool, false, cond, _&&_, _||_}
 use mathlib.Core.List.{List, [], _∷_, _++_, map}
 use Prim.Native.Nat.{ℕ, _-_, _*_, _^_}
@@ -42,7 +42,7 @@ isWithin n index = leb 1 index && leb index n
 abbrev pub costFits : ℕ → ℕ → Bool
 costFits n cost = ltb (n * cost) (2 ^ 48)
 
--- a weight in range: a cost, or the size of a value that a double stands for as every smaller one does
+-- a weight in range: a cost, or the size of a value below 2 ^ 53, so that a double stands for it
 abbrev pub weightFits : Kind → ℕ → ℕ → Bool
 weightFits General n weight = costFits n weight
 weightFits Symmetric n weight = ltb weight (2 ^ 53)
@@ -58,7 +58,7 @@ isUpper Pattern row column = false
 abbrev pub zeroBased : ℕ → ℕ → ℕ → Entry
 zeroBased row column weight = record { row = row - 1; column = column - 1; weight = weight }
 
--- 23 where there is none, then 26
+-- 23 if there is none, then 26
 abbrev pub entryFrom : Kind → ℕ → Numbers → EntryRead
 entryFrom kind n Other = Misshapen
 entryFrom kind n (Three row column weight) =
@@ -98,7 +98,7 @@ entered kind n count entries Misshapen = refused entryLine
 entered kind n count entries Upper = refused upperEntry
 entered kind n count entries (Is e) = entering kind n count (entries ++ (e ∷ []))
 
--- what a line does by what it says: an entry line past the L-th gives 24, whatever it says
+-- what a line does, by what it says: an entry line after the L-th gives 24, whatever it says
 unfoldable pub content : State → List ℕ → State
 content start line = begun (bannerKind line)
 content (sizing kind) line =
@@ -108,7 +108,7 @@ content (entering kind n count entries) line =
     (cond (ltb (length entries) count) (entered kind n count entries (lineEntry kind n line)) (refused entryCount))
 content (refused number) line = refused number
 
--- a line that is too long. A refusal stands
+-- a line that is too long; a refusal stays
 abbrev pub tooLong : State → State
 tooLong start = refused inputLimit
 tooLong (sizing kind) = refused inputLimit
@@ -124,7 +124,7 @@ unfoldable pub readLines : State → List (List ℕ) → State
 readLines state [] = state
 readLines state (line ∷ lines) = readLines (readLine state line) lines
 
--- ---- what comes of an input
+-- ---- the result for an input
 pub data Reading : Type 0 where
   -- its kind, n, and its entries in input order
   file : Kind → ℕ → List Entry → Reading
@@ -144,7 +144,7 @@ readingOf input = cond (leb (length input) maxInput) (readingAtEnd (readLines st
     (refusal inputLimit)
 
 -- ---- a pair (row, column) repeated, which is tested last
--- what each list holds of an entry
+-- what each of the three lists holds for an entry
 abbrev pub entryRow : Entry → ℕ
 entryRow e = e .row
 
@@ -176,6 +176,6 @@ abbrev pub unrepeated : Reading → Reading
 unrepeated (file kind n entries) = cond (repeated entries) (refusal repeatedPair) (file kind n entries)
 unrepeated (refusal number) = refusal number
 
--- what SPECIFICATION 11.3 says of an input, whole
+-- all that SPECIFICATION 11.3 says of an input
 unfoldable pub fileOf : List ℕ → Reading
 fileOf input = unrepeated (readingOf input)

@@ -1,5 +1,5 @@
 -- SPECIFICATION 11.1: A number is one to eighteen decimal digits. A size line is three numbers; an entry line is two,
--- and behind them what its kind of file has there: a number, a number that may have a minus in front, or nothing.
+-- followed by what its kind of file has there: a number, a number that may begin with a minus, or nothing.
 use mathlib.Core.Bool.{Bool, true, false, cond, _&&_}
 use mathlib.Core.List.{List, [], _∷_}
 use Prim.Native.Nat.{ℕ, _+_, _-_, _*_}
@@ -31,19 +31,19 @@ decimalValue value (b ∷ digits) = onlyIf (isDigit b) (decimalValue (10 * value
 unfoldable pub numberRead : List ℕ → Number
 numberRead word = onlyIf (leb 1 (length word) && leb (length word) 18) (decimalValue 0 word)
 
--- the size of a word's number, before which one minus may stand
+-- the size of a word's number, which may begin with one minus
 unfoldable pub sizeRead : List ℕ → Number
 sizeRead [] = Misshapen
 sizeRead (b ∷ word) = cond (eqb b 45) (numberRead word) (numberRead (b ∷ word))
 
--- three numbers, if each is one
+-- three numbers, if all three are numbers
 abbrev pub three : Number → Number → Number → Numbers
 three Misshapen b c = Other
 three (Is a) Misshapen c = Other
 three (Is a) (Is b) Misshapen = Other
 three (Is a) (Is b) (Is c) = Three a b c
 
--- the numbers of three words, of which the last is read in a way of its own; more words or fewer are no three
+-- the numbers of three words, the last read in its own way; none for more or fewer words
 unfoldable pub threeOf : (List ℕ → Number) → List (List ℕ) → Numbers
 threeOf last [] = Other
 threeOf last (a ∷ []) = Other

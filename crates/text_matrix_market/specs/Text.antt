@@ -12,13 +12,13 @@ isLineFeed b = eqb b 10
 abbrev pub isBlank : ℕ → Bool
 isBlank b = eqb b 32 || (eqb b 9 || eqb b 13)
 
--- a byte in front of the parts behind it: one that ends a part, or one that belongs to the first
+-- a byte before parts: it ends a part, or belongs to the first
 abbrev pub prepend : Bool → ℕ → List (List ℕ) → List (List ℕ)
 prepend true b parts = [] ∷ parts
 prepend false b [] = (b ∷ []) ∷ []
 prepend false b (part ∷ parts) = (b ∷ part) ∷ parts
 
--- the parts of a list. A byte that passes the test ends a part and belongs to none; it may lack at the end of the last
+-- the parts of a list. A byte that passes the test ends a part and belongs to none; the last part may lack it
 unfoldable pub cut : (ℕ → Bool) → List ℕ → List (List ℕ)
 cut ends [] = []
 cut ends (b ∷ bytes) = prepend (ends b) b (cut ends bytes)
@@ -29,11 +29,11 @@ nonEmpty [] = []
 nonEmpty ([] ∷ parts) = nonEmpty parts
 nonEmpty ((b ∷ part) ∷ parts) = (b ∷ part) ∷ nonEmpty parts
 
--- a line feed ends a line, and may lack at the end of the input
+-- a line feed ends a line, and may be missing at the end of the input
 unfoldable pub linesOf : List ℕ → List (List ℕ)
 linesOf input = cut isLineFeed input
 
--- one or more blanks split words, and may lead or trail
+-- one or more blanks separate words, and may begin or end a line
 unfoldable pub wordsOf : List ℕ → List (List ℕ)
 wordsOf line = nonEmpty (cut isBlank line)
 

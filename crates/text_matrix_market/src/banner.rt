@@ -18,13 +18,13 @@ pub enum BannerRead {
     Other,
 }
 
-// The place past the word, if it is the one that is asked for.
+// The place past the word, if it is the expected one.
 pub enum Next {
     Past(usize),
     Other,
 }
 
-// A letter from A to Z as its small one.
+// A letter from A to Z in lower case.
 fn lower_case(b: u8) -> u8
     ensures { λ r. ⌜ r ≡ lowerCase b ⌝ }
 {
@@ -37,7 +37,7 @@ fn lower_case(b: u8) -> u8
     b + 32
 }
 
-// The word is the name, capitals as small letters.
+// Whether the word is the name, in any letter case.
 fn same_word(word: &[u8], name: &[u8]) -> bool
     ensures { λ r. ⌜ r ≡ sameWord (now (word .entry)) (now (name .entry)) ⌝ }
 {
@@ -70,7 +70,7 @@ fn next_is(line: &[u8], from: usize, name: &[u8]) -> Next
     }
 }
 
-// The line is the banner with this field and symmetry, its last two words (SPECIFICATION 11.2).
+// Whether the line is the banner with this field and symmetry, its last two words (SPECIFICATION 11.2).
 fn is_banner(line: &[u8], field: &[u8], symmetry: &[u8]) -> bool
     requires { ⌜ 0 < length (now field) ⌝ ∗ ⌜ 0 < length (now symmetry) ⌝ }
     ensures { λ r. ⌜ r ≡ isBanner (now (field .entry)) (now (symmetry .entry)) (now (line .entry)) ⌝ }

@@ -37,8 +37,8 @@ fn conclude(stage: Stage) -> Verdict
     }
 }
 
-// The file that an input holds, or the number of a refusal other than 25. At the front of the slices are then the
-// entries that were read, of a refused input those before the line that is refused; behind them all is as it was.
+// The file that an input holds, or the number of a refusal other than 25. The front of the slices then has the entries
+// that were read, for a refused input those before the refused line; after them all is as it was.
 pub fn read_file(
     input: &[u8],
     rows: &mut [u32],

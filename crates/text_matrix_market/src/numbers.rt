@@ -51,7 +51,7 @@ pub fn read_number(word: &[u8]) -> Number
     Number::Is(value)
 }
 
-// The size of a word's number, before which one minus may stand.
+// The size of a word's number, which may begin with one minus.
 fn read_size(word: &[u8]) -> Number
     ensures { λ r. ⌜ r ≡ sizeRead (now (word .entry)) ⌝ }
 {
@@ -64,7 +64,7 @@ fn read_size(word: &[u8]) -> Number
     read_number(word)
 }
 
-// The number of a word, before which a minus may stand if it is `signed`.
+// The number of a word, which may begin with a minus if it is `signed`.
 fn read_word(signed: bool, word: &[u8]) -> Number
     ensures { λ r. ⌜ r ≡ wordRead signed (now (word .entry)) ⌝ }
 {
@@ -89,7 +89,7 @@ fn next_number(signed: bool, line: &[u8], from: usize) -> Field
     }
 }
 
-// What stands behind row and column: a pattern has nothing there, which is a 0.
+// What follows row and column: a pattern has nothing there, which counts as 0.
 fn next_weight(kind: Kind, line: &[u8], from: usize) -> Field
     requires { ⌜ from ≤ length (now line) ⌝ }
     ensures { λ r. ⌜ r ≡ weightField kind (now (line .entry)) from ⌝ }

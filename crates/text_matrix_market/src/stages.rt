@@ -1,4 +1,4 @@
-// How far the reading has come, line by line.
+// The stages of reading, line by line.
 use crate::banner;
 use crate::banner::BannerRead;
 use crate::banner::Kind;
@@ -53,20 +53,20 @@ fn within(n: u64, index: u64) -> bool
     (1 <= index) & (index <= n)
 }
 
-// A weight in its kind's range.
+// Whether a weight is in the range of its kind.
 fn weight_fits(kind: Kind, n: u64, weight: u64) -> bool
     requires { ⌜ 0 < n ⌝ }
     ensures { λ r. ⌜ r ≡ weightFits kind n weight ⌝ }
 {
     match kind {
-        // N times a cost of eighteen digits is more than 64 bits hold
+        // N times a cost of eighteen digits may exceed 64 bits
         Kind::General => weight <= MAX_PRODUCT / n,
         Kind::Symmetric => weight < VALUE_LIMIT,
         Kind::Pattern => weight <= MAX_PRODUCT / n,
     }
 }
 
-// Above the diagonal, where a symmetric file has no entries.
+// Whether an entry is above the diagonal, where a symmetric file has none.
 fn is_upper(kind: Kind, row: u64, column: u64) -> bool
     ensures { λ r. ⌜ r ≡ isUpper kind row column ⌝ }
 {
@@ -128,7 +128,7 @@ fn size_line(kind: Kind, line: &[u8]) -> Stage
     Stage::Entering(kind, n as u32, count as u32, 0)
 }
 
-// A line below the size line. Its entry goes to the place behind those that were read.
+// A line below the size line. Its entry goes to the place after those that were read.
 fn entry_line(
     kind: Kind,
     n: u32,
@@ -170,7 +170,7 @@ fn entry_line(
     }
 }
 
-// A line that is too long: what was refused before stays so.
+// A line that is too long: an earlier refusal stays.
 fn after_long_line(stage: Stage) -> Stage
     ensures { λ r. ⌜ ((l : Lists) → stateOf r l ≡ tooLong (stateOf stage l)) ⌝ }
 {
@@ -193,7 +193,7 @@ fn banner_line(line: &[u8]) -> Stage
     }
 }
 
-// One line more.
+// One more line.
 pub fn next_stage(
     stage: Stage,
     line: &[u8],

@@ -27,7 +27,7 @@ pub fn line_end(input: &[u8], from: usize) -> usize
     at
 }
 
-// Past the blanks that lead.
+// The place past the leading blanks.
 pub fn word_start(line: &[u8], from: usize) -> usize
     requires { ⌜ from ≤ length (now line) ⌝ }
     ensures { λ r. ⌜ r ≡ wordStart (now (line .entry)) from ⌝ }
@@ -64,7 +64,7 @@ pub fn is_blank_line(line: &[u8]) -> bool
     word_start(line, 0) == line.len()
 }
 
-// A comment line, where comments may stand.
+// Whether the line is a comment, where comments are allowed.
 pub fn begins_percent(line: &[u8]) -> bool
     ensures { λ r. ⌜ r ≡ beginsPercent (now (line .entry)) ⌝ }
 {

@@ -1,5 +1,5 @@
 -- A largest matching of a graph whose entries together are a matching has them all: it is as large as their set, so none is left out.
--- Of any match: no row stands at two columns, since each of its pairs is an entry of the matching.
+-- Of any match: no two columns have the same row, since each of its pairs is an entry of the matching.
 use mathlib.Core.Path.{_≡_, sym, ap, _∙_}
 use mathlib.Core.Logic.{_≢_}
 use mathlib.Core.Bool.{Bool, true, false, not}

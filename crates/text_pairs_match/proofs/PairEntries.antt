@@ -1,5 +1,5 @@
 -- The graph of a match's pairs: accepted, with whole costs, and its entries are the pairs. Column j's stretch is from the count of the pairs
--- before it to that with its own, so it has one entry, of its row, or none; where no row stands twice all of them are a matching.
+-- before it to that with its own, so it has one entry, of its row, or none; if no row occurs twice all of them are a matching.
 use mathlib.Core.Path.{_≡_, refl, sym, ap, _∙_}
 use mathlib.Core.Logic.{_≢_, _⊎_, inl, inr}
 use mathlib.Core.Bool.{Bool, true, false}

@@ -1,4 +1,4 @@
--- The lists of a match's pairs: one column more adds its row, column and weight or nothing. So the pair of column j is among them exactly by its row,
+-- The lists of a match's pairs: one more column adds its row, column and weight or nothing. So the pair of column j is among them exactly by its row,
 -- and assembled they are themselves: each column has its row or none, and columns rise. By induction on the columns.
 use mathlib.Core.Path.{_≡_, refl, sym, ap, ap₂, _∙_}
 use mathlib.Core.Logic.{_≢_, _⊎_, inl, inr}

@@ -18,11 +18,11 @@ pairGraph n perm =
     let entries = pairEntries n perm in
     fileGraph n (map entryRow entries) (map entryColumn entries) (map entryWeight entries)
 
--- no row stands at two of the first n columns
+-- no two of the first n columns have the same row
 abbrev pub RowsOnce : ℕ → List ℕ → Type 0
 RowsOnce n perm =
     (i j : ℕ) → i < n → j < n → getD perm i 0 ≢ none → getD perm i 0 ≡ getD perm j 0 → i ≡ j
 
--- all entries of a graph together are a matching
+-- the entries of the graph are a matching
 abbrev pub AllMatching : Pattern → Type 0
 AllMatching g = IsMatching (bipartite g) (λ k. true)

@@ -1,4 +1,4 @@
--- The pairs read line by line: the lines of the first columns leave the entries of these columns, with any text behind them (`columns-read`). By
+-- The pairs read line by line: the lines of the first columns leave the entries of these columns, followed by any text (`columns-read`). By
 -- induction on the columns.
 use mathlib.Core.Path.{_≡_, refl, sym, ap, ap₂, _∙_}
 use mathlib.Core.Bool.{Bool, true, false, cond}

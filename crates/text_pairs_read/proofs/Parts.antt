@@ -1,5 +1,5 @@
--- A part without a byte that ends one is found whole: in front of the parts behind its end (`part-first`), and as the last one (`part-last`). So with
--- lines and words. By induction on the part.
+-- A part without a byte that ends one is found whole: before the parts after its end (`part-first`), and as the last one (`part-last`). So with lines
+-- and words. By induction on the part.
 use mathlib.Core.Path.{_≡_, refl, ap, _∙_}
 use mathlib.Core.Bool.{Bool, true, false}
 use mathlib.Core.List.{List, [], _∷_, _++_}

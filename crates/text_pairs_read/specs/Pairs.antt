@@ -13,13 +13,13 @@ use Rattle.text_matrix_market.specs.declared.stages.Entry.{Entry}
 abbrev pub pairEntry : ℕ → ℕ → Entry
 pairEntry row column = record { row = row; column = column; weight = 0 }
 
--- the entries of the first columns; one without a row has none
+-- the entries of the first columns; a column without a row has none
 unfoldable pub pairEntries : ℕ → List ℕ → List Entry
 pairEntries zero perm = []
 pairEntries (suc k) perm =
     pairEntries k perm ++ cond (eqb (getD perm k 0) none) [] (pairEntry (getD perm k 0) k ∷ [])
 
--- n columns, as many as a file may have, and for each its row or none
+-- n columns, within the limit of a file, and for each its row or none
 pub record Rows (n : ℕ) (perm : List ℕ) : Type 0 where
   pub few : n ≤ 64
   pub places : length perm ≡ n

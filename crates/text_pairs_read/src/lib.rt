@@ -1,2 +1,2 @@
-// No code: the entries of a match's pairs, as specs/ defines them; proofs/ has that the text of `pairs` reads back as
-// they are.
+// No code: the entries of a match's pairs, as specs/ defines them; proofs/ shows that the text of `pairs` reads back as
+// these entries.

@@ -1,2 +1,2 @@
--- What the reads come to.
+-- The result of the reads.
 pub mod Inputs

@@ -1,4 +1,4 @@
--- SPECIFICATION 11.1: What the reads of standard input come to.
+-- SPECIFICATION 11.1: The result of the reads of standard input.
 use mathlib.Core.Bool.{cond}
 use Prim.Native.Nat.{ℕ, zero, suc, _+_, _≤_}
 use lib.Dec.{ltb}
@@ -11,7 +11,7 @@ use Rattle.text_program.specs.declared.Input.the-variants.{More, All, Fa
 abbrev pub taken : ℕ → Input
 taken count = cond (ltb count bufferLength) (More count) (All count)
 
--- behind `at` bytes a read answers -1 where it fails, 0 at the end of the input, or how many bytes it put there
+-- after `at` bytes a read answers -1 if it fails, 0 at the end of the input, or the number of bytes read
 unfoldable pub inputAfter : ℕ → ℤ → Input
 inputAfter at (negsuc k) = Failed
 inputAfter at (pos zero) = All at

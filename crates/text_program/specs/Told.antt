@@ -1,5 +1,5 @@
--- What is told of the bytes that the reads have settled on (SPECIFICATION 11.1): of all of the input its text, else
--- that it could not be read.
+-- What is printed for the bytes read (SPECIFICATION 11.1): the text of a complete input, else that it could not be
+-- read.
 use mathlib.Core.List.{List}
 use Prim.Native.Nat.{ℕ, _≤_}
 use lib.ListN.{length, take}

@@ -1,5 +1,5 @@
-// A program that reads a file from standard input and prints the text of its match. Nothing is printed of an input that
-// was not read to its end, or as far as it counts; what goes wrong is said on standard error.
+// A program that reads a file from standard input and prints the text of its match. Nothing is printed for an input
+// that was not read to its end, or as far as it counts; standard error says what went wrong.
 use text_report::Form;
 ghost use mathlib.Core.Path.{_≡_};
 ghost use Prim.Native.Nat.{_<_, _-_};
@@ -9,15 +9,15 @@ ghost use Rattle.text_answer.specs.Answer.{bufferLength};
 ghost use Rattle.text_program.specs.Input.{inputAfter, Settled};
 ghost use Rattle.text_program.specs.Told.{telling, toldOf, Fits};
 
-// What the reads come to: a front of so many bytes, with more to read; all of the input, or as much of it as counts; or
-// a read that failed.
+// The result of the reads: the first bytes, with more to read; all of the input, or as much of it as counts; or a read
+// that failed.
 enum Input {
     More(usize),
     All(usize),
     Failed,
 }
 
-// What they come to when, behind `at` bytes, one more read has answered `got`.
+// The result of the reads when, after `at` bytes, one more read answered `got`.
 fn after_read(at: usize, got: isize) -> Input
     requires { ⌜ at < bufferLength ⌝ }
     requires { ⌜ Moved (bufferLength - at) got ⌝ }
@@ -53,13 +53,13 @@ fn read_input(buffer: &mut [u8]) -> Input
     }
 }
 
-// What is told of an input: a text of so many bytes at the front of the output, or that it could not be read.
+// What is printed for an input: a text of this length at the front of the output, or that it could not be read.
 enum Told {
     Text(usize),
     Unread,
 }
 
-// What is told of the bytes that the reads have settled on.
+// What is printed for the bytes that were read.
 fn tell(
     form: Form,
     buffer: &[u8; text_answer::BUFFER_LENGTH],
@@ -77,8 +77,8 @@ fn tell(
     }
 }
 
-// The program with the form of its text, and what it says where it cannot read or cannot write: reads, tells, writes.
-// No contract says which bytes a read brings or a write takes, and so none says what this does.
+// The program, with the form of its text and what it says if it cannot read or write: read, tell, write. No contract
+// says which bytes a read brings or a write takes, so none says what this does.
 pub fn run(form: Form, unread: &[u8], unwritten: &[u8]) {
     let mut buffer = [0u8; text_answer::BUFFER_LENGTH];
     let mut output = [0u8; text_report::OUTPUT_LENGTH];

@@ -1,5 +1,5 @@
--- A whole double's size as an unsigned integer, and its text by its sign: what `put_whole` asks. By the size as a fraction whose division leaves no
--- rest, and by the order of whole numbers.
+-- A whole double's size as an unsigned integer, and its text by its sign: what `put_whole` requires. By the size as a fraction whose division
+-- leaves no rest, and by the order of whole numbers.
 use mathlib.Core.Path.{_≡_, refl, sym, ap, _∙_, subst}
 use mathlib.Core.Bool.{true, false, not, _&&_, true≢false}
 use mathlib.Core.List.{_∷_}

@@ -1,4 +1,4 @@
--- SPECIFICATION 11.4: The text of a match by the form that is asked for.
+-- SPECIFICATION 11.4: The text of a match by the requested form.
 use mathlib.Core.List.{List}
 use Prim.Native.Nat.{ℕ}
 use lib.ListN.{getD}
@@ -8,7 +8,7 @@ use Rattle.text_report.specs.declared.Form.the-variants.{Report, Pairs}
 use Rattle.text_report.specs.Report.{matchText}
 use Rattle.text_report.specs.Pairs.{pairsText}
 
--- n, perm, u, v and the counts, of which the first is the number of pairs
+-- n, perm, u, v and the counts, the first of which is the number of pairs
 unfoldable pub formText : Form → ℕ → List ℕ → List Float → List Float → List ℕ → List ℕ
 formText Report n perm u v counts = matchText n perm u v counts
 formText Pairs n perm u v counts = pairsText n (getD counts 0 0) perm

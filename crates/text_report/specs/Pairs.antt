@@ -21,7 +21,7 @@ patternSize n pairs = decimal n ++ spaced (decimal n) ++ spaced (decimal pairs) 
 unfoldable pub matchedPair : ℕ → ℕ → List ℕ
 matchedPair row column = decimal (row + 1) ++ spaced (decimal (column + 1)) ++ lineFeed
 
--- the pair of a column; one without a row has none
+-- the pair of a column; a column without a row has none
 abbrev pub columnPair : ℕ → ℕ → List ℕ
 columnPair row column = cond (eqb row none) [] (matchedPair row column)
 

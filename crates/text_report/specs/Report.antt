@@ -1,5 +1,5 @@
--- SPECIFICATION 11.4: The lines for a match and for a refusal, as bytes; and what it means that a function has written
--- a text.
+-- SPECIFICATION 11.4: The lines for a match and for a refusal, as bytes; and what it means that a function wrote a
+-- text.
 use mathlib.Core.Bool.{cond}
 use mathlib.Core.List.{List, [], _∷_, _++_}
 use Prim.Native.Nat.{ℕ, zero, suc, _+_}
@@ -52,12 +52,12 @@ unfoldable pub pairLines : ℕ → List ℕ → List Float → List Float → Li
 pairLines zero perm u v = []
 pairLines (suc k) perm u v = pairLines k perm u v ++ pairLine (k + 1) (getD perm k 0) (getD u k nan) (getD v k nan)
 
--- the numbers at 1 to `count` of a list
+-- the numbers at places 1 to `count` of a list
 unfoldable pub numbers : ℕ → List ℕ → List ℕ
 numbers zero counts = []
 numbers (suc k) counts = numbers k counts ++ spaced (decimal (getD counts (k + 1) 0))
 
--- the seven counts, which stand behind the number of pairs
+-- the seven counts, which follow the number of pairs
 unfoldable pub countsLine : List ℕ → List ℕ
 countsLine counts = countsWord ++ numbers 7 counts ++ lineFeed
 

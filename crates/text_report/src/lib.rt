@@ -37,7 +37,7 @@ fn put_decimal(out: &mut [u8], at: usize, value: u64) -> usize
     last + 1
 }
 
-// Whether a minus stands in front; it does for no zero.
+// Whether a minus comes first; never for a zero.
 fn has_minus(x: f64) -> bool
     ensures { λ r. ⌜ r ≡ lt x zero ⌝ }
 {
@@ -256,7 +256,7 @@ fn put_pairs(n: usize, pairs: u64, perm: &[u32], out: &mut [u8]) -> usize
     put_columns(out, after_size, n, perm)
 }
 
-// The text of a match in the form that is asked for into the slice, whose rest stays. Answers the length of the text.
+// Writes the text of a match, in the requested form, into the slice, whose rest stays. Answers the length of the text.
 pub fn put_form(
     form: Form,
     n: usize,

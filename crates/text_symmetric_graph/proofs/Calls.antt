@@ -1,5 +1,5 @@
 -- What the function's proof cites: the kept count tells whether a pair repeats; where none does, what is assembled is the matrix of the entries,
--- the building asks for nothing more, and what it leaves is the graph.
+-- the building requires nothing more, and what it leaves is the graph.
 use mathlib.Core.Path.{_≡_, refl, sym, ap, _∙_, subst}
 use mathlib.Core.Logic.{_≢_}
 use mathlib.Core.Bool.{true, false, not}

@@ -19,7 +19,7 @@ use Rattle.mc64_symmetric.specs.Graph.{mirroredColumns}
 use Rattle.text_graph.specs.Graph.{Inside, costValues, fileTriplets}
 
 -- ---- the file
--- entries of the lower triangle, as many as a file may have, and their weights
+-- entries of the lower triangle, within the limit of a file, and their weights
 pub record SymmetricEntries (n : ℕ) (rows cols weights : List ℕ) : Type 0 where
   pub few : n ≤ 64
   pub short : length rows ≤ 512
@@ -35,7 +35,7 @@ tripletMatrix n t =
     matrix n (tabulate (suc n) (λ j. length (rowsBefore (t .rows) (t .cols) n j))) (rowsBefore (t .rows) (t .cols) n n)
     (valuesBefore t n n)
 
--- what `whole_symmetric_graph` leaves of a matrix: without zeros, each other entry on both sides of the diagonal
+-- what `whole_symmetric_graph` leaves of a matrix: no zeros, every other entry mirrored
 abbrev pub mirroredGraph : Matrix → CostGraph
 mirroredGraph m =
     let n = m .pattern .n in

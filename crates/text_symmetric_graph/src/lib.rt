@@ -7,7 +7,7 @@ ghost use Rattle.triplets.specs.inner.Steps.{Sized, Roomy};
 ghost use Rattle.text_symmetric_graph.specs.Graph.{SymmetricValues};
 ghost use Rattle.text_symmetric_graph.specs.inner.Steps.{GraphRoom, Answers, graphSlices, graphLeft};
 
-// The most columns and entries that a file has.
+// The most columns and entries of a file.
 pub const COLUMNS: usize = 64;
 
 pub const ENTRIES: usize = 512;
@@ -15,16 +15,16 @@ pub const ENTRIES: usize = 512;
 // Pointers of the columns, and where the last one ends.
 pub const POINTERS: usize = COLUMNS + 1;
 
-// What the assembly asks for: two words for each pointer and one for each entry.
+// What the assembly needs: two words for each pointer and one for each entry.
 pub const ASSEMBLY_WORDS: usize = 2 * POINTERS + ENTRIES;
 
-// How many entries the graph has, or that a pair stands twice.
+// How many entries the graph has, or that a pair occurs twice.
 pub enum Mirrored {
     Graph(u32),
     Repeated,
 }
 
-// The graph of entries with slices for their matrix. A repeated pair makes fewer than were given.
+// The graph of entries with slices for their matrix. A repeated pair leaves fewer than were given.
 fn mirror_matrix(
     n: usize,
     rows: &[u32],
@@ -73,8 +73,8 @@ fn mirror_matrix(
     Mirrored::Graph(count)
 }
 
-// The graph of entries, with local arrays for their matrix. The work on these is a function of its own: what a body
-// costs to check grows faster than its slices, and here are twelve.
+// The graph of entries, with local arrays for their matrix. The work on these is a function of its own: the time to
+// check a body grows faster than its number of slices, and here are twelve.
 pub fn symmetric_graph(
     n: u32,
     rows: &[u32],

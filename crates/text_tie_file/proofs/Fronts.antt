@@ -1,5 +1,4 @@
--- Lines that are as they should be: one more keeps them so, and the reader comes past them with the kind and the entries that they say. By induction
--- on the lines.
+-- Well-formed lines: one more keeps them so, and the reader passes them with the kind and the entries that they state. By induction on the lines.
 use mathlib.Core.Path.{_≡_, refl, sym, ap, _∙_, subst}
 use mathlib.Core.Bool.{Bool, true, false, cond}
 use mathlib.Core.Logic.{⊎-elim}

@@ -1,5 +1,5 @@
--- A line is read as what it says, and as nothing else. Each law is shown from what a line says to what the reader makes of it; the way back is by the
--- cases of the reader's tests.
+-- A line is read as exactly what it states. Each law goes from what a line states to what the reader makes of it; the converse is by the cases of the
+-- reader's tests.
 use mathlib.Core.Path.{_≡_, refl, sym, ap, _∙_, subst}
 use mathlib.Core.Bool.{Bool, true, false, _&&_}
 use mathlib.Core.Logic.{_⊎_, inl, inr, ⊎-elim, _↔_}

@@ -1,4 +1,4 @@
--- A pair stands twice exactly where the reader's test finds it, by induction on the entries.
+-- A pair occurs twice exactly if the reader's test finds it, by induction on the entries.
 use mathlib.Core.Path.{_≡_, refl, sym}
 use mathlib.Core.Bool.{Bool, true, false, _&&_, _||_, or-true}
 use mathlib.Core.Logic.{_↔_}

@@ -1,5 +1,5 @@
--- What is a file is read as that file, and what is to be refused is refused with its number: the reader comes past the lines that are as they should
--- be, and then by one line of it.
+-- What is a file is read as that file, and what is to be refused is refused with its number: the reader passes the well-formed lines, and then one
+-- more line decides.
 use mathlib.Core.Path.{_≡_, refl, sym, ap, _∙_, subst}
 use mathlib.Core.Bool.{false}
 use mathlib.Core.Logic.{inl, inr, ⊎-elim}

@@ -1,4 +1,4 @@
--- Every input is a file or is to be refused: line by line, behind those that are as they should be. By induction on the lines that are left.
+-- Every input is a file or is to be refused: line by line, after the well-formed ones. By induction on the lines that are left.
 use mathlib.Core.Path.{_≡_, refl, sym, ap, _∙_, subst}
 use mathlib.Core.Bool.{Bool, true, false}
 use mathlib.Core.Logic.{_⊎_, inl, inr, ⊎-elim}

@@ -15,7 +15,7 @@ Every P (x ∷ l) = P x × Every P l
 abbrev pub NoFeed : ℕ → Type 0
 NoFeed b = b ≢ 10
 
--- the lines of an input. Of no bytes there are none. Else the first has no line feed in it: it is the whole input and
+-- the lines of an input. An empty input has none. Else the first line has no line feed in it: it is the whole input and
 -- not empty, or a line feed ends it and the other lines are those of what follows
 abbrev pub AreLines : List ℕ → List (List ℕ) → Type 0
 AreLines input [] = input ≡ []
@@ -37,8 +37,8 @@ abbrev pub Ends : List ℕ → Type 0
 Ends [] = Unit
 Ends (b ∷ rest) = Blank b
 
--- the words of a line. A line of blanks has none. Else blanks lead, or nothing does; then the first word stands, which
--- has bytes and no blank among them; it ends at a blank or with the line, and the other words are those of what follows
+-- the words of a line. A line of blanks has none. Else, after any blanks, comes the first word, which has bytes and no
+-- blank; it ends at a blank or with the line, and the other words are those of what follows
 abbrev pub AreWords : List ℕ → List (List ℕ) → Type 0
 AreWords line [] = Every Blank line
 AreWords line (word ∷ words) =

@@ -1,5 +1,4 @@
--- What an input is that holds a tie file (SPECIFICATION 11.2). Theorem `file-exactly`: the reader takes these and no
--- others.
+-- Which inputs are tie files (SPECIFICATION 11.2). Theorem `file-exactly`: the reader takes exactly these.
 use mathlib.Core.Path.{_≡_}
 use mathlib.Core.Bool.{cond}
 use mathlib.Core.List.{List, [], _∷_, _++_}
@@ -21,13 +20,13 @@ written (line ∷ lines) = cond (isBlankLine line) (written lines) (line ∷ wri
 abbrev pub entryOf : List Entry → ℕ → Entry
 entryOf entries k = getD entries k (record { row = 0; column = 0; weight = 0 })
 
--- as many lines as entries, and line k says entry k
+-- as many lines as entries, and line k states entry k
 pub record SayAll (kind : Kind) (n : ℕ) (lines : List (List ℕ)) (entries : List Entry) : Type 0 where
   pub many : length lines ≡ length entries
   pub each : (k : ℕ) → k < length entries → Says kind n (getD lines k []) (entryOf entries k)
 
 -- an input is laid out as a file: a banner, blank lines and comment lines, a size line `N N L` within the limits, and
--- lines below it of which those that are not blank say the L entries in their order
+-- lines below it of which those that are not blank state the L entries in order
 pub record Laid (input : List ℕ) (kind : Kind) (n : ℕ) (entries : List Entry) : Type 0 where
   pub short : length input ≤ maxInput
   pub narrow : Every Narrow (linesOf input)
@@ -43,7 +42,7 @@ pub record Laid (input : List ℕ) (kind : Kind) (n : ℕ) (entries : List Entry
   pub count : length entries ≤ maxEntries
   pub says : SayAll kind n (written below) entries
 
--- two entries have one row and one column
+-- two entries have the same row and the same column
 pub record PairTwice (entries : List Entry) : Type 0 where
   pub first : ℕ
   pub second : ℕ

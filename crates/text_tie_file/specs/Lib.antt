@@ -1,4 +1,4 @@
--- The tie file of SPECIFICATION 11 by what stands in it: no state, no order of reading.
+-- The tie file of SPECIFICATION 11 by what it contains: no state, no order of reading.
 pub mod Bytes
 pub mod Lines
 pub mod File

@@ -1,4 +1,4 @@
--- What a line of a tie file says (SPECIFICATION 11.2).
+-- What a line of a tie file states (SPECIFICATION 11.2).
 use mathlib.Core.Path.{_≡_}
 use mathlib.Core.Logic.{_⊎_}
 use mathlib.Core.List.{List, [], _∷_, map}
@@ -39,7 +39,7 @@ abbrev pub BlankOrComment : List ℕ → Type 0
 BlankOrComment line = BlankLine line ⊎ (getD line 0 0 ≡ 37)
 
 -- ---- numbers of a line
--- its words are three numbers, the last of its own sort
+-- its words are three numbers, the last of a sort of its own
 pub record ThreeWords (IsThird : List ℕ → ℕ → Type 0) (line : List ℕ) (a b c : ℕ) : Type 0 where
   pub first : List ℕ
   pub second : List ℕ
@@ -77,7 +77,7 @@ pub record Shaped (kind : Kind) (n : ℕ) (line : List ℕ) (e : Entry) : Type 0
   pub column : e .column < n
   pub weight : InRange kind n (e .weight)
 
--- on or below the diagonal where only that is stored, and above it
+-- on or below the diagonal if only that is stored, and above it
 abbrev pub Stored : Kind → Entry → Type 0
 Stored General e = Unit
 Stored Symmetric e = e .column ≤ e .row
@@ -88,6 +88,6 @@ Unstored General e = ⊥
 Unstored Symmetric e = e .row < e .column
 Unstored Pattern e = ⊥
 
--- a line says an entry
+-- a line states an entry
 abbrev pub Says : Kind → ℕ → List ℕ → Entry → Type 0
 Says kind n line e = Shaped kind n line e × Stored kind e

@@ -1,5 +1,5 @@
--- Which input is refused with which number (SPECIFICATION 11.3). A line is refused for what it is behind lines that are
--- as they should be; the theorems `refused-20` to `refused-26` say it number by number.
+-- Which input is refused with which number (SPECIFICATION 11.3). A line is refused for what it is after well-formed
+-- lines; the theorems `refused-20` to `refused-26` say it number by number.
 use mathlib.Core.Path.{_≡_}
 use mathlib.Core.Logic.{_⊎_}
 use mathlib.Core.List.{List, [], _∷_, _++_}
@@ -16,7 +16,7 @@ use Rattle.text_tie_file.specs.Lines.{Narrow, Wide, BannerOf, BlankLine,
 use Rattle.text_tie_file.specs.Lines.{Unstored}
 use Rattle.text_tie_file.specs.File.{written, SayAll, Laid, PairTwice}
 
--- ---- lines that are as they should be, and what is behind them
+-- ---- well-formed lines, and what follows them
 -- a banner, then blank lines and comment lines
 pub record Opens (lines : List (List ℕ)) (kind : Kind) (rest : List (List ℕ)) : Type 0 where
   pub banner : List ℕ
@@ -27,7 +27,7 @@ pub record Opens (lines : List (List ℕ)) (kind : Kind) (rest : List (List ℕ)
   pub isBanner : BannerOf kind banner
   pub areAbove : Every BlankOrComment above
 
--- and a size line `N N L` within the limits, and lines of which those that are not blank say entries, at most L
+-- also a size line `N N L` within the limits, and lines of which those that are not blank state entries, at most L
 pub record Enters (lines : List (List ℕ)) (kind : Kind) (n count : ℕ) (entries : List Entry) (rest : List (List ℕ))
     : Type 0 where
   pub size : List ℕ
@@ -41,12 +41,12 @@ pub record Enters (lines : List (List ℕ)) (kind : Kind) (n count : ℕ) (entri
   pub says : SayAll kind n (written below) entries
   pub few : length entries ≤ count
 
--- ---- 20: there is no line, or the first is no banner
+-- ---- 20: there is no line, or the first is not a banner
 abbrev pub NoBanner : List (List ℕ) → Type 0
 NoBanner [] = Unit
 NoBanner (line ∷ lines) = Narrow line × ((kind : Kind) → BannerOf kind line → ⊥)
 
--- ---- 21: behind the opening there is no line, or one that is no comment, not blank and not `N N L`
+-- ---- 21: after the opening there is no line, or one that is not a comment, not blank and not `N N L`
 abbrev pub SizeFails : List (List ℕ) → Type 0
 SizeFails [] = Unit
 SizeFails (line ∷ lines) =
@@ -77,8 +77,8 @@ pub record LargeSize (lines : List (List ℕ)) : Type 0 where
   pub isSize : ThreeWords IsNumber size n n count
   pub past : (maxOrder < n) ⊎ (maxEntries < count)
 
--- ---- 23, 24, 26: the line behind entries
--- it is not blank, and no entry has its shape
+-- ---- 23, 24, 26: the line after entries
+-- it is not blank, and does not have the shape of an entry
 pub record NoEntry (lines : List (List ℕ)) : Type 0 where
   pub kind : Kind
   pub n : ℕ
@@ -92,7 +92,7 @@ pub record NoEntry (lines : List (List ℕ)) : Type 0 where
   pub nonBlank : BlankLine line → ⊥
   pub fails : (e : Entry) → Shaped kind n line e → ⊥
 
--- the lines end before there are L entries, or one more that is not blank stands behind them
+-- the lines end before there are L entries, or one more that is not blank follows them
 abbrev pub CountFails : ℕ → List Entry → List (List ℕ) → Type 0
 CountFails count entries [] = length entries < count
 CountFails count entries (line ∷ rest) = (length entries ≡ count) × Narrow line × (BlankLine line → ⊥)
@@ -106,7 +106,7 @@ pub record WrongCount (lines : List (List ℕ)) : Type 0 where
   pub enters : Enters lines kind n count entries rest
   pub fails : CountFails count entries rest
 
--- it has the shape of an entry above the diagonal, where none is stored
+-- it has the shape of an entry above the diagonal in a file that stores none there
 pub record AboveDiagonal (lines : List (List ℕ)) : Type 0 where
   pub kind : Kind
   pub n : ℕ
@@ -121,7 +121,7 @@ pub record AboveDiagonal (lines : List (List ℕ)) : Type 0 where
   pub shaped : Shaped kind n line entry
   pub unstored : Unstored kind entry
 
--- ---- 25: a file but for a pair that stands twice
+-- ---- 25: a file except for a pair that occurs twice
 pub record Repeats (input : List ℕ) : Type 0 where
   pub kind : Kind
   pub n : ℕ

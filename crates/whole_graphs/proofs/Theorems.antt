@@ -77,7 +77,7 @@ left-is g m s after e =
     (costs-length g (valueLogs (m .values)) n) in
     rw (e, last, rows, costs) refl
 
--- and it is left where nothing is wrong
+-- and it is left if nothing is wrong
 pub left-built : (n : ℕ) (g : GraphColumns) (logs : List Float) (s after : Slices) (a : Built) (fault : ℕ)
     → outcomeIs a after ≡ outcome fault n g logs s → fault ≡ 0 → after ≡ built n g logs s
 left-built n g logs s after a fault o e = ap (λ (x : Outcome Built Slices). x .after) (o ∙ ap (λ (f : ℕ). outcome f n g logs s) e)
@@ -115,7 +115,7 @@ fits-alike : (room : ℕ) (m : Matrix) (s : Slices) → slicesFit room m (valueL
 unfolding slicesFit
 fits-alike room m s = rw (length-map (m .values) (λ x. doubleOf (wholeLog x))) refl
 
--- whole costs, where the value at every place of a column does not equal zero
+-- whole costs, if no value at a place of a column equals zero
 costs-whole : (g : GraphColumns) (m : Matrix) → m .pattern .n ≤ 4096 → Doubles (m .values) → finiteFault (m .values) ≡ 0
     → ((c i : ℕ) → c < m .pattern .n → i < length (g .places c) → (getD (g .places c) i 0 < length (m .values))
     × (eq (getD (m .values) (getD (g .places c) i 0) nan) Constants.zero ≡ false))
@@ -163,7 +163,7 @@ module _ (m : Matrix) (s : Slices) (fine : wholeSymmetricFault m s ≡ 0) (doubl
   symmetric-stored = lengths-fitting (2 * length (m .pattern .rowIdx)) m (m .values) s
       (sizes-accepted (m .pattern .n) maxSymmetric (length (m .pattern .rowIdx)) _ .0 (parts .0) .2) .valued
 
-  -- what the building asks for, of the values in the place of logs
+  -- what the building requires, with the values in place of logs
   pub symmetric-ready : Triangle m
       × (((length (m .pattern .colPtr) ≡ m .pattern .n + 1) × (length (m .values) ≡ length (m .pattern .rowIdx)))
       × (((length (s .graphPtr) ≡ m .pattern .n + 1) × (length (s .cmax) ≡ m .pattern .n)) × SymmetricSteps.Roomy (m .pattern .colPtr) (m .pattern .rowIdx)
@@ -255,7 +255,7 @@ module _ (m : Matrix) (s : Slices) (fine : wholeGeneralFault m s ≡ 0) (doubles
   general-matched : Accepted (graphBy (keptColumns m) m)
   general-matched = GeneralLaws.graph-matched m (valueLogs (m .values)) s general-fine (logs-double (m .pattern .n) few (m .values) doubles (tests .1 .1))
 
-  -- what the building asks for, of the values in the place of logs
+  -- what the building requires, with the values in place of logs
   pub general-ready : GeneralSteps.Accepted m (m .values) × GeneralSteps.Roomy (m .pattern .n) (m .pattern .rowIdx) (s .graphPtr) (s .graphIdx) (s .cost)
       (s .cmax) × (length (m .pattern .rowIdx) ≤ length (s .work))
   general-ready =

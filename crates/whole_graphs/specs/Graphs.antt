@@ -1,5 +1,5 @@
 -- SPECIFICATION 6.4: Cost graphs from whole-number logarithms of the values in place of lent logs: what the building of
--- each kind answers and leaves, and what is promised of the graph. Refused are what the matrix's own tests refuse, then
+-- each kind answers and leaves, and what is promised of the graph. It refuses what the matrix's own tests refuse, then
 -- a value that is not finite (9), in stored order. Zeros are dropped.
 use mathlib.Core.Path.{_≡_}
 use mathlib.Core.Bool.{Bool}
@@ -30,7 +30,7 @@ use Rattle.mc64_general.specs.Graph.{keptColumns}
 unfoldable pub finiteFault : List Float → ℕ
 finiteFault values = firstOf (length values) (λ k. unless (finite (getD values k nan)) valueNotFinite) 0
 
--- 3: whether every slice has its length. No logs are lent: the values stand in their place
+-- 3: whether every slice has its length. No logs are lent: the values take their place
 abbrev pub symmetricLengths : Matrix → Slices → Bool
 symmetricLengths m s = slicesFit (2 * length (m .pattern .rowIdx)) m (m .values) s
 
@@ -72,13 +72,13 @@ graphLeft n after =
     let kept = getD (after .graphPtr) n 0 in
     graphOf n (after .graphPtr) (take kept (after .graphIdx)) (take kept (after .cost))
 
--- the match accepts a graph, all its costs are whole, and so its match is optimal
+-- the match accepts the graph, all its costs are whole, and its match is optimal
 pub record WholeGraph (g : CostGraph) : Type 0 where
   pub matched : Accepted g
   pub whole : WholeCosts g
   pub optimal : Optimal g (hungarianMatch g)
 
--- this holds of the graph that an accepting call leaves
+-- this holds for the graph that an accepted call leaves
 abbrev pub LeavesWhole : ℕ → ℕ → Slices → Type 0
 LeavesWhole number n after = number ≡ accepted → WholeGraph (graphLeft n after)
 
@@ -87,7 +87,7 @@ LeavesWhole number n after = number ≡ accepted → WholeGraph (graphLeft n aft
 pub record SymmetricPromises (m : Matrix) (before : Slices) (r : Built) (after : Slices) : Type 0 where
   -- the answer and every slice left are the definition's
   pub outcome : outcomeIs r after ≡ wholeSymmetricGraph m before
-  -- the number is the first fault's, and an accepted call tells how many entries the graph has
+  -- the number is that of the first fault, and an accepted call answers how many entries the graph has
   pub answered : AnswersBy (wholeSymmetricFault m before) (keptBefore (mirroredColumns m) (m .pattern .n)) r
   -- the match accepts the graph of an accepted call, and is optimal
   pub optimal : LeavesWhole (numberOf r) (m .pattern .n) after
@@ -98,7 +98,7 @@ pub record SymmetricPromises (m : Matrix) (before : Slices) (r : Built) (after :
 pub record GeneralPromises (m : Matrix) (before : Slices) (r : Built) (after : Slices) : Type 0 where
   -- the answer and every slice left are the definition's
   pub outcome : outcomeIs r after ≡ wholeGeneralGraph m before
-  -- the number is the first fault's, and an accepted call tells how many entries the graph has
+  -- the number is that of the first fault, and an accepted call answers how many entries the graph has
   pub answered : AnswersBy (wholeGeneralFault m before) (keptBefore (keptColumns m) (m .pattern .n)) r
   -- the match accepts the graph of an accepted call, and is optimal
   pub optimal : LeavesWhole (numberOf r) (m .pattern .n) after

@@ -10,7 +10,7 @@ ghost use Rattle.mc64_columns.specs.Graphs.{slices};
 ghost use Rattle.whole_graphs.specs.Graphs.{finiteFault, symmetricInputFault, generalInputFault};
 ghost use Rattle.whole_graphs.specs.Graphs.{SymmetricPromises, GeneralPromises};
 
-// Refusal 9, or 0. There is no way out of the loop, so that it runs through several values at a time.
+// Refusal 9, or 0. The loop has no early exit, so that it can test several values at a time.
 fn values_fault(values: &[f64]) -> u32
     ensures { λ r. ⌜ r ≡ finiteFault (now (values .entry)) ⌝ }
 {

@@ -1,4 +1,4 @@
--- The three ways out of the call that stores a logarithm: another length, a logarithm, a refusal of x.
+-- The three returns of the call that stores a logarithm: a wrong length, a logarithm, a refusal of x.
 use mathlib.Core.Path.{_≡_, refl, sym, ap, _∙_, subst}
 use mathlib.Core.Bool.{Bool, true, false, cond, true≢false}
 use mathlib.Core.List.{List, [], _∷_}

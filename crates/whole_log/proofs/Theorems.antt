@@ -216,7 +216,7 @@ log-correct (fin s (suc m) e) t =
     let x = fin s (suc m) e in
     record { q = logOf (magnitude x); shifted = units-shifted (logOf (magnitude x)); bounds = log-bounds (magnitude x) (above-zero s m e t) }
 
--- the computed answer is a logarithm exactly where nothing is wrong with x
+-- the computed answer is a logarithm exactly if nothing is wrong with x
 pub number-is : (x : Float) → numberOf (wholeLog x) ≡ logFault x
 unfolding wholeLog
 number-is nan = refl

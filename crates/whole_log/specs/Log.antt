@@ -17,12 +17,12 @@ abbrev pub numberOf : Log → ℕ
 numberOf (Is p) = accepted
 numberOf (Refused number) = number
 
--- the logarithm itself, 0 where there is none
+-- the logarithm itself, 0 if there is none
 abbrev pub valueOf : Log → ℤ
 valueOf (Is p) = p
 valueOf (Refused number) = pos 0
 
--- it as a double, a NaN where there is none
+-- the logarithm as a double, NaN if there is none
 abbrev pub doubleOf : Log → Float
 doubleOf (Is p) = ofInt binary64 p
 doubleOf (Refused number) = nan
@@ -49,7 +49,7 @@ unfoldable pub logFrom : ℕ → ℕ → ℕ → ℕ
 logFrom zero m e = e
 logFrom (suc k) m e = logFrom k (squared m) (2 * e + digitOf m)
 
--- the 32 leading digits of n, with zeros behind them where it has fewer
+-- the 32 leading digits of n, followed by zeros if it has fewer
 abbrev pub leading : ℕ → ℕ
 leading n = n * 2 ^ 31 / 2 ^ (size n - 1)
 
@@ -58,7 +58,7 @@ unfoldable pub logOf : ℕ → ℕ
 unfolding logFrom size
 logOf n = logFrom 16 (leading n) (size n - 1)
 
--- a size in units of 2 ^ -1074 has 1074 * 65536 more than the number
+-- the logarithm of a size in units of 2 ^ -1074 is larger than that of the number by 1074 * 65536
 abbrev pub fromUnits : ℕ → ℤ
 fromUnits log = subℕ log (1074 * 65536)
 
@@ -77,8 +77,8 @@ pub record Bounds (q n : ℕ) : Type 0 where
   pub atMost : 2 ^ q ≤ n
   pub below : n < 2 ^ (q + 2)
 
--- 2 ^ p is at most the magnitude of x to the power 65,536, which is below 2 ^ (p + 2). The magnitude is `magnitude x` / 2
--- ^ 1074, so that both sides are taken 2 ^ (1074 * 65536) times; q is p + 1074 * 65536.
+-- 2 ^ p is at most the magnitude of x to the power 65,536, which is below 2 ^ (p + 2). The magnitude is
+-- `magnitude x` / 2 ^ 1074, so both sides are taken 2 ^ (1074 * 65536) times; q is p + 1074 * 65536.
 pub record Logarithm (x : Float) (p : ℤ) : Type 0 where
   pub q : ℕ
   pub shifted : p +ℤ pos (1074 * 65536) ≡ pos q

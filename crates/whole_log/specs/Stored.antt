@@ -1,5 +1,5 @@
--- SPECIFICATION 9.1: What the call that stores a logarithm answers and leaves: 3 for a slice that has not one place,
--- then 9 as the logarithm itself; a refusal changes nothing.
+-- SPECIFICATION 9.1: What the call that stores a logarithm answers and leaves: 3 unless the slice has one place, then 9
+-- like the logarithm itself; a refusal changes nothing.
 use mathlib.Core.Path.{_≡_}
 use mathlib.Core.Bool.{cond}
 use mathlib.Core.List.{List, [], _∷_}

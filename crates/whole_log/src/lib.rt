@@ -1,5 +1,5 @@
-// The base-two logarithm of a double in units of 1/65,536, by integers alone (specs/Log.antt). The 32 leading
-// digits are squared sixteen times, each square is cut to 32 digits again, and gives one binary digit.
+// The base-two logarithm of a double in units of 1/65,536, by integers only (specs/Log.antt). The 32 leading digits are
+// squared sixteen times; each square gives one binary digit and is cut to 32 digits again.
 ghost use mathlib.Core.Path.{_≡_};
 ghost use Prim.Native.Nat.{_*_, _^_, _≤_, _<_};
 ghost use lib.Ieee.{binary64, ofBits};
@@ -66,7 +66,7 @@ fn units_log(bits: u64) -> u64
     log_from((x.significand >> 21) as u32, x.exponent - 1022)
 }
 
-// Sixteen more digits of a logarithm of which e is known, from the 32 leading digits of the number.
+// Sixteen more digits of a logarithm that begins with e, from the 32 leading digits of the number.
 fn log_from(leading: u32, known: u64) -> u64
     requires { ⌜ (2 ^ 31 ≤ leading) × (known < 2098) ⌝ }
     ensures { λ r. ⌜ (r ≡ logFrom 16 leading known) × (r < 2098 * 65536) ⌝ }

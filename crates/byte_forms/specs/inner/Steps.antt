@@ -1,4 +1,4 @@
--- What the inner functions ask and promise each other.
+-- What the inner functions require and promise.
 use mathlib.Core.Path.{_≡_}
 use mathlib.Core.List.{List}
 use mathlib.Core.Bool.{true}
@@ -14,7 +14,7 @@ use Rattle.hungarian_match.specs.Call.{Slices, answerLength}
 use Rattle.byte_forms.specs.MatchBytes.{byteColumns, GraphBytes, MatchBytes, byteEntries, resultBy, wordCount}
 use Rattle.byte_forms.specs.FactorBytes.{FactorBytes, factorBytes, factorsLaid}
 
--- what is told of a match whose sizes are in order
+-- what is answered for a match whose sizes are in order
 unfoldable pub cacheResult : ℕ → ℕ → Match Float → List ℕ → List ℕ → Outcome ℕ FactorBytes
 unfolding factorsLaid
 cacheResult n matched c factors unmatched =
@@ -27,7 +27,7 @@ pub record Duals {A : Type 0} (n k : ℕ) (u v cmax : List A) : Type 0 where
   pub columnDuals : length v ≡ k
   pub largest : length cmax ≡ k
 
--- the same of a graph whose sizes are in order
+-- the same for a graph whose sizes are in order
 unfoldable pub graphResult : CostGraph → MatchBytes → Outcome ℕ MatchBytes
 unfolding resultBy
 graphResult g old = resultBy (graphFault g true) g old

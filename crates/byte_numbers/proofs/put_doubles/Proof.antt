@@ -1,4 +1,4 @@
--- `put_doubles` meets its contract. The loop's invariant: the bytes of the first i values stand in front of what was there.
+-- `put_doubles` meets its contract. The loop's invariant: the bytes of the first i values precede what was there.
 use mathlib.Core.Path.{_≡_, refl, sym, ap, _∙_}
 use Prim.Native.Nat.{ℕ, _*_, _-_, _≤_}
 use native.Mathlib.Omega.{arith}

@@ -1,4 +1,4 @@
--- `read_doubles` meets its contract. The loop's invariant: the first i doubles stand in front of what was there.
+-- `read_doubles` meets its contract. The loop's invariant: the first i doubles precede what was there.
 use mathlib.Core.Path.{_≡_, refl, ap, _∙_}
 use Prim.Native.Nat.{_-_, _≤_}
 use native.Mathlib.Omega.{arith}

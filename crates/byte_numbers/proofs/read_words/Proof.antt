@@ -1,4 +1,4 @@
--- `read_words` meets its contract. The loop's invariant: the first i words stand in front of what was there.
+-- `read_words` meets its contract. The loop's invariant: the first i words precede what was there.
 use mathlib.Core.Path.{_≡_, refl, ap, _∙_}
 use Prim.Native.Nat.{_-_, _≤_}
 use native.Mathlib.Omega.{arith}

@@ -7,7 +7,7 @@ use lib.Ieee.{Float}
 use Rattle.float64.specs.Number.{Number, negative, unitsPerOne, magnitude}
 use Rattle.float64.specs.inner.Keys.{Ordered}
 
--- below the limit in size are the numbers whose product with n is below 2 ^ e
+-- a size is below the limit exactly if its product with n is below 2 ^ e
 pub record Bound (e n : ℕ) (limit : Float) : Type 0 where
   pub ordered : Ordered limit
   pub sign : negative limit ≡ false

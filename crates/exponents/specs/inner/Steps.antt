@@ -6,7 +6,7 @@ use lib.Ieee.{Float}
 use Rattle.exponents_powers.specs.Power.{withinLimit}
 use Rattle.exponents.specs.Exponent.{exponentOf, factorFits}
 
--- r is the exponent of the factor x, or beyond the limit where it has none
+-- r is the exponent of the factor x, or beyond the limit if it has none
 pub record Exponent (x : Float) (r : ℤ) : Type 0 where
   pub fits : withinLimit r ≡ factorFits x
   pub is : factorFits x ≡ true → r ≡ exponentOf x

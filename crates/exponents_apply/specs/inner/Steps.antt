@@ -1,4 +1,4 @@
--- What the functions of the call ask of each other.
+-- What the functions of the call require.
 use mathlib.Core.Path.{_≡_}
 use mathlib.Core.Bool.{true}
 use mathlib.Core.List.{List}

@@ -1,4 +1,4 @@
--- `is_scalable` meets its contract: the sum of the raised exponents and the field is in range exactly where the new field is normal.
+-- `is_scalable` meets its contract: the sum of the raised exponents and the field is in range exactly if the new field is normal.
 use mathlib.Core.Path.{ap}
 use mathlib.Core.Bool.{Bool, _&&_, _||_}
 use Prim.Native.Nat.{_+_}

@@ -1,4 +1,4 @@
--- `scaled` meets its contract: a zero stays; of another the new field stands where the old one stood.
+-- `scaled` meets its contract: a zero stays; otherwise the new field replaces the old one.
 use mathlib.Core.Path.{sym}
 use native.Mathlib.Omega.{arith}
 use borrow.Author.Needs.{needs}

@@ -1,5 +1,5 @@
--- What the steps of the flat rule ask and leave: matched indices are marked 1, unmatched ones 0 until they have a sum
--- and 2 from then on, with the largest sum so far in the place of the factor.
+-- What the steps of the flat rule require and leave: matched indices are marked 1, unmatched ones 0 until they have a
+-- sum and 2 afterwards, with the largest sum so far in the place of the factor.
 use mathlib.Core.Path.{_≡_}
 use mathlib.Core.Bool.{Bool, true, false, cond, _||_}
 use mathlib.Core.List.{List, [], _∷_}
@@ -19,7 +19,7 @@ use Rattle.factors_mc64.specs.Calls.{Slices, slices}
 use Rattle.factors_mc64.specs.inner.Steps.{bit}
 use Rattle.factors_flat.specs.Flat.{Input, input, matchedBy, isMatched, sumsOver}
 
--- the mark of an index, and what stands in the place of its factor
+-- the mark of an index, and what is in the place of its factor
 abbrev pub mark : Bool → List Float → ℕ
 mark true sums = 1
 mark false [] = 0
@@ -64,7 +64,7 @@ pub record Enters (m : Matrix) (logs : List Float) (k l : ℕ) (before after : S
       → Levelled (m .pattern .n) c (sumsTo (input c m logs) l) after
 
 -- ---- one entry
--- the larger of what is held and a sum, which counts if it is the first or strictly larger
+-- the larger of the sum so far and another, which counts if it is the first or strictly larger
 abbrev pub raisedTo : ℕ → Float → Float → Float
 raisedTo mark best sum = cond (eqb mark 0 || lt best sum) sum best
 
@@ -76,7 +76,7 @@ raisedAt to from log s =
     (raisedTo (getD (s .work) to 0) (getD (s .factors) to nan) (add binary64 log (getD (s .factors) from nan))))
     (set (s .work) to 2)
 
--- an entry of row i and column j counts for its unmatched end where the other one is matched
+-- an entry of row i and column j counts for its unmatched end if the other one is matched
 abbrev pub entered : Bool → Bool → ℕ → ℕ → Float → Slices → Slices
 entered true true i j log s = s
 entered false false i j log s = s

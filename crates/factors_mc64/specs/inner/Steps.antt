@@ -1,4 +1,4 @@
--- What the steps of the calls ask and leave.
+-- What the steps of the calls require and leave.
 use mathlib.Core.Path.{_≡_}
 use mathlib.Core.Bool.{Bool, true, false}
 use mathlib.Core.List.{List}

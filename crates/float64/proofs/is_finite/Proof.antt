@@ -1,4 +1,4 @@
--- `float64::is_finite` meets its contract: x - x is 0.0 exactly where x is finite.
+-- `float64::is_finite` meets its contract: x - x is 0.0 exactly if x is finite.
 use Rattle.float64.proofs.Functions.{self-difference}
 use Rattle.float64.proofs.is_finite.Statement.{statement}
 use Rattle.float64.proofs.is_finite.Tie as tie

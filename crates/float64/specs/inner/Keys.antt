@@ -1,11 +1,11 @@
--- Where a double stands on one line of natural numbers: the order of doubles is that of their keys.
+-- The place of a double on a line of natural numbers: the order of doubles is that of their keys.
 use mathlib.Core.Bool.{Bool, true, false, not}
 use Prim.Native.Nat.{ℕ, _+_, _-_}
 use lib.Dec.{T}
 use lib.Ieee.{Float, binary64, fits, isNan}
 use Rattle.float64.specs.Number.{magnitude, origin, negative}
 
--- x is a double that compares: any but a NaN
+-- x is a double other than NaN, so that it compares
 pub record Ordered (x : Float) : Type 0 where
   pub double : T (fits binary64 x)
   pub notNan : T (not (isNan x))

@@ -42,7 +42,7 @@ pub record Tight (g : CostGraph) (s : Pairs) (u : List Float) : Type 0 where
       → position (costOf g (at (s .jperm) j)) + position (dual u (rowOf (g .pattern) k))
       ≤ position (costOf g k) + position (dual u (rowOf (g .pattern) (at (s .jperm) j)))
 
--- where sums are exact: no dual is below minus 2 n - 1 times the cost limit
+-- if sums are exact: no dual is below minus 2 n - 1 times the cost limit
 pub record Floored (C : ℕ) (g : CostGraph) (u : List Float) : Type 0 where
   pub low : (i : ℕ) → i < g .pattern .n → origin + C * unitsPerOne
       ≤ position (dual u i) + 2 * (g .pattern .n * (C * unitsPerOne))

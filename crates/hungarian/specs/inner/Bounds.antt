@@ -8,7 +8,7 @@ use Rattle.float64.specs.inner.Keys.{position}
 use Rattle.float64.specs.inner.Arithmetic.{Apart}
 use Rattle.float64.specs.Constants.{rinf}
 
--- p times the cost limit and a little more
+-- p times the cost limit, and a little more
 unfoldable pub level : ℕ → ℕ → ℕ
 level C p = p * ((C + 4) * unitsPerOne)
 

@@ -40,7 +40,7 @@ pub record GoodDistance (Good : Float → Type 0) (err b : ℕ) (u : List Float)
   pub small : Small Good b start
   pub distance : Distance Good err start (dual u i) x
 
--- how the matched row i was reached: by the entry `out` of the scanned column `pr` of its own column
+-- how the matched row i was reached: by the entry `out` of the scanned column `pr`, both of its own column
 pub record Reached (Good : Float → Type 0) (err C : ℕ) (g : CostGraph) (s : Pairs) (u : List Float) (r : ℕ)
     (popped pr out : List ℕ) (d : List Float) (i : ℕ) : Type 0 where
   pub row : i < g .pattern .n

@@ -1,5 +1,5 @@
--- What a search supposes of a graph: what the graph test shows of an accepted one, over any arithmetic of doubles with
--- a small error, and any cost limit C with n · C at most 2 ^ 48 + n.
+-- What a search assumes of a graph: what the graph test shows of an accepted one, over any arithmetic of doubles with a
+-- small error, and any cost limit C with n · C at most 2 ^ 48 + n.
 use mathlib.Core.Path.{_≡_}
 use Prim.Native.Nat.{ℕ, suc, _+_, _*_, _^_, _≤_, _<_}
 use lib.ListN.{length}

@@ -1,4 +1,4 @@
--- `hungarian_best::best_of` meets its contract: the loop's invariant is `Choosing`, whose laws are in Choices. What is left are bounds: an entry's
+-- `hungarian_best::best_of` meets its contract: the loop's invariant is `Choosing`, whose laws are in Choices. What remains are bounds: an entry's
 -- row is one of the n.
 use mathlib.Core.Logic.{⊎-elim}
 use Prim.Native.Nat.{_+_, _-_, _<_}

@@ -1,4 +1,4 @@
--- `hungarian_claim::claim` meets its contract: each of its four ends is a case of the definition's claim, by the laws of Claims. What is left are
+-- `hungarian_claim::claim` meets its contract: each of its four ends is a case of the definition's claim, by the laws of Claims. What remains are
 -- bounds: the row's column is one of the n.
 use Prim.Native.Nat.{_<_, _+_}
 use native.Mathlib.Numerals.{add-one}

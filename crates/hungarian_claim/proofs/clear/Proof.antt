@@ -1,4 +1,4 @@
--- `hungarian_claim::clear` meets its contract: the loop's invariant is `Clearing`, whose laws are in Minima. What is left are bounds.
+-- `hungarian_claim::clear` meets its contract: the loop's invariant is `Clearing`, whose laws are in Minima. What remains are bounds.
 use Prim.Native.Nat.{_-_}
 use native.Mathlib.Omega.{arith}
 use lib.ListN.{length-set}

@@ -1,4 +1,4 @@
--- `hungarian_claim::lower` meets its contract: each way out is one value of the test.
+-- `hungarian_claim::lower` meets its contract: each return is one value of the test.
 use mathlib.Core.Path.{refl}
 use Rattle.hungarian_claim.proofs.lower.Statement.{statement}
 use Rattle.hungarian_claim.proofs.lower.Tie as tie

@@ -1,4 +1,4 @@
--- `hungarian_claim::lower_column` meets its contract: the loop's invariant is `Lowering`, whose laws are in Minima. What is left are bounds: an
+-- `hungarian_claim::lower_column` meets its contract: the loop's invariant is `Lowering`, whose laws are in Minima. What remains are bounds: an
 -- entry's row is one of the n.
 use Prim.Native.Nat.{_+_, _-_, _<_}
 use native.Mathlib.Omega.{arith}

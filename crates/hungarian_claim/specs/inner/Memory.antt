@@ -1,4 +1,4 @@
--- The states of phases 1 and 2 as the slices hold them, and what the code asks of the slices.
+-- The states of phases 1 and 2 as the slices hold them, and what the code requires of the slices.
 use mathlib.Core.Path.{_≡_}
 use mathlib.Core.Logic.{_⊎_}
 use mathlib.Core.List.{List}

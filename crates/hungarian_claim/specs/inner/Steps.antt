@@ -14,12 +14,12 @@ use Rattle.hungarian.specs.Init as definition
 use Rattle.hungarian.specs.inner.Layout.{Workspace, region, ipermAt, jpermAt, leastAt}
 use Rattle.hungarian_claim.specs.inner.Memory.{minimaOf, pairsCounted, Columned}
 
--- no row has been looked at, no column has an entry
+-- no row has been examined, no column has an entry
 pub record Cleared (n : ℕ) (u : List Float) (w : List ℕ) : Type 0 where
   pub minima : minimaOf n u w ≡ record { u = replicate n rinf; iperm = replicate n none; least = replicate n none }
   pub entries : region jpermAt n w ≡ replicate n none
 
--- column j has been looked at
+-- column j has been examined
 pub record Lowered (g : CostGraph) (j : ℕ) (u : List Float) (w : List ℕ) (u' : List Float) (w' : List ℕ) : Type 0 where
   pub minima : minimaOf (g .pattern .n) u' w' ≡ each (start (g .pattern) j) (end (g .pattern) j) (lower g j)
       (minimaOf (g .pattern .n) u w)
@@ -29,7 +29,7 @@ pub record Minimal (g : CostGraph) (u : List Float) (w : List ℕ) : Type 0 wher
   pub minima : minimaOf (g .pattern .n) u w ≡ phase1 g
   pub entries : region jpermAt (g .pattern .n) w ≡ replicate (g .pattern .n) none
 
--- what a claim asks: pointers that rise, and columns in range
+-- what a claim requires: pointers that rise, and columns in range
 pub record Claimable (n : ℕ) (colPtr w : List ℕ) : Type 0 where
   pub workspace : Workspace n w
   pub pointerCount : length colPtr ≡ suc n

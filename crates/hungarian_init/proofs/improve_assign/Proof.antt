@@ -1,5 +1,5 @@
 -- `hungarian_init::improve_assign` meets its contract: the invariants of its three loops are `Outer`, `Middle` and `Inner`, whose laws are in
--- Improving. A swap goes from the innermost to the outermost. What is left are bounds.
+-- Improving. A swap goes from the innermost to the outermost. What remains are bounds.
 use mathlib.Core.Path.{_≡_, refl, _∙_}
 use mathlib.Core.Logic.{inl, inr, ⊎-elim}
 use Prim.Native.Nat.{_+_, _-_, _*_, _<_}

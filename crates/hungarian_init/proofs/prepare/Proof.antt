@@ -1,4 +1,4 @@
--- `hungarian_init::prepare` meets its contract: the loop's invariant is `Preparing`, whose laws are in Preparing. What is left are bounds.
+-- `hungarian_init::prepare` meets its contract: the loop's invariant is `Preparing`, whose laws are in Preparing. What remains are bounds.
 use Prim.Native.Nat.{_-_}
 use native.Mathlib.Omega.{arith}
 use Rattle.hungarian_init.proofs.Preparing.{Preparing, preparing-start, preparing-turn, preparing-end}

@@ -1,4 +1,4 @@
--- `hungarian_init::start` meets its contract: each phase leaves what the next asks, by the laws of Begins.
+-- `hungarian_init::start` meets its contract: each phase leaves what the next requires, by the laws of Begins.
 use mathlib.Core.Path.{_∙_}
 use borrow.Author.Needs.{needs}
 use native.Mathlib.Omega.{arith}

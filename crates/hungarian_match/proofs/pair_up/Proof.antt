@@ -1,4 +1,4 @@
--- `pair_up` meets its contract: the start leaves what the searches ask, and either end leaves the last pairs.
+-- `pair_up` meets its contract: the start leaves what the searches require, and either end leaves the last pairs.
 use mathlib.Core.Path.{_∙_}
 use Rattle.hungarian_match.proofs.pair_up.Statement.{statement}
 use Rattle.hungarian_match.proofs.pair_up.Tie as tie

@@ -1,4 +1,4 @@
--- The pairs, the row duals and the counts from which the match is finished: those of the start where it matches every
+-- The pairs, the row duals and the counts from which the match is finished: those of phases 1 to 3 if they match every
 -- column, else those after the searches.
 use mathlib.Core.Bool.{cond}
 use mathlib.Core.List.{List}

@@ -1,4 +1,4 @@
--- What the parts of the call ask and leave.
+-- What the parts of the call require and leave.
 use mathlib.Core.Path.{_≡_}
 use mathlib.Core.List.{List}
 use Prim.Native.Nat.{ℕ, _+_, _*_}

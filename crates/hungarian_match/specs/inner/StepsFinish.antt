@@ -1,4 +1,4 @@
--- What the last steps ask and leave.
+-- What the last steps require and leave.
 use mathlib.Core.Path.{_≡_}
 use mathlib.Core.Logic.{_⊎_}
 use mathlib.Core.List.{List}

@@ -1,4 +1,4 @@
--- What a search's functions ask and promise.
+-- What the functions of a search require and promise.
 use mathlib.Core.Path.{_≡_}
 use mathlib.Core.Logic.{_≢_}
 use mathlib.Core.Bool.{cond, false}

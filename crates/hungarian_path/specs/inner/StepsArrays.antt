@@ -1,4 +1,4 @@
--- What the functions ask and promise that make a search's arrays ready: after a search, and before the first.
+-- What the functions that prepare the arrays of a search require and promise: after a search, and before the first.
 use mathlib.Core.Path.{_≡_}
 use mathlib.Core.Logic.{_⊎_}
 use mathlib.Core.List.{List}

@@ -1,4 +1,4 @@
--- What the functions ask and promise that flip the pairs along the path that a search found.
+-- What the functions that flip the pairs along the path of a search require and promise.
 use mathlib.Core.Path.{_≡_}
 use mathlib.Core.Logic.{_⊎_}
 use mathlib.Core.List.{List}

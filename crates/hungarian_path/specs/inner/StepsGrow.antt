@@ -1,5 +1,5 @@
--- What the functions that grow a search's tree ask and promise. What they ask rests on the theory of the match: its
--- setting, and what holds of a tree.
+-- What the functions that grow a search's tree require and promise. What they require comes from the theory of the
+-- match: its setting, and what holds of a tree.
 use mathlib.Core.Path.{_≡_}
 use mathlib.Core.Bool.{Bool, false, not, _||_}
 use mathlib.Core.List.{List, [], _∷_, _++_}
@@ -102,7 +102,7 @@ pub record Pops (n : ℕ) (w w' pos pos' : List ℕ) (keys' d : List Float) (fro
   pub touched : r .touched ≡ frontier .touched
   pub keyed : Keyed d (r .len) 0 (drop (heapAt * n) w') keys'
 
--- for all distances whose keys stand beside the heap's places
+-- for all distances whose keys are beside the heap's places
 abbrev pub PopsAll : (n : ℕ) (w w' pos pos' : List ℕ) (keys keys' : List Float) (frontier r : Frontier) → Type 0
 PopsAll n w w' pos pos' keys keys' frontier r =
     (d : List Float) → Keyed d (frontier .len) 0 (drop (heapAt * n) w) keys → Pops n w w' pos pos' keys' d frontier r

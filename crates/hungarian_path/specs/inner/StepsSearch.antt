@@ -1,4 +1,4 @@
--- What the search from a free column asks and promises: the state between searches, and the tree that is found from it.
+-- What the search from a free column requires and promises: the state between searches, and the tree found from it.
 use mathlib.Core.Path.{_≡_}
 use mathlib.Core.List.{List, []}
 use Prim.Native.Nat.{ℕ, _+_, _*_, _≤_, _<_}

@@ -44,7 +44,7 @@ treeOf n w pos d frontier stats = record {
   stats = stats;
 }
 
--- the popped rows are marked, and no others
+-- exactly the popped rows are marked
 abbrev pub Flagged : ℕ → (pos popped : List ℕ) → Type 0
 Flagged n pos popped = (i : ℕ) → i < n → eqb (getD pos i 0) none ≡ among i popped
 
@@ -67,7 +67,7 @@ pairsOf n w = record {
   num = matchedCount none n (λ j. getD (region jpermAt n w) j 0);
 }
 
--- by entry k its row is this far: cost minus u, from another column than the root with its offset v
+-- the distance of the row of entry k: cost minus u, plus the offset v of the column unless it is the root
 unfoldable pub entryDistance : Bool → Float → Float → Float → Float
 entryDistance root v c u = cond root (sub binary64 c u) (sub binary64 (add binary64 v c) u)
 

@@ -1,4 +1,4 @@
--- What the functions of a column's turn ask and promise: the answer followed, the state from column to column, all
+-- What the functions of a column's turn require and promise: what an answer does, the state from column to column, all
 -- searches.
 use mathlib.Core.Path.{_≡_}
 use mathlib.Core.List.{List, []}

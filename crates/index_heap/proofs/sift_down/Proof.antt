@@ -1,5 +1,5 @@
 -- `index_heap::sift_down` meets its contract: the loop's invariant is `Sinking`, whose laws are in Steps; the measure is what is left of the length.
--- What is left are bounds: the child is a row.
+-- What remains are bounds: the child is a row.
 use mathlib.Core.Path.{_≡_, sym, _∙_}
 use mathlib.Core.Logic.{⊎-elim}
 use Prim.Native.Nat.{_+_, _-_, _*_, _≤_, _<_, _^_}

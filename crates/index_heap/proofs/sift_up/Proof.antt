@@ -1,4 +1,4 @@
--- `index_heap::sift_up` meets its contract: the loop's invariant is `Rising`, whose laws are in Steps; the measure is the place. What is left are
+-- `index_heap::sift_up` meets its contract: the loop's invariant is `Rising`, whose laws are in Steps; the measure is the place. What remains are
 -- bounds: a parent is a row.
 use mathlib.Core.Path.{_≡_, sym, _∙_}
 use mathlib.Core.Logic.{inl, inr, ⊎-elim}

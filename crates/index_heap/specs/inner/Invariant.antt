@@ -13,7 +13,7 @@ use Rattle.index_heap.specs.IndexHeap.{Heap, rowAt, placeOf, keyOf}
 abbrev pub Within : Heap → ℕ → Type 0
 Within h i = 0 < placeOf h i
 
--- For n rows. Places past len hold rows too, old ones: they may be read, but count for nothing.
+-- For n rows. Places past len hold old rows: they may be read, but have no meaning.
 pub record Inverse (n : ℕ) (h : Heap) : Type 0 where
   pub heapLength : length (h .heap) ≡ n + 1
   pub posLength : length (h .pos) ≡ n
@@ -30,7 +30,7 @@ pub record Comparable (d : List Float) (h : Heap) : Type 0 where
 pub record HeapOrder (d : List Float) (h : Heap) : Type 0 where
   pub parent : (p : ℕ) → 2 ≤ p → p ≤ h .len → le (keyOf d (rowAt h (p / 2))) (keyOf d (rowAt h p)) ≡ true
 
--- h' has the rows of h, and as many places
+-- h' has the rows of h, and the same length
 pub record SameRows (h h' : Heap) : Type 0 where
   pub len : h' .len ≡ h .len
   pub stays : (i : ℕ) → Within h i → Within h' i

@@ -11,8 +11,8 @@ use Rattle.index_heap.specs.IndexHeap.{Heap, keyOf, siftUp, update, sift
 abbrev pub heapOf : (heap pos : List ℕ) → ℕ → Heap
 heapOf heap pos len = record { heap = heap; pos = pos; len = len }
 
--- What every step asks: places 0 to n, of which 0 is not used, a place for each row and a key for each place, and rows
--- at all places. What stands for a row that is not in the heap is free.
+-- What every step requires: places 0 to n, of which 0 is not used, a place for each row and a key for each place, and
+-- rows at all places. The place of a row that is not in the heap may be anything.
 pub record Ready (n : ℕ) (heap pos : List ℕ) (keys : List Float) : Type 0 where
   pub places : length heap ≡ n + 1
   pub room : length pos ≡ n
@@ -20,7 +20,7 @@ pub record Ready (n : ℕ) (heap pos : List ℕ) (keys : List Float) : Type 0 wh
   pub small : n < 2 ^ 32
   pub rows : (p : ℕ) → 1 ≤ p → p ≤ n → getD heap p 0 < n
 
--- the key of place p is that of its row, for the places of len rows but `hole`; 0 is no hole
+-- the key of place p is that of its row, for the places of len rows except `hole`; 0 means no hole
 pub record Keyed (d : List Float) (len hole : ℕ) (heap : List ℕ) (keys : List Float) : Type 0 where
   pub key : (p : ℕ) → 1 ≤ p → p ≤ len → p ≢ hole → getD keys (p - 1) nan ≡ keyOf d (getD heap p 0)
 
@@ -29,7 +29,7 @@ pub record Holds (d : List Float) (heap pos : List ℕ) (keys : List Float) (len
   pub same : heapOf heap pos len ≡ h
   pub keyed : Keyed d len 0 heap keys
 
--- ---- what each function promises, for all distances d whose keys stand beside the places
+-- ---- what each function promises, for all distances d whose keys are beside the places
 abbrev pub Lifted : (i : ℕ) (x : Float) (place : ℕ) (heap heap' pos pos' : List ℕ) (keys keys' : List Float) → Type 0
 Lifted i x place heap heap' pos pos' keys keys' =
     (d : List Float) (len : ℕ) → place ≤ len → keyOf d i ≡ x → Keyed d len place heap keys

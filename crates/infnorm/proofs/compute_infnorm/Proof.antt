@@ -1,4 +1,4 @@
--- `compute_infnorm` meets its contract: a fault is refused with nothing changed; what the tests leave is what the steps ask for.
+-- `compute_infnorm` meets its contract: a fault is refused with nothing changed; the tests establish what the steps require.
 use mathlib.Core.Path.{refl, sym, _∙_}
 use Rattle.sparse.specs.Matrix.{matrix}
 use Rattle.infnorm.proofs.Calls.{infnormLengths, matrix-accepted, infnorm-fault, infnorm-room, infnorm-refused, infnorm-done}

@@ -1,4 +1,4 @@
--- `compute_onepass` meets its contract: a fault is refused with nothing changed; what the tests leave is what the steps ask for.
+-- `compute_onepass` meets its contract: a fault is refused with nothing changed; the tests establish what the steps require.
 use mathlib.Core.Path.{refl, sym, _∙_}
 use Rattle.sparse.specs.Matrix.{matrix}
 use Rattle.infnorm.specs.Call.{lengthsFit}

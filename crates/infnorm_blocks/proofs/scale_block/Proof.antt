@@ -12,7 +12,8 @@ use Rattle.infnorm_blocks.proofs.scale_block.Statement.{statement}
 use Rattle.infnorm_blocks.proofs.scale_block.Tie as tie
 
 abbrev Inv-loop : tie.InvT-loop
-Inv-loop maxima₀ from roots i₀ maxima i = (i ≤ 16) × (from + 16 ≤ length maxima₀) × (length roots ≡ 16) × (length maxima ≡ length maxima₀) × Roots maxima₀ from roots 16
+Inv-loop maxima₀ from roots i₀ maxima i = (i ≤ 16) × (from + 16 ≤ length maxima₀) × (length roots ≡ 16) × (length maxima ≡ length maxima₀)
+    × Roots maxima₀ from roots 16
     × ((j : ℕ) → from + i ≤ j → getD maxima j nan ≡ getD maxima₀ j nan) × ScaledRows maxima₀ from maxima (from + i)
 
 abbrev μ-loop : tie.MeasureT-loop

@@ -47,8 +47,10 @@ slice-aggregate-scale-block c =
 scale-block-requires : tie.Need-scale-block-requires Inv-loop μ-loop
 scale-block-requires c κs =
     let roots-of = c .before .before .before in
-    let loop = loop-of-roots-of roots-of .loop in
-    ((omega (arith, roots-of .before .before .before .loop-test .taken, loop .inv .2 .same), roots-of .roots-of .kept .1 .1 .0 ∙ loop .inv .1), roots-of .roots-of .ensures)
+    let loop = loop-of-roots-of roots-of .loop in (
+      (omega (arith, roots-of .before .before .before .loop-test .taken, loop .inv .2 .same), roots-of .roots-of .kept .1 .1 .0 ∙ loop .inv .1),
+      roots-of .roots-of .ensures,
+    )
 
 add-from : tie.Need-add-from Inv-loop μ-loop
 add-from c =

@@ -9,6 +9,6 @@ use Rattle.slices.specs.inner.Steps.{Front}
 abbrev pub Scaling : List Float → List Float → ℕ → Type 0
 Scaling maxima factors i = Front (map invSqrtScaleGuarded maxima) maxima factors i
 
--- and from row `from` on this has come to row `to`, whatever the maxima were
+-- this holds from row `from` up to row `to`, whatever the maxima were
 pub record ScaledRows (factors : List Float) (from : ℕ) (factors' : List Float) (to : ℕ) : Type 0 where
   pub come : (maxima : List Float) → Scaling maxima factors from → Scaling maxima factors' to

@@ -1,4 +1,4 @@
--- What the walks over the entries ask for.
+-- What the walks over the entries require.
 use mathlib.Core.Path.{_≡_}
 use mathlib.Core.List.{List}
 use Prim.Native.Nat.{ℕ, _≤_, _<_}

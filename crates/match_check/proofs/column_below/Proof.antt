@@ -1,4 +1,4 @@
--- `column_below` meets its contract. The loop's invariant: what the test is worth after the entries before k.
+-- `column_below` meets its contract. The loop's invariant: the result of the test over the entries before k.
 use mathlib.Core.Path.{_≡_}
 use Prim.Native.Nat.{_-_, _≤_}
 use native.Mathlib.Omega.{arith}

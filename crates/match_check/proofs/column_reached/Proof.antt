@@ -1,4 +1,4 @@
--- `column_reached` meets its contract. The loop's invariant: what the test is worth after the entries before k.
+-- `column_reached` meets its contract. The loop's invariant: the result of the test over the entries before k.
 use mathlib.Core.Path.{_≡_}
 use mathlib.Core.Bool.{not, _||_}
 use Prim.Native.Nat.{_-_, _≤_}

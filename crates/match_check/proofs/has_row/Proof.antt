@@ -1,4 +1,4 @@
--- `has_row` meets its contract. The loop's invariant: what the search is worth after the entries before k.
+-- `has_row` meets its contract. The loop's invariant: the result of the search over the entries before k.
 use Prim.Native.Nat.{_-_, _≤_}
 use native.Mathlib.Omega.{arith}
 use lib.Dec.{eqb}

@@ -1,4 +1,4 @@
--- `pairs_stand` meets its contract. The loop's invariant: what the test is worth after the columns before j.
+-- `pairs_stand` meets its contract. The loop's invariant: the result of the test over the columns before j.
 use mathlib.Core.Path.{subst}
 use mathlib.Core.Bool.{Bool, _&&_}
 use Prim.Native.Nat.{_+_, _-_, _≤_}

@@ -1,4 +1,4 @@
--- `rows_below` meets its contract. The loop's invariant: what the test is worth after the columns before j.
+-- `rows_below` meets its contract. The loop's invariant: the result of the test over the columns before j.
 use mathlib.Core.Path.{ap, _∙_}
 use Prim.Native.Nat.{ℕ, _-_, _≤_}
 use native.Mathlib.Omega.{arith}

@@ -1,4 +1,4 @@
--- `rows_once` meets its contract. The loop's invariant: the marks, and what the test is worth after the columns before j.
+-- `rows_once` meets its contract. The loop's invariant: the marks, and the result of the test over the columns before j.
 use mathlib.Core.Path.{_≡_, sym, ap, _∙_, subst}
 use mathlib.Core.Bool.{Bool, _&&_}
 use Prim.Native.Nat.{ℕ, _+_, _-_, _≤_, _<_}

@@ -1,4 +1,4 @@
--- `small_wholes` meets its contract. The loop's invariant: what the test is worth after the doubles before i.
+-- `small_wholes` meets its contract. The loop's invariant: the result of the test over the doubles before i.
 use Prim.Native.Nat.{_-_, _≤_}
 use native.Mathlib.Omega.{arith}
 use lib.ListN.{length, getD}

@@ -1,4 +1,4 @@
--- What the check's inner functions ask of each other.
+-- What the inner functions of the check require.
 use mathlib.Core.Path.{_≡_}
 use mathlib.Core.List.{List}
 use Prim.Native.Nat.{ℕ, _+_, _≤_, _<_}

@@ -1,4 +1,4 @@
--- `all_in_steps` meets its contract. The loop's invariant: what the test is worth after the doubles before i.
+-- `all_in_steps` meets its contract. The loop's invariant: the result of the test over the doubles before i.
 use mathlib.Core.Bool.{Bool}
 use Prim.Native.Nat.{ℕ, _-_, _≤_}
 use native.Mathlib.Omega.{arith}

@@ -1,4 +1,4 @@
--- What the inner functions ask of each other: digits of a double and how far they lie from a step, entries in steps.
+-- What the inner functions require: digits of a double and their shift to a step, entries in steps.
 use mathlib.Core.Path.{_≡_}
 use mathlib.Core.Bool.{cond, _&&_}
 use mathlib.Core.List.{List}
@@ -27,7 +27,7 @@ pub record Measured (bits unit : ℕ) : Type 0 where
   pub units : unit ≤ 1074
   pub few : magnitude (ofBits binary64 bits) ≤ zeroStep * 2 ^ unit
 
--- shifted by so much, its digits are its steps, rounded down or, with a step less one digit added, up
+-- shifted by this much, its digits are its steps, rounded down, or up if a step less one digit is added first
 pub record Shifted (bits unit shift : ℕ) : Type 0 where
   pub small : shift ≤ 60
   pub down : floorIn (2 ^ unit) (magnitude (ofBits binary64 bits)) ≡ digitsOf bits / 2 ^ shift

@@ -1,4 +1,4 @@
--- `all_held` meets its contract. The loop's invariant: what the test is worth after the rows before i.
+-- `all_held` meets its contract. The loop's invariant: the result of the test over the rows before i.
 use mathlib.Core.Bool.{not, _||_}
 use Prim.Native.Nat.{_-_, _≤_}
 use native.Mathlib.Omega.{arith}

@@ -1,4 +1,4 @@
--- `enter_pairs` meets its contract. The loop's invariant: the columns before j are entered, and what the test is worth after them.
+-- `enter_pairs` meets its contract. The loop's invariant: the columns before j are entered, and the result of the test over them.
 use mathlib.Core.Path.{_≡_, sym, ap, _∙_, subst}
 use mathlib.Core.Bool.{Bool, _&&_}
 use Prim.Native.Nat.{ℕ, _+_, _-_, _≤_}

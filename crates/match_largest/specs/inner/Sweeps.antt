@@ -12,7 +12,7 @@ use Rattle.matching.specs.Sum.{sumTo, orZero}
 use Rattle.sparse.specs.Pattern.{Pattern, rowOf, columnOf, entries, InColumn}
 use Rattle.match_largest.specs.Marks.{rowAt, isFree, markedRows}
 
--- of the columns before j, each that has a row of the pattern stands in `inverse`, or one before it that has the row
+-- for each column before j with a row of the pattern, `inverse` of the row is it or an earlier column with that row
 pub record Entered (n : ℕ) (perm : List ℕ) (j : ℕ) (inverse : List ℕ) : Type 0 where
   pub places : length inverse ≡ maxColumns
   pub taken : (i c : ℕ) → i < n → c < j → rowAt perm c ≡ i → getD inverse i 0 < n
@@ -38,7 +38,7 @@ pub record LedRow (g : Pattern) (inverse : List ℕ) (i : ℕ) : Type 0 where
   pub row : rowOf g entry ≡ i
   pub column : Led g inverse (columnOf g entry)
 
--- column j stands in the queue
+-- column j is in the queue
 pub record Waits (queue : List ℕ) (last j : ℕ) : Type 0 where
   pub place : ℕ
   pub before : place < last

@@ -1,4 +1,4 @@
--- What the match and the factors of a graph ask and leave.
+-- What the match and the factors of a graph require and leave.
 use mathlib.Core.Path.{_≡_}
 use mathlib.Core.List.{List}
 use lib.Ieee.{Float}

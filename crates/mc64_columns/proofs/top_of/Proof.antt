@@ -1,4 +1,4 @@
--- `top_of` meets its contract. The loop's invariant: the largest log so far, and what is left to look at, give the largest of all.
+-- `top_of` meets its contract. The loop's invariant: the largest log so far, and the rest, give the largest of all.
 use mathlib.Core.Bool.{true, false}
 use mathlib.Core.Logic.{⊎-elim}
 use Prim.Native.Nat.{_≤_, _-_}

@@ -1,4 +1,4 @@
--- What the inner functions ask and promise each other.
+-- What the inner functions require and promise.
 use mathlib.Core.Path.{_≡_}
 use mathlib.Core.Bool.{true}
 use mathlib.Core.List.{List}
@@ -14,7 +14,7 @@ use Rattle.mc64_columns.specs.declared.LogSource.the-variants.{Lent, Own
 use Rattle.mc64_columns.specs.Columns.{valueLogs}
 use Rattle.mc64_columns.specs.Graphs.{GraphColumns, Slices, built, keptBefore}
 
--- the logs of entries: those that are lent or, where values are lent in their place, the values' own
+-- the logs of entries: the lent ones or, if values are lent in their place, those of the values
 abbrev pub entryLog : LogSource → Float → Float
 entryLog Lent lent = lent
 entryLog Own lent = doubleOf (wholeLog lent)

@@ -1,4 +1,4 @@
--- `build` meets its contract. The loop's invariant: the columns before c stand in the slices.
+-- `build` meets its contract. The loop's invariant: the slices hold the columns before c.
 use mathlib.Core.Path.{_≡_, refl, _∙_, subst}
 use Prim.Native.Nat.{ℕ, _+_, _-_, _≤_}
 use native.Mathlib.Numerals.{add-one}

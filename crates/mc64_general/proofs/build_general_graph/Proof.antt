@@ -1,4 +1,4 @@
--- `build_general_graph` meets its contract: what the tests leave is what the building asks for.
+-- `build_general_graph` meets its contract: the tests establish what the building requires.
 use mathlib.Core.Path.{refl, sym, ap, _∙_}
 use borrow.Author.Needs.{needs}
 use Rattle.sparse.specs.Matrix.{matrix}

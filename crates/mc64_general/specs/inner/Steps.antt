@@ -49,7 +49,7 @@ abbrev pub normalisedAt : ℕ → ℕ → List Float → List Float
 normalisedAt start end cost =
     take start cost ++ (normalised (stretch start end cost) ++ drop (end - start) (drop start cost))
 
--- the first k columns of the graph stand in the slices
+-- the slices hold the first k columns of the graph
 pub record BuiltTo (k : ℕ) (m : Matrix) (logs : List Float) (graphPtr₀ graphIdx₀ : List ℕ) (cost₀ cmax₀ : List Float)
     (graphPtr graphIdx : List ℕ) (cost cmax : List Float) (next : ℕ) : Type 0 where
   pub count : next ≡ keptBefore (keptColumns m) k

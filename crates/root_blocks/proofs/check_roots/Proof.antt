@@ -10,7 +10,8 @@ use Rattle.root_blocks.proofs.check_roots.Statement.{statement}
 use Rattle.root_blocks.proofs.check_roots.Tie as tie
 
 abbrev Inv-loop : tie.InvT-loop
-Inv-loop bits candidates roots₀ bad₀ i₀ roots bad i = (i ≤ 16) × (length bits ≡ 16) × (length candidates ≡ 16) × (length roots ≡ 16) × (length roots ≡ length roots₀) × (bad ≤ i * 2 ^ 36)
+Inv-loop bits candidates roots₀ bad₀ i₀ roots bad i = (i ≤ 16) × (length bits ≡ 16) × (length candidates ≡ 16) × (length roots ≡ 16)
+    × (length roots ≡ length roots₀) × (bad ≤ i * 2 ^ 36)
     × (bad ≡ 0 → Checked bits roots i)
 
 abbrev μ-loop : tie.MeasureT-loop

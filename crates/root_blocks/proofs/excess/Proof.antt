@@ -71,7 +71,8 @@ returns c =
       λ e. let f = far .far .ensures .1 (omega arith) in
           let w = wide .wide .ensures .1 (omega arith) in
           let o = c .not-normal .ensures .1 (omega arith) in
-          checked (entry .args .bits) (entry .args .p) (n .under-root .ensures .0) (omega (arith, o .0)) (omega (arith, o .1)) (omega arith) (omega arith) (omega arith)
+          checked (entry .args .bits) (entry .args .p) (n .under-root .ensures .0) (omega (arith, o .0)) (omega (arith, o .1))
+          (omega arith) (omega arith) (omega arith)
           (record {
             over-is = over .wrapping-sub-u64 .ensures;
             t-is = t .wrapping-sub-u642 .ensures;

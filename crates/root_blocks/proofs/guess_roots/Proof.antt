@@ -7,7 +7,8 @@ use Rattle.root_blocks.proofs.guess_roots.Statement.{statement}
 use Rattle.root_blocks.proofs.guess_roots.Tie as tie
 
 abbrev Inv-loop : tie.InvT-loop
-Inv-loop bits inverses candidates₀ i₀ candidates i = (i ≤ 16) × (length bits ≡ 16) × (length inverses ≡ 16) × (length candidates ≡ 16) × (length candidates ≡ length candidates₀)
+Inv-loop bits inverses candidates₀ i₀ candidates i = (i ≤ 16) × (length bits ≡ 16) × (length inverses ≡ 16) × (length candidates ≡ 16)
+    × (length candidates ≡ length candidates₀)
 
 abbrev μ-loop : tie.MeasureT-loop
 μ-loop bits inverses candidates₀ i₀ candidates i = 16 - i

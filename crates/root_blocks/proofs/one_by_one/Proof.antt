@@ -13,7 +13,8 @@ use Rattle.root_blocks.proofs.one_by_one.Statement.{statement}
 use Rattle.root_blocks.proofs.one_by_one.Tie as tie
 
 abbrev Inv-loop : tie.InvT-loop
-Inv-loop numbers from roots₀ i₀ roots i = (i ≤ 16) × (from + 16 ≤ length numbers) × (length roots ≡ 16) × (length roots ≡ length roots₀) × Roots numbers from roots i
+Inv-loop numbers from roots₀ i₀ roots i = (i ≤ 16) × (from + 16 ≤ length numbers) × (length roots ≡ 16) × (length roots ≡ length roots₀)
+    × Roots numbers from roots i
 
 abbrev μ-loop : tie.MeasureT-loop
 μ-loop numbers from roots₀ i₀ roots i = 16 - i

@@ -1,4 +1,4 @@
--- What the inner functions ask and promise each other.
+-- What the inner functions require and promise.
 use mathlib.Core.Bool.{cond}
 use mathlib.Core.List.{List, [], _∷_}
 use Prim.Native.Nat.{ℕ, _+_, _*_, _<_}
@@ -13,7 +13,7 @@ use Rattle.sheet.specs.Format.{fieldAt}
 use Rattle.sheet.specs.declared.Found.{Found}
 use Rattle.sheet.specs.declared.Found.the-variants.{Is, Cut}
 
--- a field taken, with the place behind it, or cut
+-- a field, with the place after it, or cut
 unfoldable pub takenRow : (bit : ℕ) → List ℕ → TakenRow
 takenRow bit bytes = cond (leb (3 + 2 * bit) (length bytes)) (Row (fieldAt bit none 2 bytes 3) (3 + 2 * bit)) RowCut
 

@@ -1,4 +1,4 @@
--- `put_sheet` meets its contract. The loop's invariant: the records of the patches below k stand behind n.
+-- `put_sheet` meets its contract. The loop's invariant: the records of the patches below k follow n.
 use mathlib.Core.Path.{_≡_, refl, ap, _∙_}
 use mathlib.Core.List.{_++_}
 use Prim.Native.Nat.{ℕ, _-_, _≤_}

@@ -1,4 +1,4 @@
--- `extended` meets its contract, by the law of 27 digits more.
+-- `extended` meets its contract, by the law of 27 more digits.
 use borrow.Author.Needs.{needs}
 use native.Mathlib.Omega.{arith}
 use Rattle.square_root.proofs.Whole.{Sizes, sizes, extended-up, extended-down}

@@ -1,4 +1,4 @@
--- `answer_symmetric` meets its contract: the graph is built in parts of the local arrays, or a pair stands twice.
+-- `answer_symmetric` meets its contract: the graph is built in parts of the local arrays, or a pair occurs twice.
 use mathlib.Core.Path.{_≡_, sym, ap, _∙_}
 use mathlib.Core.List.{List, _++_}
 use Prim.Native.Nat.{ℕ, _+_, _*_, _≤_}

@@ -1,4 +1,4 @@
--- What the inner functions ask and promise each other.
+-- What the inner functions require and promise.
 use mathlib.Core.Path.{_≡_}
 use mathlib.Core.Bool.{true, false, cond}
 use mathlib.Core.List.{List}
@@ -38,7 +38,7 @@ unfoldable pub entriesText : Form → Kind → ℕ → (rows cols weights : List
 entriesText form kind n rows cols weights =
     cond (repeats rows cols) (refusedText repeatedPair) (graphText form (kindGraph kind n rows cols weights))
 
--- it is told, whatever weights the doubles stand for
+-- it is written, whatever weights the doubles stand for
 abbrev pub EntriesReported : Form → Kind → ℕ → List ℕ → List ℕ → List Float → List ℕ → ReportAnswer → Type 0
 EntriesReported form kind n rows cols values old reported =
     (weights : List ℕ) → values ≡ costValues weights

@@ -1,5 +1,5 @@
--- `read_file` meets its contract. The loop's invariant: what comes of the input is what comes of the lines from here on, after the state of the stage
--- and the slices.
+-- `read_file` meets its contract. The loop's invariant: the result for the input is the result for the lines from here on, after the state of the
+-- stage and the slices.
 use Prim.Native.Nat.{_-_, _+_}
 use mathlib.Core.Path.{_∙_}
 use native.Mathlib.Omega.{arith}

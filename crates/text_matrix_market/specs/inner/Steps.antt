@@ -24,7 +24,7 @@ use Rattle.text_matrix_market.specs.File.{maxInput, State, start, sizing
 use Rattle.text_matrix_market.specs.File.{Reading, file, refusal, entryColumn, entryWeight}
 
 -- ---- places in a list
--- how many bytes stand before the first that passes the test
+-- how many bytes come before the first that passes the test
 unfoldable pub upTo : (ℕ → Bool) → List ℕ → ℕ
 upTo test [] = 0
 upTo test (b ∷ bytes) = cond (test b) 0 (suc (upTo test bytes))
@@ -61,7 +61,7 @@ abbrev pub fieldOf : Number → ℕ → Field
 fieldOf number.Misshapen past = field.Misshapen
 fieldOf (number.Is value) past = field.Is value past
 
--- the weight behind row and column, from a place on: a pattern has none
+-- the weight after row and column, from a place on: a pattern has none
 unfoldable pub weightField : Kind → List ℕ → ℕ → Field
 weightField kind.General line from = fieldOf (numberRead (nextWord line from)) (wordPast line from)
 weightField kind.Symmetric line from = fieldOf (sizeRead (nextWord line from)) (wordPast line from)
@@ -101,7 +101,7 @@ abbrev pub readingFrom : Verdict → Lists → Reading
 readingFrom (verdict.File kind n count) l = file kind n (firstEntries count l)
 readingFrom (verdict.Refused number) l = refusal number
 
--- each list has a place for each of so many entries
+-- each list has a place for each of that many entries
 abbrev pub Places : ℕ → Lists → Type 0
 Places count l = (count ≤ length (l .rows)) × (count ≤ length (l .columns)) × (count ≤ length (l .weights))
 
@@ -113,7 +113,7 @@ Room (stage.Entering kind n count read) l = Places count l
 Room (stage.Refused number) l = Unit
 
 -- ---- what a reading leaves in the lists
--- entries stored from a place on, in place of what stood there
+-- entries stored from a place on, over what was there
 abbrev pub stored : ℕ → List Entry → Lists → Lists
 stored at entries l =
     lists (sets (l .rows) at (map entryRow entries)) (sets (l .columns) at (map entryColumn entries))
@@ -132,7 +132,7 @@ entriesIn (sizing kind) = []
 entriesIn (entering kind n count entries) = entries
 entriesIn (refused number) = []
 
--- one line from a state to the next stores the entries that the next has more
+-- a line from one state to the next stores the entries that the next state adds
 abbrev pub lineStored : State → State → Lists → Lists
 lineStored state next l = stored (length (entriesIn state)) (drop (length (entriesIn state)) (entriesIn next)) l
 
@@ -146,7 +146,7 @@ taken state (line ∷ lines) =
 unfoldable pub takenOf : List ℕ → List Entry
 takenOf input = cond (leb (length input) maxInput) (taken start (linesOf input)) []
 
--- the number of a word, before which a minus may stand if it is signed
+-- the number of a word, which may begin with a minus if it is signed
 abbrev pub wordRead : Bool → List ℕ → Number
 wordRead true word = sizeRead word
 wordRead false word = numberRead word

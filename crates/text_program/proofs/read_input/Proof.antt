@@ -1,4 +1,4 @@
--- `read_input` meets its contract. The invariant: the buffer has its length, and room behind the bytes read, which get more at each turn.
+-- `read_input` meets its contract. The invariant: the buffer has its length, and room after the bytes read, which grow at each iteration.
 use mathlib.Core.Path.{_≡_, sym, _∙_}
 use Prim.Native.Nat.{_<_, _-_}
 use native.Mathlib.Omega.{arith}

@@ -1,4 +1,4 @@
--- `tell` meets its contract: by the three cases of what the reads come to.
+-- `tell` meets its contract: by the three cases of the result of the reads.
 use mathlib.Core.Path.{refl, ap}
 use borrow.Author.Needs.{needs}
 use Rattle.text_answer.specs.Answer.{ReportAnswer}

@@ -1,4 +1,4 @@
--- `put_counts` meets its contract. The loop's invariant: the first k of the seven numbers have been written behind the word.
+-- `put_counts` meets its contract. The loop's invariant: the first k of the seven numbers have been written after the word.
 use mathlib.Core.Path.{_≡_, refl, _∙_}
 use Prim.Native.Nat.{suc, _-_, _≤_}
 use native.Mathlib.Omega.{arith}

@@ -1,4 +1,4 @@
--- `put_line` meets its contract: the four numbers one after the other, each behind the one before.
+-- `put_line` meets its contract: the four numbers one after the other, each after the one before.
 use mathlib.Core.Path.{refl, ap, _∙_}
 use Prim.Native.Nat.{ℕ}
 use native.Mathlib.Omega.{arith}

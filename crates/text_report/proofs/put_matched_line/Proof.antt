@@ -1,4 +1,4 @@
--- `put_matched_line` meets its contract: the parts one after the other, each behind the one before.
+-- `put_matched_line` meets its contract: the parts one after the other, each after the one before.
 use mathlib.Core.Path.{_∙_}
 use native.Mathlib.Omega.{arith}
 use lib.ListN.{length-set}

@@ -1,4 +1,4 @@
--- `put_pair` meets its contract: the two numbers one after the other, each behind the one before.
+-- `put_pair` meets its contract: the two numbers one after the other, each after the one before.
 use mathlib.Core.Path.{_∙_}
 use native.Mathlib.Omega.{arith}
 use borrow.Author.Needs.{needs}

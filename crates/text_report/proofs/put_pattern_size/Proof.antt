@@ -1,4 +1,4 @@
--- `put_pattern_size` meets its contract: the three numbers one after the other, each behind the one before.
+-- `put_pattern_size` meets its contract: the three numbers one after the other, each after the one before.
 use mathlib.Core.Path.{_∙_}
 use native.Mathlib.Omega.{arith}
 use lib.ListN.{length-set}

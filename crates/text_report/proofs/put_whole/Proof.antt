@@ -1,4 +1,4 @@
--- `put_whole` meets its contract: the size casts without loss, and the test says whether a minus stands in front.
+-- `put_whole` meets its contract: the size casts without loss, and the test says whether a minus comes first.
 use mathlib.Core.Path.{refl, sym, ap, _∙_}
 use native.Mathlib.Omega.{arith}
 use lib.ListN.{length, length-set}

@@ -1,4 +1,4 @@
--- What the inner functions ask and promise each other.
+-- What the inner functions require and promise.
 use mathlib.Core.Path.{_≡_}
 use mathlib.Core.List.{List}
 use Prim.Native.Nat.{ℕ, _+_, _≤_, _<_}
@@ -22,7 +22,7 @@ pub record Printable (x : Float) : Type 0 where
 abbrev pub AllPrintable : ℕ → List Float → Type 0
 AllPrintable n values = (k : ℕ) → k < n → Printable (getD values k nan)
 
--- `out` has been written from `at` on, has become `left`, and `next` is the place behind the text
+-- `out` has been written from `at` on and is now `left`; `next` is the place after the text
 pub record Wrote (out : List ℕ) (at : ℕ) (text left : List ℕ) (next : ℕ) : Type 0 where
   pub bytes : left ≡ sets out at text
   pub place : next ≡ at + length text

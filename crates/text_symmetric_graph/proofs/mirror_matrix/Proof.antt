@@ -1,4 +1,4 @@
--- `mirror_matrix` meets its contract: the kept count tells the case, and what is assembled is what the building asks for.
+-- `mirror_matrix` meets its contract: the kept count tells the case, and what is assembled is what the building requires.
 use mathlib.Core.Path.{refl, _∙_}
 use borrow.Author.Needs.{needs}
 use Rattle.mc64_columns.specs.Graphs.{Slices, slices}

@@ -1,4 +1,4 @@
--- What the inner functions ask and promise each other.
+-- What the inner functions require and promise.
 use mathlib.Core.Path.{_≡_}
 use mathlib.Core.Bool.{true, false}
 use mathlib.Core.List.{List, _++_}
@@ -13,13 +13,13 @@ use Rattle.text_symmetric_graph.specs.declared.Mirrored.{Mirrored}
 use Rattle.text_symmetric_graph.specs.declared.Mirrored.the-variants.{Graph, Repeated}
 use Rattle.text_symmetric_graph.specs.Graph.{tripletGraph}
 
--- room for the graph of so many entries: each may be mirrored
+-- room for the graph of that many entries, each of which may be mirrored
 pub record GraphRoom (n count : ℕ) (graphPtr graphRows : List ℕ) (cost : List Float) : Type 0 where
   pub pointerRoom : length graphPtr ≡ n + 1
   pub rowRoom : length graphRows ≡ 2 * count
   pub costRoom : length cost ≡ 2 * count
 
--- the graph of the triplets, no two of which have one pair, is at the front of the slices
+-- the graph of the triplets, no two of which have the same pair, is at the front of the slices
 pub record HoldsGraph (n : ℕ) (t : Triplets) (graphPtr graphRows : List ℕ) (cost : List Float) (kept : ℕ) : Type 0 where
   pub once : repeats (t .rows) (t .cols) ≡ false
   pub graph : graphOf n graphPtr (take kept graphRows) (take kept cost) ≡ tripletGraph n t
@@ -38,7 +38,7 @@ pub record GraphSlices : Type 0 where
 abbrev pub graphSlices : List ℕ → List ℕ → List Float → GraphSlices
 graphSlices pointers rows costs = record { pointers = pointers; rows = rows; costs = costs }
 
--- the graph, with what the slices held behind its entries; where a pair stands twice, all is as it was
+-- the graph, followed by what the slices held; if a pair occurs twice, everything is as it was
 abbrev pub graphLeft : ℕ → Triplets → GraphSlices → Mirrored → GraphSlices
 graphLeft n t before (Graph kept) =
     let g = tripletGraph n t in

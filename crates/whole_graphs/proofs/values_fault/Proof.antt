@@ -1,4 +1,4 @@
--- `values_fault` meets its contract. The loop's invariant: what the search for a fault is worth after k places.
+-- `values_fault` meets its contract. The loop's invariant: the result of the search for a fault over k places.
 use mathlib.Core.Path.{_≡_, refl, sym, _∙_}
 use mathlib.Core.Bool.{Bool, cond}
 use mathlib.Core.List.{List}

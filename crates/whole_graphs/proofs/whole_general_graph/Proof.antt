@@ -1,4 +1,4 @@
--- `whole_general_graph` meets its contract: what the tests leave is what the building asks for, and the graph that is left has whole costs.
+-- `whole_general_graph` meets its contract: the tests establish what the building requires, and the graph that is left has whole costs.
 use mathlib.Core.Path.{_≡_, refl, sym, ap, _∙_}
 use Prim.Native.Nat.{ℕ, _≤_}
 use native.Mathlib.Omega.{arith}

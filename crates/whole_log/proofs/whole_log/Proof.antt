@@ -1,4 +1,4 @@
--- `whole_log` meets its contract: each of its ways out is a case of the definition.
+-- `whole_log` meets its contract: each of its returns is a case of the definition.
 use borrow.Author.Needs.{needs}
 use mathlib.Core.Path.{_≡_, sym, ap, _∙_, subst}
 use lib.Dec.{T}
