@@ -47,8 +47,6 @@ module _ (s : ℕ) (p : 0 < s) where
   unfolding upper unitsAt
   upper-above x h = above-placed (negative x) (magnitude x) h
 
-  -- both are at most 2 ^ 50
-
 -- a number that is not below zero lies its size above the place of zero
 pub not-below : (s : ℕ) (x : Float) → Number x → origin ≤ position x → unitsAt s x ≡ zeroStep * s + magnitude x
 unfolding unitsAt placed position place
