@@ -55,7 +55,7 @@ fn top_of(column: &[f64]) -> f64
 }
 
 // Subtracts each log from `top`.
-fn subtract(top: f64, column: &mut [f64])
+pub fn subtract(top: f64, column: &mut [f64])
     ensures { λ _. ⌜ now (column .exit) ≡ below top (now (column .entry)) ⌝ }
 {
     for k in 0..column.len() {

@@ -1,4 +1,4 @@
--- One more column of the graph: its kept entries follow those before, its stretch is normalised, and what lies past it is as it was.
+-- One more column of the graph: its kept entries follow those before, their logs become costs, and what lies past it is as it was.
 use mathlib.Core.Path.{_≡_, refl, sym, ap, _∙_}
 use mathlib.Core.List.{List, [], _∷_, _++_, append-nil, append-assoc}
 use Prim.Native.Nat.{ℕ, zero, suc, _+_, _-_, _≤_, _<_}
@@ -8,13 +8,13 @@ use lib.Ieee.{Float, nan}
 use lib.ListN.{length, getD, take, drop, set, length-map, drop-of-length-le}
 use lib.Seq.{drop-at, drop-drop, take-at}
 use Rattle.sparse.specs.Columns.{Pointers}
-use Rattle.mc64_columns.specs.Columns.{normalised}
+use Rattle.mc64_columns.specs.Columns.{below, normalised}
 use Rattle.sparse.specs.Matrix.{Matrix}
 use Rattle.mc64_columns.specs.Graphs.{joined, rowsOf, logsOf, keptBefore, graphRows, graphCosts}
 use Rattle.mc64_columns.proofs.Graphs.{one-more, kept-next, costs-length}
 use Rattle.mc64_general.specs.Graph.{keptPlaces, placesOf, largestLog, keptColumns}
-use Rattle.mc64_general.specs.inner.Steps.{written, Copied, stretch, normalisedAt, BuiltTo, BuiltAll}
-use Rattle.mc64_general.proofs.Copying.{kept-few}
+use Rattle.mc64_general.specs.inner.Steps.{written, Copied, BuiltTo, BuiltAll}
+use Rattle.mc64_general.proofs.Copying.{kept-few, below-largest}
 
 -- ---- lists
 module _ {A : Type 0} where
@@ -23,6 +23,13 @@ module _ {A : Type 0} where
       let back : drop (a + length xs) (front ++ drop a l) ≡ drop (a + length xs) l =
       sym (drop-drop (length xs) a (front ++ drop a l)) ∙ ap (drop (length xs)) (drop-at front (drop a l) a e) ∙ drop-drop (length xs) a l in
       rw (take-at front (drop a l) a e, back) (sym (append-assoc front xs (drop (a + length xs) l)))
+
+-- a stretch of the buffer, and another part in its place
+abbrev pub stretch : ℕ → ℕ → List Float → List Float
+stretch start end cost = take (end - start) (drop start cost)
+
+abbrev pub replaced : ℕ → ℕ → List Float → List Float → List Float
+replaced start end part cost = take start cost ++ (part ++ drop (end - start) (drop start cost))
 
 -- a column of logs in the buffer, from a on
 module _ (front column rest : List Float) (a end : ℕ) (starts : length front ≡ a) (ends : end ≡ a + length column) where
@@ -35,11 +42,11 @@ module _ (front column rest : List Float) (a end : ℕ) (starts : length front �
   stretch-at : stretch a end (front ++ column ++ rest) ≡ column
   stretch-at = ap (take (end - a)) from-column ∙ take-at column rest (end - a) long
 
-  normalised-there : normalisedAt a end (front ++ column ++ rest) ≡ front ++ normalised column ++ rest
-  normalised-there =
+  replaced-there : (part : List Float) → replaced a end part (front ++ column ++ rest) ≡ front ++ part ++ rest
+  replaced-there part =
       let before : take a (front ++ column ++ rest) ≡ front = ap (take a) (append-assoc front column rest) ∙ take-at front (column ++ rest) a starts in
       let after : drop (end - a) (drop a (front ++ column ++ rest)) ≡ rest = ap (drop (end - a)) from-column ∙ drop-at column rest (end - a) long in
-      rw (before, after, stretch-at) (sym (append-assoc front (normalised column) rest))
+      rw (before, after) (sym (append-assoc front part rest))
 
 -- ---- columns
 -- no more entries than places
@@ -65,21 +72,19 @@ module _ (m : Matrix) (logs : List Float) (graphPtr₀ graphIdx₀ : List ℕ) (
 
   module _ {c : ℕ} {graphPtr graphIdx : List ℕ} {cost cmax : List Float} {next : ℕ}
       (s : BuiltTo c m logs graphPtr₀ graphIdx₀ cost₀ cmax₀ graphPtr graphIdx cost cmax next) where
-    next-column : {graphIdx′ : List ℕ} {cost′ cost″ : List Float} {top : Float} {end : ℕ} → c < length graphPtr₀ → c < length cmax₀
-        → Copied (placesOf m c) (m .pattern .rowIdx) logs next graphIdx cost graphIdx′ cost′ end
-        → top ≡ largestLog (stretch next end cost′) → cost″ ≡ normalisedAt next end cost′
-        → BuiltTo (suc c) m logs graphPtr₀ graphIdx₀ cost₀ cmax₀ (set graphPtr c next) graphIdx′ cost″ (set cmax c top) end
+    next-column : {graphIdx′ : List ℕ} {cost′ part : List Float} {top : Float} {end : ℕ} → c < length graphPtr₀ → c < length cmax₀
+        → Copied (placesOf m c) (m .pattern .rowIdx) logs next graphIdx cost graphIdx′ cost′ end top → part ≡ below top (stretch next end cost′)
+        → BuiltTo (suc c) m logs graphPtr₀ graphIdx₀ cost₀ cmax₀ (set graphPtr c next) graphIdx′ (replaced next end part cost′) (set cmax c top) end
     unfolding joined
-    next-column {graphIdx′} {cost′} {cost″} {top} {end} h l copied t n =
+    next-column {graphIdx′} {cost′} {part} {top} {end} h l copied e =
         record {
           count = copied .count ∙ size;
           pointers = rw (s .pointers, s .count) (one-more (keptBefore (keptColumns m)) graphPtr₀ 0 c h);
           rowsBuilt = rows-there;
-          costs = n ∙ ap (normalisedAt next end) logs-there ∙ normalised-there costs column (drop end cost₀) next end front ends
+          costs = ap (replaced next end part) logs-there ∙ replaced-there costs column (drop end cost₀) next end front ends part
+              ∙ ap (λ (l : List Float). costs ++ l ++ drop end cost₀) part-costs
               ∙ ap (λ (i : ℕ). costs ++ normalised column ++ drop i cost₀) (copied .count ∙ size);
-          tops =
-              rw (s .tops, t ∙ ap largestLog (ap (stretch next end) logs-there ∙ stretch-at costs column (drop end cost₀) next end front ends))
-              (one-more (λ i. largestLog (logsOf (keptColumns m) logs i)) cmax₀ nan c l);
+          tops = rw (s .tops, copied .largest) (one-more (λ i. largestLog (logsOf (keptColumns m) logs i)) cmax₀ nan c l);
         }
       where
         costs : List Float
@@ -113,11 +118,16 @@ module _ (m : Matrix) (logs : List Float) (graphPtr₀ graphIdx₀ : List ℕ) (
             ∙ ap (λ (g : List Float). written g next column) (s .costs ∙ ap (λ (i : ℕ). costs ++ drop i cost₀) (sym (s .count)))
             ∙ write-after costs cost₀ column next front ∙ ap (λ (i : ℕ). costs ++ column ++ drop i cost₀) (sym ends)
 
-    pub built-next : {graphIdx′ : List ℕ} {cost′ cost″ : List Float} {top : Float} {end : ℕ} → c < length graphPtr₀ → c < length cmax₀
+        part-costs : part ≡ normalised column
+        part-costs = e ∙ ap (below top) (ap (stretch next end) logs-there ∙ stretch-at costs column (drop end cost₀) next end front ends)
+            ∙ ap (λ (t : Float). below t column) (copied .largest) ∙ below-largest column
+
+    -- `part` is what `subtract` leaves of the column's stretch
+    pub built-next : {graphIdx′ : List ℕ} {cost′ part : List Float} {top : Float} {end : ℕ} → c < length graphPtr₀ → c < length cmax₀
         → let from = getD (m .pattern .colPtr) c 0 in
-        Copied (keptPlaces (m .values) from (getD (m .pattern .colPtr) (c + 1) 0 - from)) (m .pattern .rowIdx) logs next graphIdx cost graphIdx′ cost′ end
-        → top ≡ largestLog (stretch next end cost′) → cost″ ≡ normalisedAt next end cost′
-        → BuiltTo (c + 1) m logs graphPtr₀ graphIdx₀ cost₀ cmax₀ (set graphPtr c next) graphIdx′ cost″ (set cmax c top) end
+        Copied (keptPlaces (m .values) from (getD (m .pattern .colPtr) (c + 1) 0 - from)) (m .pattern .rowIdx) logs next graphIdx cost graphIdx′ cost′ end top
+        → part ≡ below top (stretch next end cost′)
+        → BuiltTo (c + 1) m logs graphPtr₀ graphIdx₀ cost₀ cmax₀ (set graphPtr c next) graphIdx′ (replaced next end part cost′) (set cmax c top) end
     built-next h l = rw (add-one c) (next-column h l)
 
   pub built-last : {graphPtr graphIdx : List ℕ} {cost cmax : List Float} {next : ℕ} → let n = m .pattern .n in

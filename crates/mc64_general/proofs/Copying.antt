@@ -1,18 +1,20 @@
--- The kept entries of a column, written one after the other: one more place is one more element, or none.
+-- The kept entries of a column, written one after the other, and the largest of their logs: one more place is one more element, or none.
 use mathlib.Core.Path.{_≡_, refl, sym, ap, _∙_}
-use mathlib.Core.Bool.{Bool, true, false}
+use mathlib.Core.Bool.{Bool, true, false, cond, _||_}
 use mathlib.Core.List.{List, [], _∷_, _++_, append-nil, append-assoc, map-append}
 use Prim.Native.Nat.{ℕ, zero, suc, _+_, _-_, _≤_, _<_}
 use native.Mathlib.Nat.{add-zero}
 use native.Mathlib.Omega.{arith}
-use lib.Ieee.{Float, nan}
+use borrow.Author.Tests.{eq-eqb, ne-eqb}
+use lib.Dec.{eqb}
+use lib.Ieee.{Float, nan, lt}
 use lib.ListN.{length, getD, take, drop, set, length-append, length-map, take-append-drop}
 use lib.Seq.{drop-cons, set-at, append-snoc, length-take-le}
 use Rattle.slices.specs.Lists.{keep}
-use Rattle.mc64_columns.specs.Columns.{largest, normalised}
+use Rattle.mc64_columns.specs.Columns.{largestFrom, largest, below, normalised}
 use Rattle.mc64_columns.specs.Graphs.{logsAt}
 use Rattle.mc64_general.specs.Graph.{isKept, keptPlaces, largestLog}
-use Rattle.mc64_general.specs.inner.Steps.{rowsAt, written, Copied, stretch, normalisedAt}
+use Rattle.mc64_general.specs.inner.Steps.{rowsAt, written, Copied}
 use Rattle.float64.specs.Constants as Constants
 
 -- ---- lists written to
@@ -60,21 +62,47 @@ module _ (values : List Float) (from : ℕ) where
   unfolding keptPlaces
   none-kept = let e : from - from ≡ 0 = omega arith in ap (keptPlaces values from) e
 
+-- ---- the largest log
+-- with one log more
+from-more : (top : Float) (l : List Float) (x : Float) → largestFrom top (l ++ (x ∷ []))
+    ≡ cond (lt (largestFrom top l) x) x (largestFrom top l)
+unfolding largestFrom
+from-more top [] x = refl
+from-more top (c ∷ l) x = from-more (cond (lt top c) c top) l x
+
+-- the same of a column, whose first log counts whatever it is
+largest-more : (at next : ℕ) (l : List Float) (x : Float) → next ≡ at + length l
+    → cond (eqb next at || lt (largestLog l) x) x (largestLog l) ≡ largestLog (l ++ (x ∷ []))
+unfolding largestLog largest largestFrom
+largest-more at next [] x e = let f : next ≡ at = omega arith in rw (f, eq-eqb at at refl) refl
+largest-more at next (c ∷ l) x e = rw (ne-eqb next at (λ f. omega arith)) (sym (from-more c l x))
+
+-- each log subtracted from it is the column's costs
+pub below-largest : (l : List Float) → below (largestLog l) l ≡ normalised l
+unfolding largestLog normalised
+below-largest [] = refl
+below-largest (c ∷ l) = refl
+
 -- ---- a column copied
 module _ (values : List Float) (from : ℕ) (rows : List ℕ) (logs : List Float) (at : ℕ) (graphIdx₀ : List ℕ) (cost₀ : List Float) where
-  abbrev pub CopiedTo : ℕ → List ℕ → List Float → ℕ → Type 0
-  CopiedTo k graphIdx cost next = Copied (keptPlaces values from (k - from)) rows logs at graphIdx₀ cost₀ graphIdx cost next
+  abbrev pub CopiedTo : ℕ → List ℕ → List Float → ℕ → Float → Type 0
+  CopiedTo k graphIdx cost next top = Copied (keptPlaces values from (k - from)) rows logs at graphIdx₀ cost₀ graphIdx cost next top
 
-  pub copied-none : CopiedTo from graphIdx₀ cost₀ at
-  copied-none = rw (none-kept values from) record { count = omega arith; rowsThere = sym (write-none graphIdx₀ at); logsThere = sym (write-none cost₀ at) }
+  pub copied-none : CopiedTo from graphIdx₀ cost₀ at Constants.zero
+  unfolding largestLog
+  copied-none =
+      rw (none-kept values from)
+      record { count = omega arith; rowsThere = sym (write-none graphIdx₀ at); logsThere = sym (write-none cost₀ at); largest = refl }
 
-  module _ (k : ℕ) (h : from ≤ k) {graphIdx : List ℕ} {cost : List Float} {next : ℕ} (s : CopiedTo k graphIdx cost next) where
-    pub copied-dropped : isKept (getD values k nan) ≡ false → CopiedTo (k + 1) graphIdx cost next
+  module _ (k : ℕ) (h : from ≤ k) {graphIdx : List ℕ} {cost : List Float} {next : ℕ} {top : Float}
+      (s : CopiedTo k graphIdx cost next top) where
+    pub copied-dropped : isKept (getD values k nan) ≡ false → CopiedTo (k + 1) graphIdx cost next top
     copied-dropped e = rw (places-next values from k h, e, append-nil) s
 
-    pub copied-kept : {log : Float} → log ≡ getD logs k nan → next < length graphIdx₀ → next < length cost₀ → isKept (getD values k nan) ≡ true
-        → CopiedTo (k + 1) (set graphIdx next (getD rows k 0)) (set cost next log) (next + 1)
-    copied-kept is r c e =
+    pub copied-kept : {log top′ : Float} → log ≡ getD logs k nan → top′ ≡ cond (eqb next at || lt top log) log top → next < length graphIdx₀
+        → next < length cost₀ → isKept (getD values k nan) ≡ true
+        → CopiedTo (k + 1) (set graphIdx next (getD rows k 0)) (set cost next log) (next + 1) top′
+    copied-kept is larger r c e =
         let places = keptPlaces values from (k - from) in
         let er : next ≡ at + length (rowsAt rows places) = s .count ∙ ap (λ (i : ℕ). at + i) (sym (length-map places (λ i. getD rows i 0))) in
         let el : next ≡ at + length (logsAt logs places) = s .count ∙ ap (λ (i : ℕ). at + i) (sym (length-map places (λ i. getD logs i nan))) in
@@ -89,15 +117,7 @@ module _ (values : List Float) (from : ℕ) (rows : List ℕ) (logs : List Float
               rw (s .logsThere, map-append (λ i. getD logs i nan) places (k ∷ []))
               (ap (λ (i : ℕ). set (written cost₀ at (logsAt logs places)) i (getD logs k nan)) el ∙ write-more cost₀ at (logsAt logs places)
               (getD logs k nan) nan (omega (arith, el)));
+          largest =
+              rw (larger, is, s .largest, map-append (λ i. getD logs i nan) places (k ∷ []))
+              (largest-more at next (logsAt logs places) (getD logs k nan) el);
         }
-
--- ---- a stretch normalised
-pub largest-log : (l : List Float) → 0 < length l → largest l ≡ largestLog l
-unfolding largestLog
-largest-log [] h = absurd (omega arith)
-largest-log (x ∷ l) h = refl
-
-pub stretch-empty : (start end : ℕ) (cost : List Float) → start ≡ end → (Constants.zero ≡ largestLog (stretch start end cost))
-    × (cost ≡ normalisedAt start end cost)
-unfolding largestLog normalised
-stretch-empty start end cost e = let z : end - start ≡ 0 = omega arith in rw z (refl, sym (take-append-drop start cost))

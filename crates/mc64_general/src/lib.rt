@@ -4,17 +4,18 @@ use mc64_columns::LogSource;
 use sparse::general;
 use sparse::layout;
 ghost use mathlib.Core.Path.{_≡_};
-ghost use mathlib.Core.Bool.{true};
+ghost use mathlib.Core.Bool.{true, cond, _||_};
 ghost use Prim.Native.Nat.{ℕ, _+_, _^_, _≤_, _<_, _-_};
+ghost use lib.Ieee.{lt};
 ghost use lib.ListN.{length};
 ghost use Rattle.limits.specs.Limits.{maxColumns};
 ghost use Rattle.sparse.specs.Matrix.{matrix};
 ghost use Rattle.cost_limit.specs.inner.Limits.{LogLimit};
 ghost use Rattle.mc64_columns.specs.inner.Steps.{entryLogs, Worded};
 ghost use Rattle.mc64_columns.specs.Graphs.{slices};
-ghost use Rattle.mc64_general.specs.Graph.{isKept, keptPlaces, largestLog};
+ghost use Rattle.mc64_general.specs.Graph.{isKept, keptPlaces};
 ghost use Rattle.mc64_general.specs.Call.{lengthsFit, logFits, logsFault, inputFault, Promises};
-ghost use Rattle.mc64_general.specs.inner.Steps.{Accepted, Roomy, Copied, stretch, normalisedAt, BuiltAll};
+ghost use Rattle.mc64_general.specs.inner.Steps.{Accepted, Roomy, Copied, BuiltAll};
 
 // Whether every slice has its length.
 pub fn lengths_fit(
@@ -101,7 +102,20 @@ fn input_fault(
     logs_fault(n, values, logs)
 }
 
-// Writes the kept entries among the places from `from` up to `to`, from `at` on; answers where the next one goes.
+// What a column's kept entries leave: where the next one goes, and the largest of their logs.
+struct KeptColumn {
+    next: usize,
+    top: f64,
+}
+
+// The largest log with one more: the first whatever it is, a later one if it is larger.
+fn larger(first: bool, log: f64, top: f64) -> f64
+    ensures { λ r. ⌜ r ≡ cond (first || lt top log) log top ⌝ }
+{
+    if first | (log > top) { log } else { top }
+}
+
+// Writes the kept entries among the places from `from` up to `to`, from `at` on. The largest log of none is 0.0.
 fn keep_column(
     from: usize,
     to: usize,
@@ -113,7 +127,7 @@ fn keep_column(
     graph_rows: &mut [u32],
     cost: &mut [f64],
     source: LogSource,
-) -> usize
+) -> KeptColumn
     requires { ⌜ (from ≤ to) × (to ≤ length (now «row_idx»)) × (at ≤ from) ⌝ }
     requires { ⌜ (length (now values) ≡ length (now «row_idx»)) × (length (now logs) ≡ length (now «row_idx»)) ⌝ }
     requires { ⌜ (length (now «graph_rows») ≡ length (now «row_idx»)) × (length (now cost) ≡ length (now «row_idx»)) ⌝ }
@@ -121,30 +135,24 @@ fn keep_column(
     ensures { λ r.
         ⌜ Copied (keptPlaces (now (values .entry)) from (to - from)) (now («row_idx» .entry))
         (entryLogs source (now (logs .entry))) at (now («graph_rows» .entry)) (now (cost .entry))
-        (now («graph_rows» .exit)) (now (cost .exit)) r ⌝ }
+        (now («graph_rows» .exit)) (now (cost .exit)) (r .next) (r .top) ⌝ }
 {
     let mut next = at;
+    let mut top = 0.0;
     for k in from..to {
         if !is_kept(values[k]) {
             continue;
         }
+        let log = mc64_columns::entry_log(source, logs[k], words[k]);
         graph_rows[next] = row_idx[k];
-        cost[next] = mc64_columns::entry_log(source, logs[k], words[k]);
+        cost[next] = log;
+        top = larger(next == at, log, top);
         next += 1;
     }
-    next
-}
-
-// Turns the logs from `start` up to `end` into costs, in place; answers the largest log, or 0.0 if there is none.
-fn normalise_stretch(start: usize, end: usize, cost: &mut [f64]) -> f64
-    requires { ⌜ (start ≤ end) × (end ≤ length (now cost)) ⌝ }
-    ensures { λ r. ⌜ r ≡ largestLog (stretch start end (now (cost .entry))) ⌝ }
-    ensures { λ _. ⌜ now (cost .exit) ≡ normalisedAt start end (now (cost .entry)) ⌝ }
-{
-    if start == end {
-        return 0.0;
+    KeptColumn {
+        next: next,
+        top: top,
     }
-    mc64_columns::normalise(&mut cost[start..end])
 }
 
 // The graph of an accepted matrix, column by column; how many entries it has. Where the logs are not lent, `words` has
@@ -175,7 +183,7 @@ pub fn build(
         graph_ptr[c] = next as u32;
         let from = col_ptr[c] as usize;
         let to = col_ptr[c + 1] as usize;
-        let end = keep_column(
+        let kept = keep_column(
             from,
             to,
             next,
@@ -187,7 +195,9 @@ pub fn build(
             cost,
             source,
         );
-        cmax[c] = normalise_stretch(next, end, cost);
+        let end = kept.next;
+        mc64_columns::subtract(kept.top, &mut cost[next..end]);
+        cmax[c] = kept.top;
         next = end;
     }
     graph_ptr[n] = next as u32;

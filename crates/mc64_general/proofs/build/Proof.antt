@@ -44,17 +44,11 @@ in-loop-of-keep-column-arg2 c = c .before .before .before .before
 abbrev in-loop-of-keep-column : tie.After-keep-column Inv-loop μ-loop → tie.In-loop Inv-loop μ-loop
 in-loop-of-keep-column c = in-loop-of-keep-column-arg2 (c .before)
 
-abbrev keep-column-of-normalise-stretch-arg : tie.After-normalise-stretch-arg Inv-loop μ-loop → tie.After-keep-column Inv-loop μ-loop
-keep-column-of-normalise-stretch-arg c = c .before .before .before .before .before
-
-abbrev in-loop-of-normalise-stretch-arg : tie.After-normalise-stretch-arg Inv-loop μ-loop → tie.In-loop Inv-loop μ-loop
-in-loop-of-normalise-stretch-arg c = in-loop-of-keep-column (keep-column-of-normalise-stretch-arg c)
-
-abbrev entry-of-normalise-stretch-arg : tie.After-normalise-stretch-arg Inv-loop μ-loop → tie.Start Inv-loop μ-loop
-entry-of-normalise-stretch-arg c = entry-of-in-loop (in-loop-of-normalise-stretch-arg c)
+abbrev keep-column-of-slice-known6 : tie.After-slice-known6 Inv-loop μ-loop → tie.After-keep-column Inv-loop μ-loop
+keep-column-of-slice-known6 c = c .before .before .before .before
 
 abbrev keep-column-of-slice-known7 : tie.After-slice-known7 Inv-loop μ-loop → tie.After-keep-column Inv-loop μ-loop
-keep-column-of-slice-known7 c = keep-column-of-normalise-stretch-arg (c .before .before .before)
+keep-column-of-slice-known7 c = keep-column-of-slice-known6 (c .before .before .before .before)
 
 abbrev in-loop-of-slice-known7 : tie.After-slice-known7 Inv-loop μ-loop → tie.In-loop Inv-loop μ-loop
 in-loop-of-slice-known7 c = in-loop-of-keep-column (keep-column-of-slice-known7 c)
@@ -138,25 +132,36 @@ keep-column-requires c κs =
       ((pre .0 .sizes .stored, pre .0 .logged), ((loop .loop .inv .2 ∙ pre .1 .0 .rowRoom, loop .loop .inv .3 ∙ pre .1 .0 .costRoom), pre .1 .1)),
     )
 
-normalise-stretch-requires : tie.Need-normalise-stretch-requires Inv-loop μ-loop
-normalise-stretch-requires c κs =
-    let args = entry-of-normalise-stretch-arg c .args in
-    let loop = in-loop-of-normalise-stretch-arg c .before in
-    let from = getD (args .col-ptr .now) (loop .loop .c) 0 in
-    let few = kept-few (args .values .now) from (getD (args .col-ptr .now) (loop .loop .c + 1) 0 - from) in (
-      omega (arith, keep-column-of-normalise-stretch-arg c .keep-column .ensures .count),
-      omega (
-        arith,
-        keep-column-of-normalise-stretch-arg c .keep-column .ensures .count,
-        few,
-        pointers
-            (in-loop-of-normalise-stretch-arg c),
-        next-below (loop),
-        keep-column-of-normalise-stretch-arg c .keep-column .kept .1 .1 .1 .1 .1 .1 .1 .1 .0,
-        loop .loop .inv .3,
-        entry-of-normalise-stretch-arg c .pre .1 .0 .costRoom,
-      ),
+-- the column's stretch lies in the buffer
+stretch-fits : (c : tie.After-keep-column Inv-loop μ-loop) → let a = entry-of-in-loop (in-loop-of-keep-column c) .args in
+    let next = c .keep-column .result .next in
+    (in-loop-of-keep-column c .before .loop .next ≤ next) × (next ≤ length (a .cost .now)) × (length (a .cost .now) ≤ 262144)
+stretch-fits c =
+    let start = entry-of-in-loop (in-loop-of-keep-column c) in
+    let loop = in-loop-of-keep-column c .before in
+    let from = getD (start .args .col-ptr .now) (loop .loop .c) 0 in
+    let few = kept-few (start .args .values .now) from (getD (start .args .col-ptr .now) (loop .loop .c + 1) 0 - from) in (
+      omega (arith, c .keep-column .ensures .count),
+      omega (arith, c .keep-column .ensures .count, few, pointers (in-loop-of-keep-column c), next-below loop, start .pre .1 .0 .costRoom),
+      omega (arith, next-below loop, start .pre .1 .0 .costRoom),
     )
+
+mul-subtract : tie.Need-mul-subtract Inv-loop μ-loop
+mul-subtract c = omega (arith, stretch-fits (keep-column-of-slice-known6 c))
+
+sub-subtract : tie.Need-sub-subtract Inv-loop μ-loop
+sub-subtract c = omega (arith, stretch-fits (keep-column-of-slice-known6 c))
+
+part-subtract-start : tie.Need-part-subtract-start Inv-loop μ-loop
+part-subtract-start c = omega (arith, stretch-fits (keep-column-of-slice-known6 c))
+
+part-subtract-end : tie.Need-part-subtract-end Inv-loop μ-loop
+part-subtract-end c =
+    let keep-column = keep-column-of-slice-known6 c in
+    omega (arith, stretch-fits keep-column, keep-column .keep-column .kept .1 .1 .1 .1 .1 .1 .1 .1 .0, in-loop-of-keep-column keep-column .before .loop .inv .3)
+
+subtract-requires : tie.Need-subtract-requires Inv-loop μ-loop
+subtract-requires c κs = tt
 
 mul-cmax : tie.Need-mul-cmax Inv-loop μ-loop
 mul-cmax c = omega (arith, in-loop-of-slice-known7 c .loop-test .taken, next-below (loop-of-slice-known7 c))
@@ -181,7 +186,7 @@ loop-again c =
       omega (arith, In-loop .loop-test .taken),
       simp length-set (loop .loop .inv .1),
       keep-column .keep-column .kept .1 .1 .1 .1 .1 .1 .1 .0 ∙ loop .loop .inv .2,
-      c .before .before .normalise-stretch .kept .1 .1 .0 ∙ keep-column .keep-column .kept .1 .1 .1 .1 .1 .1 .1 .1 .0 ∙
+      c .before .cost2 .given .1 ∙ keep-column .keep-column .kept .1 .1 .1 .1 .1 .1 .1 .1 .0 ∙
           loop .loop .inv .3,
       simp length-set (loop .loop .inv .4),
       built-next
@@ -189,7 +194,7 @@ loop-again c =
           (args .graph-rows .now) (args .cost .now) (args .cmax .now) (loop .loop .inv .5)
           (omega (arith, In-loop .loop-test .taken, pre .1 .0 .pointerRoom))
           (omega (arith, In-loop .loop-test .taken, pre .1 .0 .cmaxRoom)) (keep-column .keep-column .ensures)
-          (c .before .before .normalise-stretch .ensures .0) (c .before .before .normalise-stretch .ensures .1),
+          (c .before .before .subtract .ensures),
     )
 
 cast-graph-ptr-2 : tie.Need-cast-graph-ptr-2 Inv-loop μ-loop
@@ -259,7 +264,11 @@ build-spec =
     shared-slice-read-to
     cast-to
     keep-column-requires
-    normalise-stretch-requires
+    mul-subtract
+    sub-subtract
+    part-subtract-start
+    part-subtract-end
+    subtract-requires
     mul-cmax
     slice-write-cmax
     add-c

@@ -1,4 +1,4 @@
--- `keep_column` meets its contract. The loop's invariant: the kept entries before place k are written.
+-- `keep_column` meets its contract. The loop's invariant: the kept entries before place k are written, and `top` is the largest of their logs.
 use mathlib.Core.Path.{_≡_, refl, sym, _∙_, subst}
 use Prim.Native.Nat.{ℕ, _≤_, _<_, _-_}
 use native.Mathlib.Nat.{zero-add}
@@ -13,12 +13,12 @@ use Rattle.mc64_general.proofs.keep_column.Statement.{statement}
 use Rattle.mc64_general.proofs.keep_column.Tie as tie
 
 abbrev Inv-loop : tie.InvT-loop
-Inv-loop from to at rows values logs words graphIdx₀ cost₀ source next₀ k₀ graphIdx cost next k = (from ≤ k) × (k ≤ to) ×
+Inv-loop from to at rows values logs words graphIdx₀ cost₀ source next₀ top₀ k₀ graphIdx cost next top k = (from ≤ k) × (k ≤ to) ×
     (length graphIdx ≡ length graphIdx₀) × (length cost ≡ length cost₀) × CopiedTo values from rows (entryLogs source logs) at graphIdx₀ cost₀ k
-    graphIdx cost next
+    graphIdx cost next top
 
 abbrev μ-loop : tie.MeasureT-loop
-μ-loop from to at rows values logs words graphIdx₀ cost₀ source next₀ k₀ graphIdx cost next k = to - k
+μ-loop from to at rows values logs words graphIdx₀ cost₀ source next₀ top₀ k₀ graphIdx cost next top k = to - k
 
 -- places of the proof, each from a later one
 abbrev entry-of-slice-known2 : tie.After-slice-known2 Inv-loop μ-loop → tie.Start Inv-loop μ-loop
@@ -36,14 +36,11 @@ entry-of-is-kept c = entry-of-in-loop (c .before .before)
 abbrev in-loop-of-shared-slice-known6 : tie.After-shared-slice-known6 Inv-loop μ-loop → tie.In-loop Inv-loop μ-loop
 in-loop-of-shared-slice-known6 c = c .before .before .before .before
 
-abbrev entry-of-shared-slice-known6 : tie.After-shared-slice-known6 Inv-loop μ-loop → tie.Start Inv-loop μ-loop
-entry-of-shared-slice-known6 c = entry-of-in-loop (in-loop-of-shared-slice-known6 c)
+abbrev in-loop-of-shared-slice-known8 : tie.After-shared-slice-known8 Inv-loop μ-loop → tie.In-loop Inv-loop μ-loop
+in-loop-of-shared-slice-known8 c = in-loop-of-shared-slice-known6 (c .before .before .before)
 
-abbrev in-loop-of-entry-log : tie.After-entry-log Inv-loop μ-loop → tie.In-loop Inv-loop μ-loop
-in-loop-of-entry-log c = in-loop-of-shared-slice-known6 (c .before .before .before)
-
-abbrev entry-of-entry-log : tie.After-entry-log Inv-loop μ-loop → tie.Start Inv-loop μ-loop
-entry-of-entry-log c = entry-of-in-loop (in-loop-of-entry-log c)
+abbrev in-loop-of-larger : tie.After-larger Inv-loop μ-loop → tie.In-loop Inv-loop μ-loop
+in-loop-of-larger c = in-loop-of-shared-slice-known8 (c .before)
 
 -- the next entry goes no further than where it stood
 next-below : (c : tie.In-loop Inv-loop μ-loop) → let a = entry-of-in-loop c .args in let l = c .before .loop in
@@ -94,22 +91,6 @@ loop-again c =
           (loop .loop .inv .0) (loop .loop .inv .4) (sym (c .before .is-kept .ensures) ∙ not-true _ (c .if1 .taken)),
     )
 
-mul-graph-rows : tie.Need-mul-graph-rows Inv-loop μ-loop
-mul-graph-rows c = omega arith
-
-shared-slice-read-graph-rows : tie.Need-shared-slice-read-graph-rows Inv-loop μ-loop
-shared-slice-read-graph-rows c = omega arith
-
-mul-graph-rows-2 : tie.Need-mul-graph-rows-2 Inv-loop μ-loop
-mul-graph-rows-2 c =
-    let loop = in-loop-of-shared-slice-known6 c .before in
-    omega (arith, next-below (in-loop-of-shared-slice-known6 c), loop .loop .inv .2, loop .loop .inv .3, entry-of-shared-slice-known6 c .pre)
-
-slice-write-graph-rows : tie.Need-slice-write-graph-rows Inv-loop μ-loop
-slice-write-graph-rows c =
-    let loop = in-loop-of-shared-slice-known6 c .before in
-    omega (arith, next-below (in-loop-of-shared-slice-known6 c), loop .loop .inv .2, loop .loop .inv .3, entry-of-shared-slice-known6 c .pre)
-
 mul-entry-log : tie.Need-mul-entry-log Inv-loop μ-loop
 mul-entry-log c = omega arith
 
@@ -120,31 +101,74 @@ mul-entry-log-2 : tie.Need-mul-entry-log-2 Inv-loop μ-loop
 mul-entry-log-2 c = omega arith
 
 shared-slice-read-entry-log-2 : tie.Need-shared-slice-read-entry-log-2 Inv-loop μ-loop
-shared-slice-read-entry-log-2 c = omega (arith, next-below (in-loop-of-shared-slice-known6 (c .before .before)))
+shared-slice-read-entry-log-2 c = omega (arith, next-below (in-loop-of-shared-slice-known6 (c .before)))
 
 entry-log-requires : tie.Need-entry-log-requires Inv-loop μ-loop
 entry-log-requires c κs =
-    let turn = in-loop-of-shared-slice-known6 (c .before .before) in
+    let turn = in-loop-of-shared-slice-known6 (c .before) in
     let args = entry-of-in-loop turn .args in
     let pre = entry-of-in-loop turn .pre in
     let k = turn .before .loop .k in
     subst (λ (i : ℕ). WordOf (args .source) (getD (args .logs .now) k nan) (getD (args .words .now) i 0)) (zero-add k)
     (pre .1 .1 .1 .0 k (omega (arith, next-below turn, pre .1 .0 .1)))
 
+mul-graph-rows : tie.Need-mul-graph-rows Inv-loop μ-loop
+mul-graph-rows c = omega arith
+
+shared-slice-read-graph-rows : tie.Need-shared-slice-read-graph-rows Inv-loop μ-loop
+shared-slice-read-graph-rows c = omega arith
+
+mul-graph-rows-2 : tie.Need-mul-graph-rows-2 Inv-loop μ-loop
+mul-graph-rows-2 c =
+    let loop = in-loop-of-shared-slice-known8 c .before in
+    omega (
+      arith,
+      next-below (in-loop-of-shared-slice-known8 c),
+      loop .loop .inv .2,
+      loop .loop .inv .3,
+      entry-of-in-loop (in-loop-of-shared-slice-known8 c) .pre,
+    )
+
+slice-write-graph-rows : tie.Need-slice-write-graph-rows Inv-loop μ-loop
+slice-write-graph-rows c =
+    let loop = in-loop-of-shared-slice-known8 c .before in
+    omega (
+      arith,
+      next-below (in-loop-of-shared-slice-known8 c),
+      loop .loop .inv .2,
+      loop .loop .inv .3,
+      entry-of-in-loop (in-loop-of-shared-slice-known8 c) .pre,
+    )
+
 mul-cost : tie.Need-mul-cost Inv-loop μ-loop
 mul-cost c =
-    let loop = in-loop-of-entry-log c .before in
-    omega (arith, next-below (in-loop-of-entry-log c), loop .loop .inv .2, loop .loop .inv .3, entry-of-entry-log c .pre)
+    let loop = in-loop-of-shared-slice-known8 c .before in
+    omega (
+      arith,
+      next-below (in-loop-of-shared-slice-known8 c),
+      loop .loop .inv .2,
+      loop .loop .inv .3,
+      entry-of-in-loop (in-loop-of-shared-slice-known8 c) .pre,
+    )
 
 slice-write-cost : tie.Need-slice-write-cost Inv-loop μ-loop
 slice-write-cost c =
-    let loop = in-loop-of-entry-log c .before in
-    omega (arith, next-below (in-loop-of-entry-log c), loop .loop .inv .2, loop .loop .inv .3, entry-of-entry-log c .pre)
+    let loop = in-loop-of-shared-slice-known8 c .before in
+    omega (
+      arith,
+      next-below (in-loop-of-shared-slice-known8 c),
+      loop .loop .inv .2,
+      loop .loop .inv .3,
+      entry-of-in-loop (in-loop-of-shared-slice-known8 c) .pre,
+    )
+
+larger-requires : tie.Need-larger-requires Inv-loop μ-loop
+larger-requires c κs = tt
 
 add-next : tie.Need-add-next Inv-loop μ-loop
 add-next c =
-    let loop = in-loop-of-entry-log c .before in
-    omega (arith, next-below (in-loop-of-entry-log c), loop .loop .inv .2, loop .loop .inv .3, entry-of-entry-log c .pre)
+    let loop = in-loop-of-larger c .before in
+    omega (arith, next-below (in-loop-of-larger c), loop .loop .inv .2, loop .loop .inv .3, entry-of-in-loop (in-loop-of-larger c) .pre)
 
 add-k-2 : tie.Need-add-k-2 Inv-loop μ-loop
 add-k-2 c = omega arith
@@ -154,11 +178,12 @@ loop-less-2 c = omega arith
 
 loop-again-2 : tie.Need-loop-again-2 Inv-loop μ-loop
 loop-again-2 c =
-    let kept = c .before .before .before .before .before in
-    let args = entry-of-is-kept kept .args in
-    let pre = entry-of-is-kept kept .pre in
-    let In-loop = kept .before .before in
-    let loop = kept .before .before .before in (
+    let logged = c .before .before in
+    let else1 = logged .before .before .before in
+    let args = entry-of-is-kept (else1 .before) .args in
+    let pre = entry-of-is-kept (else1 .before) .pre in
+    let In-loop = else1 .before .before .before in
+    let loop = In-loop .before in (
       omega arith,
       omega arith,
       simp length-set (loop .loop .inv .2),
@@ -166,9 +191,9 @@ loop-again-2 c =
       copied-kept
           (args .values .now) (args .from) (args .row-idx .now) (entryLogs (args .source) (args .logs .now)) (args .at) (args .graph-rows .now)
           (args .cost .now) (loop .loop .k) (loop .loop .inv .0) (loop .loop .inv .4)
-          (c .entry-log .ensures ∙ sym (entry-log-at (args .source) (args .logs .now) (loop .loop .k)))
+          (logged .entry-log .ensures ∙ sym (entry-log-at (args .source) (args .logs .now) (loop .loop .k))) (c .larger .ensures)
           (omega (arith, next-below (In-loop), pre .1 .1 .0)) (omega (arith, next-below (In-loop), pre .1 .1 .0))
-          (sym (kept .is-kept .ensures) ∙ not-false _ (c .before .before .before .before .if1 .left)),
+          (sym (else1 .before .is-kept .ensures) ∙ not-false _ (else1 .if1 .left)),
     )
 
 same-length : tie.Need-same-length Inv-loop μ-loop
@@ -186,7 +211,7 @@ returns c = let e : c .before .loop .k ≡ entry-of-after-loop c .args .to = ome
     (entry-of-after-loop c .args .at)
     (entry-of-after-loop c .args .graph-rows .now)
     (entry-of-after-loop c .args .cost .now) i (c .before .loop .graph-rows)
-    (c .before .loop .cost) (c .before .loop .next)) e (c .before .loop .inv .4)
+    (c .before .loop .cost) (c .before .loop .next) (c .before .loop .top)) e (c .before .loop .inv .4)
 
 pub keep-column-spec : {M : Type 1} → statement M
 keep-column-spec =
@@ -201,17 +226,18 @@ keep-column-spec =
     add-k
     loop-less
     loop-again
-    mul-graph-rows
-    shared-slice-read-graph-rows
-    mul-graph-rows-2
-    slice-write-graph-rows
     mul-entry-log
     shared-slice-read-entry-log
     mul-entry-log-2
     shared-slice-read-entry-log-2
     entry-log-requires
+    mul-graph-rows
+    shared-slice-read-graph-rows
+    mul-graph-rows-2
+    slice-write-graph-rows
     mul-cost
     slice-write-cost
+    larger-requires
     add-next
     add-k-2
     loop-less-2

@@ -1,16 +1,15 @@
 -- How the graph is built, for the contracts of its steps: each column's kept entries are written after those before,
--- then normalised there.
+-- then their logs are subtracted from the largest there.
 use mathlib.Core.Path.{_≡_}
 use mathlib.Core.List.{List, _∷_, [], _++_, map}
-use Prim.Native.Nat.{ℕ, suc, _+_, _-_}
+use Prim.Native.Nat.{ℕ, suc, _+_}
 use lib.Ieee.{Float}
 use lib.ListN.{length, getD, take, drop}
 use Rattle.limits.specs.Limits.{maxGeneral}
 use Rattle.sparse.specs.Columns.{Pointers, Sizes}
-use Rattle.mc64_columns.specs.Columns.{normalised}
 use Rattle.sparse.specs.Matrix.{Matrix}
 use Rattle.mc64_columns.specs.Graphs.{joined, logsAt, keptBefore, graphRows, graphCosts, graphLargest}
-use Rattle.mc64_general.specs.Graph.{keptColumns}
+use Rattle.mc64_general.specs.Graph.{largestLog, keptColumns}
 
 -- a matrix whose sizes and pointers were accepted
 pub record Accepted (m : Matrix) (logs : List Float) : Type 0 where
@@ -33,21 +32,13 @@ written l at xs = take at l ++ (xs ++ drop (at + length xs) l)
 abbrev pub rowsAt : List ℕ → List ℕ → List ℕ
 rowsAt rows places = map (λ k. getD rows k 0) places
 
--- these places' rows and logs are written from `at` on, up to `next`
+-- these places' rows and logs are written from `at` on, up to `next`, and `top` is the largest of the logs
 pub record Copied (places rows : List ℕ) (logs : List Float) (at : ℕ) (graphIdx₀ : List ℕ) (cost₀ : List Float)
-    (graphIdx : List ℕ) (cost : List Float) (next : ℕ) : Type 0 where
+    (graphIdx : List ℕ) (cost : List Float) (next : ℕ) (top : Float) : Type 0 where
   pub count : next ≡ at + length places
   pub rowsThere : graphIdx ≡ written graphIdx₀ at (rowsAt rows places)
   pub logsThere : cost ≡ written cost₀ at (logsAt logs places)
-
--- a stretch of the buffer
-abbrev pub stretch : ℕ → ℕ → List Float → List Float
-stretch start end cost = take (end - start) (drop start cost)
-
--- is normalised in it
-abbrev pub normalisedAt : ℕ → ℕ → List Float → List Float
-normalisedAt start end cost =
-    take start cost ++ (normalised (stretch start end cost) ++ drop (end - start) (drop start cost))
+  pub largest : top ≡ largestLog (logsAt logs places)
 
 -- the slices hold the first k columns of the graph
 pub record BuiltTo (k : ℕ) (m : Matrix) (logs : List Float) (graphPtr₀ graphIdx₀ : List ℕ) (cost₀ cmax₀ : List Float)
