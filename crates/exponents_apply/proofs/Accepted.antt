@@ -9,39 +9,26 @@ use borrow.Author.Tests.{eqb-true}
 use lib.Dec.{eqb}
 use lib.IntN.{ℤ, _+ℤ_}
 use lib.ListN.{length, getD}
-use Rattle.limits.specs.Limits.{maxGeneral}
 use Rattle.refusal.specs.Refusal.{valueNotNormal}
 use Rattle.slices.proofs.Bools.{both}
 use Rattle.sparse.specs.Columns.{Columns}
-use Rattle.sparse.specs.Validate.{sizeFault, pointerFault}
+use Rattle.sparse.specs.Validate.{patternFault}
 use Rattle.sparse.proofs.First.{or-none, or-zero, unless-holds, span-zero, all-zero}
-use Rattle.sparse.proofs.Accepted.{sizes-accepted, pointers-accepted, general-columns}
+use Rattle.sparse.proofs.Accepted.{pattern-accepted}
 use Rattle.sparse.specs.Pattern.{Pattern, columnOf, InColumn}
 use Rattle.sparse.proofs.Columns.{column-is, in-column, in-entries}
 use Rattle.exponents_powers.specs.Power.{scalable, Exponents}
-use Rattle.exponents_apply.specs.Apply.{exponentAt, lengthsFit, matrixFault, limitFault, placeFault, columnFault, valuesFault}
+use Rattle.exponents_apply.specs.Apply.{exponentAt, lengthsFit, limitFault, placeFault, columnFault, valuesFault}
 use Rattle.exponents_apply.specs.Apply.{applyFault, shiftAt}
 
 pub record Accepted (m : Pattern) (e : Exponents) (values : List ℕ) : Type 0 where
-  pub matrix : matrixFault m true ≡ 0
+  pub matrix : patternFault m true ≡ 0
   pub lengths : lengthsFit m e (length values) ≡ true
   pub rows : limitFault (e .rows) ≡ 0
   pub columns : limitFault (e .columns) ≡ 0
   pub each : (k : ℕ) → k < length values → scalable (getD values k 0) (shiftAt m e k) ≡ true
 
--- ---- the matrix
-pub lengths-true : (m : Pattern) (t : Bool) → matrixFault m t ≡ 0 → t ≡ true
-unfolding matrixFault
-lengths-true m t h = sizes-accepted (m .n) maxGeneral (length (m .rowIdx)) t .0 (or-zero (sizeFault (m .n) maxGeneral (length (m .rowIdx)) t) _ h .0) .2
-
-pub columns-are : (m : Pattern) → matrixFault m true ≡ 0 → Columns (m .n) (m .colPtr) (m .rowIdx)
-unfolding matrixFault
-columns-are m h =
-    let z = or-zero (sizeFault (m .n) maxGeneral (length (m .rowIdx)) true) _ h in
-    let p = or-zero (pointerFault (m .n) (m .colPtr) (length (m .rowIdx))) _ (z .1) in
-    general-columns (pointers-accepted (m .n) (m .colPtr) (length (m .rowIdx)) .0 (p .0)) .0 (p .1)
-
--- the four lengths
+-- ---- the four lengths
 pub record Lengths (m : Pattern) (e : Exponents) (values : ℕ) : Type 0 where
   pub colptrs : eqb (length (m .colPtr)) (m .n + 1) ≡ true
   pub stored : eqb values (length (m .rowIdx)) ≡ true
@@ -86,24 +73,24 @@ module _ (m : Pattern) (e : Exponents) (values : List ℕ) (w : Columns (m .n) (
 pub accepted-is : (m : Pattern) (e : Exponents) (values : List ℕ) → applyFault m e values ≡ 0 → Accepted m e values
 unfolding applyFault
 accepted-is m e values h =
-    let a = or-zero (matrixFault m (lengthsFit m e (length values))) _ h in
+    let a = or-zero (patternFault m (lengthsFit m e (length values))) _ h in
     let b = or-zero (limitFault (e .rows)) _ (a .1) in
     let c = or-zero (limitFault (e .columns)) _ (b .1) in
-    let l = lengths-true m (lengthsFit m e (length values)) (a .0) in
-    let f : matrixFault m true ≡ 0 = subst (λ (t : Bool). matrixFault m t ≡ 0) l (a .0) in
+    let p = pattern-accepted m (lengthsFit m e (length values)) .0 (a .0) in
+    let l = p .2 in
     record {
-      matrix = f;
+      matrix = subst (λ (t : Bool). patternFault m t ≡ 0) l (a .0);
       lengths = l;
       rows = b .0;
       columns = c .0;
-      each = each-scalable m e values (columns-are m f) (eqb-true (length values) (length (m .rowIdx)) (lengths-are m e (length values) l .stored)) (c .1);
+      each = each-scalable m e values (p .3) (eqb-true (length values) (length (m .rowIdx)) (lengths-are m e (length values) l .stored)) (c .1);
     }
 
 pub is-accepted : (m : Pattern) (e : Exponents) (values : List ℕ) → Accepted m e values → applyFault m e values ≡ 0
 unfolding applyFault
 is-accepted m e values a =
     let s : length values ≡ length (m .rowIdx) = eqb-true (length values) (length (m .rowIdx)) (lengths-are m e (length values) (a .lengths) .stored) in
-    or-none (subst (λ (t : Bool). matrixFault m t ≡ 0) (sym (a .lengths)) (a .matrix))
+    or-none (subst (λ (t : Bool). patternFault m t ≡ 0) (sym (a .lengths)) (a .matrix))
     ∙ or-none (a .rows)
     ∙ or-none (a .columns)
-    ∙ none-at-fault m e values (columns-are m (a .matrix)) (λ k h. a .each k (omega arith))
+    ∙ none-at-fault m e values (pattern-accepted m true .0 (a .matrix) .3) (λ k h. a .each k (omega arith))

@@ -1,27 +1,27 @@
 -- The call: the tests establish what the scaling requires; a refusal leaves the values, an accepted call the scaled ones, each scaled exactly.
 use mathlib.Core.Path.{_≡_, refl, sym, ap, _∙_, subst}
 use mathlib.Core.Logic.{_≢_}
-use mathlib.Core.Bool.{Bool}
 use mathlib.Core.List.{List}
 use Prim.Native.Nat.{ℕ, zero, suc, _+_, _-_}
 use native.Mathlib.Omega.{arith}
 use borrow.Author.Tests.{eqb-true}
 use lib.IntN.{ℤ, _+ℤ_}
 use lib.ListN.{length, getD}
-use Rattle.limits.specs.Limits.{maxGeneral}
 use Rattle.refusal.specs.Refusal.{exponentRange, valueNotNormal}
-use Rattle.refusal.specs.Listed.{listed, applyNumbers, OneOf}
+use Rattle.refusal.specs.Listed.{listed, generalNumbers, applyNumbers, OneOf}
 use Rattle.slices.specs.Outcome.{outcomeIs, refusing, asNumber}
+use Rattle.sparse.specs.Validate.{patternFault}
+use Rattle.sparse.proofs.Accepted.{pattern-accepted}
 use Rattle.sparse.proofs.First.{unless-holds, all-zero}
 use Rattle.sparse.proofs.Listed.{Listed, test, or-listed, first-listed, within, part}
-use Rattle.sparse.proofs.Theorems.{sizeNumbers, sizes-listed, pointerNumbers, pointers-listed, columnNumbers, general-columns-listed}
+use Rattle.sparse.proofs.Theorems.{pattern-listed}
 use Rattle.sparse.specs.Pattern.{Pattern}
 use Rattle.exponents_powers.specs.Power.{withinLimit, scalable, Exponents}
 use Rattle.exponents_powers.proofs.Exact.{scaled-exactly}
-use Rattle.exponents_apply.specs.Apply.{exponentAt, lengthsFit, matrixFault, limitFault, columnFault, valuesFault, applyFault}
+use Rattle.exponents_apply.specs.Apply.{exponentAt, lengthsFit, limitFault, columnFault, valuesFault, applyFault}
 use Rattle.exponents_apply.specs.Apply.{scaledValues, applyExponents, Promises}
 use Rattle.exponents_apply.specs.inner.Steps.{Within, Tested, Written}
-use Rattle.exponents_apply.proofs.Accepted.{accepted-is, columns-are, lengths-true, lengths-are}
+use Rattle.exponents_apply.proofs.Accepted.{accepted-is, lengths-are}
 use Rattle.exponents_apply.proofs.Writing.{scaledAt, all-written}
 
 -- ---- what the tests leave
@@ -29,12 +29,12 @@ pub within-of : (l : List ℤ) → limitFault l ≡ 0 → Within l
 unfolding limitFault
 within-of l h i b = unless-holds (withinLimit (exponentAt l i)) exponentRange (omega arith) (all-zero _ (length l) .0 h i b)
 
-pub tested : (m : Pattern) (e : Exponents) (values : List ℕ) → matrixFault m (lengthsFit m e (length values)) ≡ 0 → limitFault (e .rows) ≡ 0
+pub tested : (m : Pattern) (e : Exponents) (values : List ℕ) → patternFault m (lengthsFit m e (length values)) ≡ 0 → limitFault (e .rows) ≡ 0
     → limitFault (e .columns) ≡ 0 → Tested m e values
 tested m e values f r c =
-    let t = lengths-true m (lengthsFit m e (length values)) f in
-    let l = lengths-are m e (length values) t in
-    let w = columns-are m (subst (λ (b : Bool). matrixFault m b ≡ 0) t f) in
+    let a = pattern-accepted m (lengthsFit m e (length values)) .0 f in
+    let l = lengths-are m e (length values) (a .2) in
+    let w = a .3 in
     record {
       colptrs = eqb-true _ _ (l .colptrs);
       columns = w;
@@ -45,11 +45,9 @@ tested m e values f r c =
 
 -- ---- the number answered
 pub numbered : (m : Pattern) (e : Exponents) (values : List ℕ) {fault : ℕ} → fault ≡ applyFault m e values → OneOf applyNumbers fault
-unfolding applyFault matrixFault limitFault valuesFault columnFault listed within
+unfolding applyFault limitFault valuesFault columnFault listed within
 numbered m e values q = subst (OneOf applyNumbers) (sym q)
-    (or-listed (or-listed (part sizeNumbers (sizes-listed (m .n) maxGeneral (length (m .rowIdx)) (lengthsFit m e (length values))) refl)
-    (or-listed (part pointerNumbers (pointers-listed (m .n) (m .colPtr) (length (m .rowIdx))) refl)
-    (part columnNumbers (general-columns-listed (m .n) (m .colPtr) (m .rowIdx)) refl)))
+    (or-listed (part generalNumbers (pattern-listed m (lengthsFit m e (length values))) refl)
     (or-listed (limits (e .rows)) (or-listed (limits (e .columns)) places)) .is)
   where
     limits : (l : List ℤ) → Listed applyNumbers (limitFault l)

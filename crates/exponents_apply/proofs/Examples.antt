@@ -6,7 +6,7 @@ use lib.IntN.{pos, negsuc}
 use Rattle.slices.specs.Lists.{tabulate}
 use Rattle.slices.specs.Outcome.{outcomeIs}
 use Rattle.sparse.specs.Fault.{firstOf}
-use Rattle.sparse.specs.Validate.{sizeFault, pointerFault, generalColumns, generalColumn}
+use Rattle.sparse.specs.Validate.{sizeFault, pointerFault, generalColumns, generalColumn, patternFault}
 use Rattle.matching.specs.Sum.{sumTo}
 use Rattle.sparse.specs.Pattern.{Pattern, pattern, columnOf}
 use Rattle.exponents_powers.specs.Power.{withinLimit, scalable, scaledBits, Exponents, exponents}
@@ -28,6 +28,6 @@ largest-power = 0x7FE0_0000_0000_0000 ∷ []
 pub one-order-refused : (Apply.applyExponents one-entry halving largest-power ≡ outcomeIs 0 (0x7FD0_0000_0000_0000 ∷ []))
     × (Apply.applyExponents one-entry doubling (0x7FD0_0000_0000_0000 ∷ []) ≡ outcomeIs 0 largest-power)
     × (Apply.applyExponents one-entry doubling largest-power ≡ outcomeIs 46 largest-power)
-unfolding Apply.applyExponents Apply.applyFault Apply.matrixFault Apply.limitFault Apply.valuesFault Apply.columnFault Apply.scaledValues sizeFault
+unfolding Apply.applyExponents Apply.applyFault patternFault Apply.limitFault Apply.valuesFault Apply.columnFault Apply.scaledValues sizeFault
     pointerFault generalColumns generalColumn firstOf tabulate columnOf sumTo withinLimit scalable scaledBits
 one-order-refused = (refl, refl, refl)

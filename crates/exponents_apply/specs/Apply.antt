@@ -7,14 +7,13 @@ use Prim.Native.Nat.{ℕ, _+_, _-_, _<_}
 use lib.Dec.{eqb}
 use lib.IntN.{ℤ, pos, _+ℤ_}
 use lib.ListN.{length, getD}
-use Rattle.limits.specs.Limits.{maxGeneral}
 use Rattle.refusal.specs.Refusal.{accepted, exponentRange, valueNotNormal}
 use Rattle.refusal.specs.Listed.{OneOf, applyNumbers}
 use Rattle.slices.specs.Lists.{tabulate}
 use Rattle.slices.specs.Outcome.{Outcome, outcomeIs, refusing, asNumber}
 use Rattle.sparse.specs.Pattern.{Pattern, rowOf, columnOf, start, end}
 use Rattle.sparse.specs.Fault.{unless, orElse, firstOf}
-use Rattle.sparse.specs.Validate.{sizeFault, pointerFault, generalColumns}
+use Rattle.sparse.specs.Validate.{patternFault}
 use Rattle.exponents_powers.specs.Power.{Exponents, withinLimit, scalable, scaledBits, ScaledExactly}
 
 abbrev pub exponentAt : List ℤ → ℕ → ℤ
@@ -26,12 +25,6 @@ abbrev pub lengthsFit : Pattern → Exponents → ℕ → Bool
 lengthsFit m e values =
     eqb (length (m .colPtr)) (m .n + 1)
     && (eqb values (length (m .rowIdx)) && (eqb (length (e .rows)) (m .n) && eqb (length (e .columns)) (m .n)))
-
--- 1, 2, 3, 4, then each entry's 5 and 7: what `general::validate` finds, with the lengths of all slices at 3
-unfoldable pub matrixFault : Pattern → Bool → ℕ
-matrixFault m lengths =
-    orElse (sizeFault (m .n) maxGeneral (length (m .rowIdx)) lengths)
-    (orElse (pointerFault (m .n) (m .colPtr) (length (m .rowIdx))) (generalColumns (m .n) (m .colPtr) (m .rowIdx)))
 
 -- 43 of one list
 unfoldable pub limitFault : List ℤ → ℕ
@@ -53,7 +46,7 @@ valuesFault m e values =
 
 unfoldable pub applyFault : Pattern → Exponents → List ℕ → ℕ
 applyFault m e values =
-    orElse (matrixFault m (lengthsFit m e (length values)))
+    orElse (patternFault m (lengthsFit m e (length values)))
     (orElse (limitFault (e .rows)) (orElse (limitFault (e .columns)) (valuesFault m e values)))
 
 -- ---- what is left

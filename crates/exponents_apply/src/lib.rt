@@ -5,29 +5,11 @@ ghost use mathlib.Core.Bool.{true};
 ghost use Prim.Native.Nat.{_+_, _≤_, _<_};
 ghost use lib.IntN.{ℤ, _+ℤ_};
 ghost use lib.ListN.{length, getD};
-ghost use Rattle.exponents_powers.specs.Power.{withinLimit, scalable, scaledBits, exponents};
+ghost use Rattle.exponents_powers.specs.Power.{withinLimit, scaledBits, exponents};
 ghost use Rattle.sparse.specs.Pattern.{pattern};
-ghost use Rattle.exponents_apply.specs.Apply.{exponentAt, lengthsFit, matrixFault};
-ghost use Rattle.exponents_apply.specs.Apply.{limitFault, columnFault, valuesFault, shiftAt};
+ghost use Rattle.exponents_apply.specs.Apply.{exponentAt, limitFault, columnFault, valuesFault, shiftAt};
 ghost use Rattle.exponents_apply.specs.Apply.{Promises};
 ghost use Rattle.exponents_apply.specs.inner.Steps.{Places, Tested, Written};
-
-// Refusals 1 to 7 of the matrix, or 0.
-fn matrix_fault(n: u32, col_ptr: &[u32], row_idx: &[u32], lengths: bool) -> u32
-    requires { ⌜ (lengths ≡ true → length (now «col_ptr») ≡ n + 1) ⌝ }
-    ensures { λ r. ⌜ r ≡ matrixFault (pattern n (now («col_ptr» .entry)) (now («row_idx» .entry))) lengths ⌝ }
-{
-    let count = row_idx.len();
-    let sizes = sparse::layout::size_fault(n, limits::MAX_GENERAL, count, lengths);
-    if sizes != refusal::ACCEPTED {
-        return sizes;
-    }
-    let pointers = sparse::layout::pointer_fault(n as usize, col_ptr, count);
-    if pointers != refusal::ACCEPTED {
-        return pointers;
-    }
-    sparse::general::columns_fault(n as usize, col_ptr, row_idx)
-}
 
 // Refusal 43 of one list of exponents, or 0.
 fn limit_fault(exponents: &[i32]) -> u32
@@ -173,7 +155,7 @@ pub fn apply_exponents(
     let lengths = (col_ptr.len() == size + 1)
         & ((values.len() == row_idx.len())
             & ((row_exponents.len() == size) & (column_exponents.len() == size)));
-    let matrix = matrix_fault(n, col_ptr, row_idx, lengths);
+    let matrix = sparse::general::pattern_fault(n, col_ptr, row_idx, lengths);
     if matrix != refusal::ACCEPTED {
         return matrix;
     }

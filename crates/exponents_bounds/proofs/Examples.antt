@@ -14,7 +14,7 @@ use Rattle.slices.specs.Lists.{tabulate}
 use Rattle.sparse.specs.Fault.{firstOf}
 use Rattle.sparse.specs.Matrix.{Matrix, matrix}
 use Rattle.sparse.specs.Validate.{sizeFault, pointerFault, generalColumns, generalColumn, frameFault, lowerColumn, risingColumn, symmetricColumns}
-use Rattle.sparse.specs.Validate.{symmetricFault, generalFault}
+use Rattle.sparse.specs.Validate.{patternFault, symmetricFault, generalFault}
 use Rattle.matching.specs.Sum.{sumTo}
 use Rattle.sparse.specs.Pattern.{columnOf}
 use Rattle.hungarian.specs.Graph.{CostGraph, graphOf}
@@ -34,7 +34,7 @@ use Rattle.whole_graphs.specs.Graphs.{finiteFault, generalInputFault, symmetric
 use Rattle.exponents_powers.specs.Power.{withinLimit, scalable, scaledBits, Exponents, exponents}
 use Rattle.exponents.specs.Exponent.{floorOf, isWhole, exponentOf, factorFits}
 use Rattle.exponents.specs.Call.{duals, differences, lengthsFit, factorsFault, exponentsFault, makeExponents}
-use Rattle.exponents_apply.specs.Apply.{applyFault, matrixFault, limitFault, valuesFault, columnFault, scaledValues, applyExponents}
+use Rattle.exponents_apply.specs.Apply.{applyFault, limitFault, valuesFault, columnFault, scaledValues, applyExponents}
 use Rattle.exponents_bounds.specs.Bounds.{swapped}
 
 -- ---- the matrix of the one entry 1
@@ -90,7 +90,7 @@ unfolding wholeGeneralGraph generalInputFault finiteFault frameFault generalFaul
     largestLog largest largestFrom normalised wholeLog Match.matchOutcome Match.finished Match.matchLengths hungarianMatch graphFault costFault inRange
     sizeFault pointerFault firstOf generalColumns generalColumn magnitude unitsPerOne ofInt ofBits lt le eq ne add sub neg makeExponents
     exponentsFault lengthsFit factorsFault factorFits isWhole withinLimit exponentOf floorOf wholeOf differences applyExponents applyFault
-    matrixFault limitFault valuesFault columnFault scaledValues tabulate columnOf sumTo scalable scaledBits
+    patternFault limitFault valuesFault columnFault scaledValues tabulate columnOf sumTo scalable scaledBits
 small-scaled = (refl, refl, refl, refl, refl)
 
 -- ---- a symmetric matrix of two columns: 3 and 1 in the first, whose mirror is 1 in the second, which has no other
@@ -124,5 +124,5 @@ unfolding wholeSymmetricGraph symmetricInputFault finiteFault frameFault symmetr
     Graphs.built Graphs.joined placesTo columnOf sumTo largest largestFrom normalised wholeLog Match.matchOutcome Match.finished Match.matchLengths
     hungarianMatch graphFault costFault inRange sizeFault pointerFault firstOf generalColumns generalColumn magnitude unitsPerOne ofInt ofBits lt
     le eq ne add sub neg makeExponents exponentsFault lengthsFit factorsFault factorFits isWhole withinLimit exponentOf floorOf wholeOf
-    differences applyExponents applyFault matrixFault limitFault valuesFault columnFault scaledValues tabulate scalable scaledBits
+    differences applyExponents applyFault patternFault limitFault valuesFault columnFault scaledValues tabulate scalable scaledBits
 triangle-scaled = (refl, refl, refl, refl, refl, refl)

@@ -4,7 +4,7 @@ use mathlib.Core.Path.{_≡_, refl, sym, ap, _∙_, subst}
 use mathlib.Core.Logic.{_≢_}
 use mathlib.Core.Bool.{Bool, true, cond, _||_}
 use mathlib.Core.List.{List, [], _∷_}
-use Prim.Native.Nat.{ℕ, zero, suc, _+_, _≤_, _<_}
+use Prim.Native.Nat.{ℕ, zero, suc, _+_, _<_}
 use native.Mathlib.Decide.{ℕ-discrete}
 use native.Mathlib.Omega.{arith}
 use borrow.Author.Tests.{eqb-true, eq-eqb, ne-eqb}
@@ -12,21 +12,20 @@ use lib.Dec.{T, eqb}
 use lib.ListN.{length, getD}
 use lib.Seq.{ext-getD}
 use lib.Ieee.Fits.{eq→eqb}
-use Rattle.limits.specs.Limits.{maxGeneral, none}
+use Rattle.limits.specs.Limits.{none}
 use Rattle.refusal.specs.Refusal.{incompleteMatching, notLargest}
-use Rattle.refusal.specs.Listed.{listed, OneOf, largestNumbers}
+use Rattle.refusal.specs.Listed.{listed, OneOf, generalNumbers, largestNumbers}
 use Rattle.slices.specs.Lists.{tabulate}
 use Rattle.slices.specs.Outcome.{Outcome, outcomeIs, refusing}
 use Rattle.slices.proofs.Bools.{both}
 use Rattle.slices.proofs.Refusing.{refused-is}
 use Rattle.slices.proofs.Lists.{length-table, table-at}
 use Rattle.sparse.specs.Fault.{unless}
-use Rattle.sparse.specs.Validate.{sizeFault, pointerFault, generalColumns}
-use Rattle.sparse.specs.Columns.{Columns}
-use Rattle.sparse.proofs.Accepted.{sizes-accepted, pointers-accepted, general-columns}
+use Rattle.sparse.specs.Validate.{patternFault}
+use Rattle.sparse.proofs.Accepted.{pattern-accepted}
 use Rattle.sparse.proofs.First.{or-zero, unless-holds, answer-first, answer-second}
 use Rattle.sparse.proofs.Listed.{Listed, test, or-listed, within, part}
-use Rattle.sparse.proofs.Theorems.{sizeNumbers, pointerNumbers, columnNumbers, sizes-listed, pointers-listed, general-columns-listed}
+use Rattle.sparse.proofs.Theorems.{pattern-listed}
 use Rattle.matching.specs.Pairing.{pairedEntries}
 use Rattle.float64.specs.Number.{Number, unitsPerOne}
 use Rattle.cost_limit.specs.Range.{costLimit}
@@ -41,7 +40,7 @@ use Rattle.hungarian_match.specs.Call.{matchFault, numberOf as matchNumber, fin
 use Rattle.hungarian_match.specs.declared.Answer.the-variants as Answer
 use Rattle.hungarian_match.proofs.Calls.{accepted-lengths}
 use Rattle.match_check.specs.inner.Steps.{AcceptedPattern}
-use Rattle.match_largest.specs.Marks.{rowAt, isFree, mark, pairsFit, isMet, markedColumns, markedRows, isLargest, patternFault, pairingFault}
+use Rattle.match_largest.specs.Marks.{rowAt, isFree, mark, pairsFit, isMet, markedColumns, markedRows, isLargest, pairingFault}
 use Rattle.match_largest.specs.Call.{numberOf, Slices, slices, largestLengths, largestFault, pairCount, marksOf, largestOutcome, pairs, Promises}
 use Rattle.match_largest.specs.Call.{IsLargestOf, Room, Exactly, Shown, Ours, OursAccepted}
 use Rattle.match_largest.specs.inner.Sweeps.{Searched}
@@ -79,30 +78,10 @@ module _ (g : Pattern) (perm : List ℕ) (s : Slices) where
 -- ---- an accepted pattern
 module _ (g : Pattern) (lengths : Bool) (z : patternFault g lengths ≡ 0) where
   pub all-fit : lengths ≡ true
-  unfolding patternFault
-  all-fit = sizes-accepted (g .n) maxGeneral (length (g .rowIdx)) lengths .0 (or-zero (sizeFault (g .n) maxGeneral (length (g .rowIdx)) lengths) _ z .0) .2
+  all-fit = pattern-accepted g lengths .0 z .2
 
   pub pattern-is : length (g .colPtr) ≡ g .n + 1 → AcceptedPattern (g .n) (g .colPtr) (g .rowIdx)
-  unfolding patternFault
-  pattern-is p =
-      let a = or-zero (sizeFault (g .n) maxGeneral (length (g .rowIdx)) lengths) _ z in
-      let b = or-zero (pointerFault (g .n) (g .colPtr) (length (g .rowIdx))) _ (a .1) in
-      let t = sizes-accepted (g .n) maxGeneral (length (g .rowIdx)) lengths .0 (a .0) in
-      record {
-        few = t .0;
-        entries = t .1;
-        pointers = p;
-        columns =
-            general-columns (pointers-accepted (g .n) (g .colPtr) (length (g .rowIdx)) .0 (b .0)) .0 (b .1);
-      }
-
-is-pattern : (g : Pattern) → g .n ≤ 4096 → entries g ≤ 262144 → Columns (g .n) (g .colPtr) (g .rowIdx) → patternFault g true ≡ 0
-unfolding patternFault
-is-pattern g few limit w =
-    let a : sizeFault (g .n) maxGeneral (length (g .rowIdx)) true ≡ 0 = sizes-accepted (g .n) maxGeneral (length (g .rowIdx)) true .1 (few, limit, refl) in
-    let b : pointerFault (g .n) (g .colPtr) (length (g .rowIdx)) ≡ 0 = pointers-accepted (g .n) (g .colPtr) (length (g .rowIdx)) .1 (w .pointers) in
-    let c : generalColumns (g .n) (g .colPtr) (g .rowIdx) ≡ 0 = general-columns (w .pointers) .1 w in
-    rw (a, b, c) refl
+  pattern-is p = let a = pattern-accepted g lengths .0 z in record { few = a .0; entries = a .1; pointers = p; columns = a .3 }
 
 -- ---- what an accepted call has passed
 pub record Passed (g : Pattern) (perm : List ℕ) (s : Slices) : Type 0 where
@@ -167,7 +146,7 @@ module _ (g : Pattern) (perm : List ℕ) (s : Slices) where
         let a : largestLengths (g .n) (g .colPtr) perm s ≡ true = fits g perm s (record { pointers = l .pointers; places = l .places; room = r }) in
         rw (
           a,
-          is-pattern g (l .few) (l .fewEntries) (l .inOrder),
+          pattern-accepted g true .1 (l .few, l .fewEntries, refl, l .inOrder),
           good-fits g perm (l .inOrder) its-good,
           largest-held g perm (l .inOrder) its-good
               (l .largest),
@@ -204,12 +183,9 @@ ours-largest g perm o = go (matchFault (withCosts g (o .cost)) (o .before)) refl
 
 -- ---- 0 1 2 3 4 5 7 30 33 and no other number
 largest-listed : (g : Pattern) (perm : List ℕ) (s : Slices) → Listed largestNumbers (largestFault g perm s)
-unfolding listed within largestFault patternFault pairingFault
+unfolding listed within largestFault pairingFault
 largest-listed g perm s =
-    or-listed
-    (or-listed (part sizeNumbers (sizes-listed (g .n) maxGeneral (length (g .rowIdx)) (largestLengths (g .n) (g .colPtr) perm s)) refl)
-    (or-listed (part pointerNumbers (pointers-listed (g .n) (g .colPtr) (length (g .rowIdx))) refl)
-    (part columnNumbers (general-columns-listed (g .n) (g .colPtr) (g .rowIdx)) refl)))
+    or-listed (part generalNumbers (pattern-listed g (largestLengths (g .n) (g .colPtr) perm s)) refl)
     (or-listed (test (pairsFit g perm) incompleteMatching refl refl) (test (isLargest g perm) notLargest refl refl))
 
 -- ---- the clauses, of any answer

@@ -5,12 +5,12 @@ use Rattle.limits.specs.Limits.{none}
 use Rattle.slices.specs.Lists.{tabulate}
 use Rattle.slices.specs.Outcome.{outcomeIs}
 use Rattle.sparse.specs.Fault.{firstOf}
-use Rattle.sparse.specs.Validate.{sizeFault, pointerFault, generalColumn, generalColumns}
+use Rattle.sparse.specs.Validate.{sizeFault, pointerFault, generalColumn, generalColumns, patternFault}
 use Rattle.matching.specs.Sum.{sumTo}
 use Rattle.matching.specs.Pairing.{matchedCount}
 use Rattle.sparse.specs.Pattern.{Pattern, pattern, columnOf}
 use Rattle.match_check.specs.Check.{everyOf, someOf}
-use Rattle.match_largest.specs.Marks.{pairsFit, isMet, columnsAfter, markedColumns, markedRows, isLargest, patternFault, pairingFault}
+use Rattle.match_largest.specs.Marks.{pairsFit, isMet, columnsAfter, markedColumns, markedRows, isLargest, pairingFault}
 use Rattle.match_largest.specs.Call.{Slices, slices, largestLengths, largestFault, marksOf, largestOutcome}
 use Rattle.match_largest.specs.declared.Verdict.the-variants.{Accepted, Refused}
 

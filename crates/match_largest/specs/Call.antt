@@ -12,6 +12,7 @@ use Rattle.limits.specs.Limits.{none, maxColumns, maxGeneral}
 use Rattle.refusal.specs.Refusal.{accepted}
 use Rattle.slices.specs.Outcome.{Outcome, outcomeIs, refusing}
 use Rattle.sparse.specs.Fault.{orElse}
+use Rattle.sparse.specs.Validate.{patternFault}
 use Rattle.sparse.specs.Columns.{Columns}
 use Rattle.matching.specs.Sum.{sumTo}
 use Rattle.matching.specs.Matching.{IsMatching, Largest, size}
@@ -22,7 +23,7 @@ use Rattle.hungarian.specs.Accepted.{Doubles}
 use Rattle.hungarian.specs.Optimal.{IsEntry}
 use Rattle.hungarian_match.specs.Call.{Slices as MatchSlices, matchOutcome, numberOf as matchNumber}
 use Rattle.refusal.specs.Listed.{OneOf, largestNumbers}
-use Rattle.match_largest.specs.Marks.{rowAt, markedColumns, markedRows, patternFault, pairingFault}
+use Rattle.match_largest.specs.Marks.{rowAt, markedColumns, markedRows, pairingFault}
 use Rattle.match_largest.specs.declared.Verdict.{Verdict}
 use Rattle.match_largest.specs.declared.Verdict.the-variants.{Accepted, Refused}
 

@@ -4,12 +4,11 @@ use mathlib.Core.Bool.{Bool, true, false, not, _&&_, _||_}
 use mathlib.Core.List.{List}
 use Prim.Native.Nat.{ℕ, zero, suc}
 use lib.Dec.{eqb, ltb}
-use lib.ListN.{length, getD}
-use Rattle.limits.specs.Limits.{maxGeneral, none}
+use lib.ListN.{getD}
+use Rattle.limits.specs.Limits.{none}
 use Rattle.refusal.specs.Refusal.{incompleteMatching, notLargest}
 use Rattle.slices.specs.Lists.{tabulate}
 use Rattle.sparse.specs.Fault.{unless, orElse}
-use Rattle.sparse.specs.Validate.{sizeFault, pointerFault, generalColumns}
 use Rattle.sparse.specs.Pattern.{Pattern, rowOf, columnOf, entries}
 use Rattle.match_check.specs.Check.{everyOf, someOf, takenBefore, rowFresh, pairStands}
 
@@ -66,12 +65,6 @@ unfolding markedRows
 isLargest g perm = everyOf (g .n) (isHeld g perm) 0
 
 -- ---- the whole check
--- 1 2 3 4, then at each entry 5 and 7: the tests of a general matrix without its values
-unfoldable pub patternFault : Pattern → Bool → ℕ
-patternFault g lengths =
-    orElse (sizeFault (g .n) maxGeneral (length (g .rowIdx)) lengths)
-    (orElse (pointerFault (g .n) (g .colPtr) (length (g .rowIdx))) (generalColumns (g .n) (g .colPtr) (g .rowIdx)))
-
 -- 30, then 33, of an accepted pattern
 unfoldable pub pairingFault : Pattern → List ℕ → ℕ
 unfolding pairsFit isLargest

@@ -14,7 +14,7 @@ ghost use Rattle.matching.specs.Pairing.{matchedCount};
 ghost use Rattle.match_check.specs.Check.{everyOf};
 ghost use Rattle.match_check.specs.inner.Steps.{AcceptedPattern};
 ghost use Rattle.sparse.specs.Pattern.{pattern};
-ghost use Rattle.match_largest.specs.Marks.{rowAt, pairFits, pairsFit, patternFault, pairingFault};
+ghost use Rattle.match_largest.specs.Marks.{rowAt, pairFits, pairsFit, pairingFault};
 ghost use Rattle.match_largest.specs.Call.{slices, largestLengths, Promises};
 ghost use Rattle.match_largest.specs.inner.Sweeps.{Entered, Queued, Sweeping, Swept, Searched};
 
@@ -43,23 +43,6 @@ fn lengths_fit(
 {
     let lent = (columns.len() == n) & ((rows.len() == n) & (matched.len() == 1));
     (col_ptr.len() == n + 1) & ((perm.len() == n) & lent)
-}
-
-// Refusals 1 to 7 of the pattern, or 0.
-fn pattern_fault(n: u32, col_ptr: &[u32], row_idx: &[u32], lengths: bool) -> u32
-    requires { ⌜ (lengths ≡ true → length (now «col_ptr») ≡ n + 1) ⌝ }
-    ensures { λ r. ⌜ r ≡ patternFault (pattern n (now («col_ptr» .entry)) (now («row_idx» .entry))) lengths ⌝ }
-{
-    let count = row_idx.len();
-    let sizes = sparse::layout::size_fault(n, limits::MAX_GENERAL, count, lengths);
-    if sizes != refusal::ACCEPTED {
-        return sizes;
-    }
-    let pointers = sparse::layout::pointer_fault(n as usize, col_ptr, count);
-    if pointers != refusal::ACCEPTED {
-        return pointers;
-    }
-    sparse::general::columns_fault(n as usize, col_ptr, row_idx)
 }
 
 // Whether column j has no row, or a row that no column before it has, by an entry. The row gets its column.
@@ -308,7 +291,7 @@ pub fn check_largest(
 {
     let size = n as usize;
     let lengths = lengths_fit(size, col_ptr, perm, columns, rows, matched);
-    let shape = pattern_fault(n, col_ptr, row_idx, lengths);
+    let shape = sparse::general::pattern_fault(n, col_ptr, row_idx, lengths);
     if shape != refusal::ACCEPTED {
         return Verdict::Refused(shape);
     }

@@ -14,6 +14,7 @@ use lib.ListN.{length, getD}
 use Rattle.limits.specs.Limits.{maxColumns, maxGeneral, maxSymmetric}
 use Rattle.slices.proofs.Bools.{both}
 use Rattle.sparse.specs.Fault.{unless}
+use Rattle.sparse.specs.Pattern.{Pattern}
 use Rattle.sparse.specs.Matrix.{Matrix}
 use Rattle.sparse.specs.Validate
 use Rattle.sparse.specs.Columns.{Pointers, Sizes, Columns, Lower}
@@ -172,6 +173,25 @@ module _ {n : ℕ} {colPtr rows : List ℕ} (p : Pointers n colPtr (length rows)
         (λ k l u. lower-entry n rows j k .1 (c .0 .inside k (le-trans u (pointer-below p (suc j) h)), c .1 .below j k h l u)))
         ∙ span-zero _ (getD colPtr j 0) (pred (getD colPtr (suc j) 0)) .1 (λ k l u. rising-pair rows k .1 (c .0 .rising j k h l (omega arith)))),
   )
+
+-- ---- a pattern
+pub pattern-accepted : (p : Pattern) (lengths : Bool) → (Validate.patternFault p lengths ≡ 0)
+    ↔ ((p .n ≤ maxColumns) × (length (p .rowIdx) ≤ maxGeneral) × (lengths ≡ true) × Columns (p .n) (p .colPtr) (p .rowIdx))
+unfolding Validate.patternFault
+pattern-accepted p lengths =
+    let n = p .n in
+    let colPtr = p .colPtr in
+    let count = length (p .rowIdx) in (
+      λ e.
+          let a = or-zero (Validate.sizeFault n maxGeneral count lengths) _ e in
+          let b = or-zero (Validate.pointerFault n colPtr count) _ (a .1) in
+          let s = sizes-accepted n maxGeneral count lengths .0 (a .0) in
+          (s .0, s .1, s .2, general-columns (pointers-accepted n colPtr count .0 (b .0)) .0 (b .1)),
+      λ h.
+          or-none (sizes-accepted n maxGeneral count lengths .1 (h .0, h .1, h .2))
+          ∙ or-none (pointers-accepted n colPtr count .1 (h .3 .pointers))
+          ∙ general-columns (h .3 .pointers) .1 (h .3),
+    )
 
 -- ---- `validate`
 pub general-accepted : (m : Matrix) → let p = m .pattern in

@@ -9,6 +9,7 @@ use Rattle.limits.specs.Limits.{maxColumns, maxGeneral, maxSymmetric}
 use Rattle.refusal.specs.Refusal.{accepted, tooManyColumns, tooManyEntries, sliceLength, columnPointers, indexRange, upperTriangle, rowsNotRising}
 use Rattle.refusal.specs.Listed.{listed, generalNumbers, symmetricNumbers, generalTripletNumbers, symmetricTripletNumbers}
 use Rattle.triplets.specs.Built.{Triplets, Slices}
+use Rattle.sparse.specs.Pattern.{Pattern, entries}
 use Rattle.sparse.specs.Matrix.{Matrix}
 use Rattle.sparse.specs.Validate
 use Rattle.sparse.specs.Assemble.{numberOf, outcome, generalTriplet, tripletFault, generalTripletFault, symmetricTripletFault, generalAssembly}
@@ -61,6 +62,14 @@ symmetric-columns-listed n colPtr rows = first-listed n 0 refl (λ j. column j (
         (first-listed (to - from) from refl
         (λ k. or-listed (test (ltb (getD rows k 0) n) indexRange refl refl) (test (leb j (getD rows k 0)) upperTriangle refl refl)))
         (first-listed (pred to - from) from refl (λ k. test (ltb (getD rows k 0) (getD rows (suc k) 0)) rowsNotRising refl refl))
+
+-- ---- a pattern
+pub pattern-listed : (p : Pattern) (lengths : Bool) → Listed generalNumbers (Validate.patternFault p lengths)
+unfolding listed within Validate.patternFault
+pattern-listed p lengths =
+    or-listed (part sizeNumbers (sizes-listed (p .n) maxGeneral (entries p) lengths) refl)
+    (or-listed (part pointerNumbers (pointers-listed (p .n) (p .colPtr) (entries p)) refl)
+    (part columnNumbers (general-columns-listed (p .n) (p .colPtr) (p .rowIdx)) refl))
 
 -- ---- `validate`
 module _ (m : Matrix) where

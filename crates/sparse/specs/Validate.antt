@@ -11,7 +11,7 @@ use Rattle.limits.specs.Limits.{maxColumns, maxGeneral, maxSymmetric}
 use Rattle.refusal.specs.Refusal.{accepted, tooManyColumns, tooManyEntries, sliceLength, columnPointers, indexRange}
 use Rattle.refusal.specs.Refusal.{upperTriangle, rowsNotRising}
 use Rattle.sparse.specs.Fault.{unless, orElse, firstOf}
-use Rattle.sparse.specs.Pattern.{entries}
+use Rattle.sparse.specs.Pattern.{Pattern, entries}
 use Rattle.sparse.specs.Matrix.{Matrix}
 use Rattle.sparse.specs.declared.layout.Validity.{Validity}
 use Rattle.sparse.specs.declared.layout.Validity.the-variants.{Accepted, Refused}
@@ -53,6 +53,13 @@ generalColumn n rows from to = firstOf (to - from) (generalEntry n rows from) fr
 
 unfoldable pub generalColumns : ℕ → List ℕ → List ℕ → ℕ
 generalColumns n colPtr rows = firstOf n (λ j. generalColumn n rows (getD colPtr j 0) (getD colPtr (suc j) 0)) 0
+
+-- 1, 2, 3, 4, then 5 and 7 of each entry: the tests of a general matrix without its values, with the lengths of all
+-- slices in the place of 3
+unfoldable pub patternFault : Pattern → Bool → ℕ
+patternFault p lengths =
+    orElse (sizeFault (p .n) maxGeneral (entries p) lengths)
+    (orElse (pointerFault (p .n) (p .colPtr) (entries p)) (generalColumns (p .n) (p .colPtr) (p .rowIdx)))
 
 -- symmetric: entry k of column j
 abbrev pub lowerEntry : ℕ → List ℕ → ℕ → ℕ → ℕ

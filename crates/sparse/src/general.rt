@@ -3,13 +3,16 @@ use crate::layout;
 use crate::layout::Assembled;
 use crate::layout::Validity;
 ghost use mathlib.Core.Path.{_≡_};
+ghost use mathlib.Core.Bool.{true};
 ghost use Prim.Native.Nat.{_+_, _≤_};
 ghost use lib.Dec.{eqb};
 ghost use lib.ListN.{length};
 ghost use Rattle.refusal.specs.Listed.{OneOf, generalNumbers, generalTripletNumbers};
 ghost use Rattle.slices.specs.Outcome.{outcomeIs};
+ghost use Rattle.sparse.specs.Pattern.{pattern};
 ghost use Rattle.sparse.specs.Matrix.{matrix};
-ghost use Rattle.sparse.specs.Validate.{generalColumn, generalColumns, generalFault, numberOf, validityOf};
+ghost use Rattle.sparse.specs.Validate.{generalColumn, generalColumns, patternFault, generalFault};
+ghost use Rattle.sparse.specs.Validate.{numberOf, validityOf};
 ghost use Rattle.sparse.specs.Columns.{Pointers};
 ghost use Rattle.sparse.specs.Fault.{firstOf};
 ghost use Rattle.triplets.specs.Built.{triplets, slices, keptCount};
@@ -81,6 +84,23 @@ pub fn columns_fault(n: usize, col_ptr: &[u32], row_idx: &[u32]) -> u32
         j += 1;
     }
     refusal::ACCEPTED
+}
+
+// Refusals 1 to 5 and 7 of a pattern, or 0. `lengths` says whether every slice of the call has its length.
+pub fn pattern_fault(n: u32, col_ptr: &[u32], row_idx: &[u32], lengths: bool) -> u32
+    requires { ⌜ (lengths ≡ true → length (now «col_ptr») ≡ n + 1) ⌝ }
+    ensures { λ r. ⌜ r ≡ patternFault (pattern n (now («col_ptr» .entry)) (now («row_idx» .entry))) lengths ⌝ }
+{
+    let count = row_idx.len();
+    let sizes = layout::size_fault(n, limits::MAX_GENERAL, count, lengths);
+    if sizes != refusal::ACCEPTED {
+        return sizes;
+    }
+    let pointers = layout::pointer_fault(n as usize, col_ptr, count);
+    if pointers != refusal::ACCEPTED {
+        return pointers;
+    }
+    columns_fault(n as usize, col_ptr, row_idx)
 }
 
 // Tests a matrix: the first thing wrong refuses it.

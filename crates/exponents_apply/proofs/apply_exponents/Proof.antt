@@ -7,10 +7,11 @@ use lib.ListN.{length}
 use borrow.Author.Needs.{needs}
 use borrow.Author.Tests.{eqb-true}
 use Rattle.slices.proofs.Bools.{both}
+use Rattle.sparse.specs.Validate.{patternFault}
 use Rattle.sparse.proofs.First.{or-none, answer-first, answer-second}
 use Rattle.sparse.specs.Pattern.{Pattern, pattern}
 use Rattle.exponents_powers.specs.Power.{Exponents, exponents}
-use Rattle.exponents_apply.specs.Apply.{lengthsFit, matrixFault, limitFault, valuesFault, applyFault}
+use Rattle.exponents_apply.specs.Apply.{lengthsFit, limitFault, valuesFault, applyFault}
 use Rattle.exponents_apply.specs.inner.Steps.{Tested}
 use Rattle.exponents_apply.proofs.Calling.{tested, refuses, accepts}
 use Rattle.exponents_apply.proofs.apply_exponents.Statement.{statement}
@@ -40,8 +41,8 @@ abbrev else3 : tie.Else4 → tie.Else3
 else3 c = c .before .before .before
 
 -- ---- a test that was passed found nothing
-no-matrix-fault : (c : tie.Else1) → let s = start c in matrixFault (matrix s) (lengthsFit (matrix s) (both-sets s) (length (values s))) ≡ 0
-no-matrix-fault c = sym (c .before .matrix-fault .ensures) ∙ c .if1 .left
+no-pattern-fault : (c : tie.Else1) → let s = start c in patternFault (matrix s) (lengthsFit (matrix s) (both-sets s) (length (values s))) ≡ 0
+no-pattern-fault c = sym (c .before .pattern-fault .ensures) ∙ c .if1 .left
 
 no-row-fault : (c : tie.Else2) → limitFault (both-sets (start (else1 c)) .rows) ≡ 0
 no-row-fault c = sym (c .before .limit-fault .ensures) ∙ c .if2 .left
@@ -55,25 +56,25 @@ no-value-fault c = sym (c .before .values-fault .ensures) ∙ c .if4 .left
 all-tested : (c : tie.Else3) → let s = start (else1 (else2 c)) in Tested (matrix s) (both-sets s) (values s)
 all-tested c =
     let s = start (else1 (else2 c)) in
-    tested (matrix s) (both-sets s) (values s) (no-matrix-fault (else1 (else2 c))) (no-row-fault (else2 c)) (no-column-fault c)
+    tested (matrix s) (both-sets s) (values s) (no-pattern-fault (else1 (else2 c))) (no-row-fault (else2 c)) (no-column-fault c)
 
 no-fault : (c : tie.Else4) → let s = start (else1 (else2 (else3 c))) in applyFault (matrix s) (both-sets s) (values s) ≡ 0
 unfolding applyFault
-no-fault c = or-none (no-matrix-fault (else1 (else2 (else3 c)))) ∙ or-none (no-row-fault (else2 (else3 c))) ∙ or-none
+no-fault c = or-none (no-pattern-fault (else1 (else2 (else3 c)))) ∙ or-none (no-row-fault (else2 (else3 c))) ∙ or-none
     (no-column-fault (else3 c)) ∙ no-value-fault c
 
 add-lengths : tie.Need-add-lengths
 add-lengths c = search needs
 
-matrix-fault-requires : tie.Need-matrix-fault-requires
-matrix-fault-requires c κs = λ t. let a = c .before .before .before .args in eqb-true (length (a .col-ptr .now)) (a .n + 1)
+pattern-fault-requires : tie.Need-pattern-fault-requires
+pattern-fault-requires c κs = λ t. let a = c .before .before .before .args in eqb-true (length (a .col-ptr .now)) (a .n + 1)
     (both (eqb (length (a .col-ptr .now)) (a .n + 1)) _ t .0)
 
 returns : tie.Need-returns
 unfolding applyFault
 returns c =
     let s = c .before .before .before .before .before in
-    refuses (matrix s) (both-sets s) (values s) (answer-first _ (c .before .matrix-fault .ensures) (c .if1 .taken)) (c .if1 .taken)
+    refuses (matrix s) (both-sets s) (values s) (answer-first _ (c .before .pattern-fault .ensures) (c .if1 .taken)) (c .if1 .taken)
 
 limit-fault-requires : tie.Need-limit-fault-requires
 limit-fault-requires c κs = search needs
@@ -83,7 +84,7 @@ unfolding applyFault
 returns-2 c =
     let e = c .before .before in
     let s = start e in
-    refuses (matrix s) (both-sets s) (values s) (answer-second (e .before .matrix-fault .ensures) (e .if1 .left)
+    refuses (matrix s) (both-sets s) (values s) (answer-second (e .before .pattern-fault .ensures) (e .if1 .left)
     (answer-first _ (c .before .limit-fault .ensures) (c .if2 .taken))) (c .if2 .taken)
 
 limit-fault-requires-2 : tie.Need-limit-fault-requires-2
@@ -96,7 +97,7 @@ returns-3 c =
     let e = else1 f in
     let s = start e in
     refuses (matrix s) (both-sets s) (values s)
-    (answer-second (e .before .matrix-fault .ensures) (e .if1 .left)
+    (answer-second (e .before .pattern-fault .ensures) (e .if1 .left)
     (answer-second (f .before .limit-fault .ensures) (f .if2 .left) (answer-first _ (c .before .limit-fault2 .ensures) (c .if3 .taken)))) (c .if3 .taken)
 
 values-fault-requires : tie.Need-values-fault-requires
@@ -113,7 +114,7 @@ returns-4 c =
     let e = else1 f in
     let s = start e in
     refuses (matrix s) (both-sets s) (values s)
-    (answer-second (e .before .matrix-fault .ensures) (e .if1 .left)
+    (answer-second (e .before .pattern-fault .ensures) (e .if1 .left)
     (answer-second (f .before .limit-fault .ensures) (f .if2 .left)
     (answer-second (g .before .limit-fault2 .ensures) (g .if3 .left) (c .before .values-fault .ensures)))) (c .if4 .taken)
 
@@ -134,7 +135,7 @@ apply-exponents-spec =
     tie.close
     (tie.spec
     add-lengths
-    matrix-fault-requires
+    pattern-fault-requires
     returns
     limit-fault-requires
     returns-2
