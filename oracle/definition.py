@@ -26,12 +26,13 @@ use mathlib.Core.Path.{_≡_, refl}
 use mathlib.Core.List.{List, [], _∷_, map}
 use Prim.Native.Nat.{ℕ}
 use lib.Ieee.{binary64, ofBits, add, sub, lt, le, eq, ne}
-use Rattle.hungarian.specs.Graph.{CostGraph, none}
+use Rattle.limits.specs.Limits.{none}
+use Rattle.hungarian.specs.Graph.{CostGraph, graphOf}
 use Rattle.hungarian.specs.Counts.{counts}
 use Rattle.hungarian.specs.Match.{Matching, hungarianMatch}
 
 abbrev graph : ℕ → List ℕ → List ℕ → List ℕ → CostGraph
-graph n colPtr rows costs = record { n = n; colPtr = colPtr; rowIdx = rows; cost = map (ofBits binary64) costs }
+graph n colPtr rows costs = graphOf n colPtr rows (map (ofBits binary64) costs)
 
 -- the original has five of the seven counts: the other two are the definition's own
 abbrev answer : Matching → List ℕ → List ℕ → List ℕ → ℕ → ℕ → ℕ → ℕ → ℕ → ℕ → Matching
@@ -159,7 +160,8 @@ def refused_by_checker(equations):
             os.makedirs(os.path.dirname(path), exist_ok=True)
             with open(path, "w", encoding="utf-8") as file:
                 file.write(text)
-        words = ["--extern", f"hungarian={built}/hungarian.rlib", "-L", f"dependency={built}"]
+        named = [word for name in ["limits", "hungarian"] for word in ["--extern", f"{name}={built}/{name}.rlib"]]
+        words = [*named, "-L", f"dependency={built}"]
         done = subprocess.run(["rt", "check", folder + "/graphs", *words], capture_output=True, text=True)
     said = done.stdout + done.stderr
     refused = re.findall(r"error: `(graph-\d+)`", said)
