@@ -5,7 +5,9 @@ use square_root::Root;
 ghost use mathlib.Core.Path.{_≡_};
 ghost use Prim.Native.Nat.{_+_, _^_, _≤_, _<_};
 ghost use lib.ListN.{length};
-ghost use lib.Ieee.{binary64, ofBits};
+ghost use lib.Dec.{T};
+ghost use lib.Ieee.{binary64, ofBits, isNan};
+ghost use mathlib.Core.Bool.{not};
 ghost use Prim.Native.Nat.{_*_, _/_, _%_};
 ghost use Rattle.square_root.specs.Root.{valueOf, sqrtOf};
 ghost use Rattle.root_blocks.specs.inner.Blocks.{BitsOf, underRoot, rootBits, RootDigits};
@@ -71,22 +73,23 @@ fn guess_inverses(bits: &[u64], inverses: &mut [f64])
     }
 }
 
-// The root of y from 1 / root: near first, then by what is left of y, in parts whose squares are exact.
+// The root of y from 1 / root: near first, then the upper half of its digits and what y has over their square, divided
+// by nearly twice the root. A little is taken off, since a root near 1 or 2 lies just below the middle of two doubles.
 fn candidate(y: f64, inverse: f64) -> f64 {
-    let half = inverse * 0.5;
     let rough = y * inverse;
-    let near = rough + rough * (0.5 - rough * half);
+    let near = rough + rough * (0.5 - rough * (inverse * 0.5));
     let upper = near + 134217728.0 - 134217728.0;
-    let lower = near - upper;
-    near + (y - upper * upper - (upper + upper) * lower - lower * lower) * half
+    upper + (y - upper * upper - 5e-22) / (upper + near)
 }
 
-// The bits of a candidate, of 2.0 if it is none.
-fn candidate_bits(c: f64) -> u64 {
-    if c < 2.0 {
-        return f64::to_bits(c);
-    }
-    0x4000_0000_0000_0000
+// The largest double below 2.0, which is above no root.
+const UNDER_TWO: f64 = 1.9999999999999998;
+
+// A candidate, or the largest root in place of one that is larger or no number.
+fn clipped(c: f64) -> f64
+    ensures { λ r. ⌜ T (not (isNan r)) ⌝ }
+{
+    if c < UNDER_TWO { c } else { UNDER_TWO }
 }
 
 // Candidates for the roots of a block.
@@ -95,7 +98,7 @@ fn guess_roots(bits: &[u64], inverses: &[f64], candidates: &mut [u64])
     requires { ⌜ (length (now inverses) ≡ 16) × (length (now candidates) ≡ 16) ⌝ }
 {
     for i in 0..BLOCK {
-        candidates[i] = candidate_bits(candidate(from_one_to_four(bits[i]), inverses[i]));
+        candidates[i] = f64::to_bits(clipped(candidate(from_one_to_four(bits[i]), inverses[i])));
     }
 }
 

@@ -34,8 +34,11 @@ shared-slice-read-candidate c = omega arith
 candidate-requires : tie.Need-candidate-requires Inv-loop μ-loop
 candidate-requires c κs = tt
 
-candidate-bits-requires : tie.Need-candidate-bits-requires Inv-loop μ-loop
-candidate-bits-requires c κs = tt
+clipped-requires : tie.Need-clipped-requires Inv-loop μ-loop
+clipped-requires c κs = tt
+
+float-to-bits-candidates : tie.Need-float-to-bits-candidates Inv-loop μ-loop
+float-to-bits-candidates c = c .clipped .ensures
 
 mul-candidates : tie.Need-mul-candidates Inv-loop μ-loop
 mul-candidates c = omega arith
@@ -71,7 +74,8 @@ guess-roots-spec =
     mul-candidate
     shared-slice-read-candidate
     candidate-requires
-    candidate-bits-requires
+    clipped-requires
+    float-to-bits-candidates
     mul-candidates
     slice-write-candidates
     add-i
