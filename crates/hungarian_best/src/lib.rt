@@ -19,7 +19,7 @@ pub struct Best {
 }
 
 // The entry of column j with the least cost minus u; of equal ones the later counts only if its row is free and that of
-// the kept one is not. Which entry is taken is unpredictable, so there is only one test.
+// the kept one is not, or if both are RINF. Which entry is equal is unpredictable, so there is only one test.
 pub fn best_of(
     n: usize,
     col_ptr: &[u32],
@@ -40,24 +40,27 @@ pub fn best_of(
     let start = col_ptr[j] as usize;
     let end = col_ptr[j + 1] as usize;
     let first = row_idx[start] as usize;
+    let least = cost[start] - u[first];
     let mut best = Best {
-        value: cost[start] - u[first],
+        value: least,
         row: first,
         place: start,
     };
     let mut kept_free = work[first] == NONE;
+    let mut at_limit = least == RINF;
     for k in start + 1..end {
         let row = row_idx[k] as usize;
         let value = cost[k] - u[row];
         let free = work[row] == NONE;
-        let stays = (value == best.value) & (value != RINF) & (!free | kept_free);
-        if !(value > best.value) & !stays {
+        let replaces = at_limit | (free & !kept_free);
+        if !(best.value <= value) | (!(best.value < value) & replaces) {
             best = Best {
                 value: value,
                 row: row,
                 place: k,
             };
             kept_free = free;
+            at_limit = value == RINF;
         }
     }
     best

@@ -11,10 +11,10 @@ use Rattle.hungarian_best.proofs.best_of.Statement.{statement}
 use Rattle.hungarian_best.proofs.best_of.Tie as tie
 
 abbrev Inv-loop : tie.InvT-loop
-Inv-loop n colPtr rows cost u work j start end first best₀ free₀ k₀ best free k = Choosing (graphOf n colPtr rows cost) u work j k best free
+Inv-loop n colPtr rows cost u work j start end first least best₀ free₀ limit₀ k₀ best free limit k = Choosing (graphOf n colPtr rows cost) u work j k best free limit
 
 abbrev μ-loop : tie.MeasureT-loop
-μ-loop n colPtr rows cost u work j start end first best₀ free₀ k₀ best free k = end - k
+μ-loop n colPtr rows cost u work j start end first least best₀ free₀ limit₀ k₀ best free limit k = end - k
 
 -- places of the proof, each from a later one
 abbrev entry-of-pointers : tie.After-shared-slice-known2 Inv-loop μ-loop → tie.Start Inv-loop μ-loop
@@ -72,17 +72,17 @@ shared-slice-read-first c = omega (arith, first-in (entry-of-pointers (c .before
 cast-first : tie.Need-cast-first Inv-loop μ-loop
 cast-first c = omega (arith, first-in (entry-of-pointers (c .before)))
 
-mul-t21 : tie.Need-mul-t21 Inv-loop μ-loop
-mul-t21 c = omega (arith, first-in (entry-of-pointers (c .before)))
+mul-least : tie.Need-mul-least Inv-loop μ-loop
+mul-least c = omega (arith, first-in (entry-of-pointers (c .before)))
 
-shared-slice-read-t25 : tie.Need-shared-slice-read-t25 Inv-loop μ-loop
-shared-slice-read-t25 c = omega (arith, first-in (entry-of-pointers (c .before .before)))
+shared-slice-read-least : tie.Need-shared-slice-read-least Inv-loop μ-loop
+shared-slice-read-least c = omega (arith, first-in (entry-of-pointers (c .before .before)))
 
-mul-t18 : tie.Need-mul-t18 Inv-loop μ-loop
-mul-t18 c = omega (arith, first-in (entry-of-pointers (c .before .before)))
+mul-least-2 : tie.Need-mul-least-2 Inv-loop μ-loop
+mul-least-2 c = omega (arith, first-in (entry-of-pointers (c .before .before)))
 
-shared-slice-read-t27 : tie.Need-shared-slice-read-t27 Inv-loop μ-loop
-shared-slice-read-t27 c = omega (arith, first-in (entry-of-pointers (c .before .before .before)))
+shared-slice-read-least-2 : tie.Need-shared-slice-read-least-2 Inv-loop μ-loop
+shared-slice-read-least-2 c = omega (arith, first-in (entry-of-pointers (c .before .before .before)))
 
 mul-kept-free : tie.Need-mul-kept-free Inv-loop μ-loop
 mul-kept-free c = omega (arith, first-in (entry-of-pointers (c .before .before .before)))
@@ -133,8 +133,8 @@ loop-again : tie.Need-loop-again Inv-loop μ-loop
 loop-again c =
     let turn = turn-of-end c in
     let pre = entry-of-loop (turn .before) .pre in
-    ⊎-elim (λ t. rw (t .1, t .2) (choosing-moves (pre .0 .sound) (pre .1 .0) (turn .before .loop .inv) (turn .loop-test .taken) (t .0 .taken)))
-    (λ t. rw (t .1, t .2) (choosing-stays (pre .0 .sound) (pre .1 .0) (turn .before .loop .inv) (turn .loop-test .taken) (t .0 .left)))
+    ⊎-elim (λ t. rw (t .1, t .2, t .3) (choosing-moves (pre .0 .sound) (pre .1 .0) (turn .before .loop .inv) (turn .loop-test .taken) (t .0 .taken)))
+    (λ t. rw (t .1, t .2, t .3) (choosing-stays (pre .0 .sound) (pre .1 .0) (turn .before .loop .inv) (turn .loop-test .taken) (t .0 .left)))
     (c .if1 .came)
 
 returns : tie.Need-returns Inv-loop μ-loop
@@ -158,10 +158,10 @@ best-of-spec =
     mul-first
     shared-slice-read-first
     cast-first
-    mul-t21
-    shared-slice-read-t25
-    mul-t18
-    shared-slice-read-t27
+    mul-least
+    shared-slice-read-least
+    mul-least-2
+    shared-slice-read-least-2
     mul-kept-free
     shared-slice-read-kept-free
     add-k
