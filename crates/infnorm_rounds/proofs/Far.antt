@@ -1,21 +1,22 @@
 -- The largest deviation is below the tolerance exactly if no row is far. The larger of two doubles is below a third one exactly if both are: by their
--- positions, and a NaN by computing. Then by induction over the rows.
+-- positions, and a NaN by computing. Then by induction over the rows. A size may have a zero of either sign: both are at one position.
 use mathlib.Core.Path.{_≡_, refl, sym, ap, _∙_}
-use mathlib.Core.Bool.{Bool, true, false, not, cond, _&&_, _||_, and-true, and-false, or-false, or-assoc}
+use mathlib.Core.Bool.{Bool, true, false, not, cond, _&&_, _||_, and-true, and-false, or-false, or-assoc, false≢true}
 use mathlib.Core.List.{List, [], _∷_}
 use Prim.Native.Nat.{ℕ, suc, _+_, _≤_, _<_}
 use native.Mathlib.Numerals.{add-one}
 use native.Mathlib.Omega.{arith}
-use borrow.Author.Tests.{lt-ltb, le-leb, lt-leb, ltb-true, ltb-false}
+use borrow.Author.Tests.{lt-ltb, le-leb, lt-leb, ltb-true, ltb-false, eqb-true}
 use lib.Dec.{T, leb, ltb}
-use lib.Ieee.{Float, nan, inf, fin, binary64, lt, le, eq, fits, isNan, ofBits}
-use lib.Ieee.Fits.{cond-fits, sub-fits}
+use lib.Ieee.{Float, nan, inf, fin, binary64, lt, le, eq, neg, sub, fits, isNan, ofBits}
+use lib.Ieee.Fits.{cond-fits, neg-fits, sub-fits}
 use lib.ListN.{length, getD, drop, drop-of-length-le}
 use lib.Seq.{drop-cons}
 use Rattle.float64.specs.Constants as Constants
-use Rattle.float64.specs.Functions.{absolute}
+use Rattle.float64.specs.Functions.{absolute, sizeOf}
 use Rattle.float64.specs.inner.Keys.{Ordered, position}
-use Rattle.float64.proofs.Order.{lt-key, le-key}
+use Rattle.float64.proofs.Order.{lt-key, eq-key, le-key}
+use Rattle.float64.proofs.Functions.{size-zero, size-other}
 use Rattle.infnorm_factors.specs.Maxima.{larger}
 use Rattle.infnorm_factors.specs.Factors.{deviation, deviating, deviatingAll}
 
@@ -79,6 +80,10 @@ tolerance-ordered : Ordered Constants.infnormTol
 unfolding ofBits fits isNan
 tolerance-ordered = record { double = tt; notNan = tt }
 
+zero-ordered : Ordered Constants.zero
+unfolding ofBits fits isNan
+zero-ordered = record { double = tt; notNan = tt }
+
 -- a row whose maximum is above 0 and as far from 1 as the tolerance
 abbrev pub far : Float → Bool
 far m = lt Constants.zero m && le Constants.infnormTol (deviation m)
@@ -92,6 +97,38 @@ row-below largest m f = go (lt Constants.zero m)
         ≡ (lt largest Constants.infnormTol && not (b && le Constants.infnormTol (deviation m)))
     go true = larger-below tolerance-ordered largest (deviation m) f (deviation-fits m)
     go false = sym (and-true (lt largest Constants.infnormTol))
+
+-- ---- the size by `size_of` is as far as the deviation, whatever the sign of a zero
+zero-number : (x : Float) → eq x Constants.zero ≡ true → T (not (isNan x))
+unfolding eq isNan
+zero-number nan h = absurd (false≢true h)
+zero-number (inf s) h = tt
+zero-number (fin s m e) h = tt
+
+size-fits : (x : Float) → T (fits binary64 x) → T (fits binary64 (sizeOf x))
+unfolding sizeOf
+size-fits x f = cond-fits binary64 (lt x Constants.zero) (neg x) x (neg-fits binary64 x f) f
+
+as-zero : (x : Float) → T (fits binary64 x) → eq x Constants.zero ≡ true → le Constants.infnormTol x ≡ le Constants.infnormTol Constants.zero
+as-zero x f e = le-key Constants.infnormTol x tolerance-ordered X ∙ ap (leb (position Constants.infnormTol)) same
+    ∙ sym (le-key Constants.infnormTol Constants.zero tolerance-ordered zero-ordered)
+  where
+    X : Ordered x
+    X = record { double = f; notNan = zero-number x e }
+
+    same : position x ≡ position Constants.zero
+    same = eqb-true (position x) (position Constants.zero) (sym (eq-key x Constants.zero X zero-ordered) ∙ e)
+
+pub size-as-far : (m : Float) → le Constants.infnormTol (sizeOf (sub binary64 m Constants.one)) ≡ le Constants.infnormTol (deviation m)
+size-as-far m = go (eq (sizeOf x) Constants.zero) refl
+  where
+    x : Float
+    x = sub binary64 m Constants.one
+
+    go : (b : Bool) → eq (sizeOf x) Constants.zero ≡ b → le Constants.infnormTol (sizeOf x) ≡ le Constants.infnormTol (absolute x)
+    go true e = as-zero (sizeOf x) (size-fits x (sub-fits binary64 m Constants.one)) e
+        ∙ ap (le Constants.infnormTol) (size-zero x (sub-fits binary64 m Constants.one) e)
+    go false e = ap (le Constants.infnormTol) (size-other x e)
 
 -- ---- all rows
 unfoldable pub anyFar : List Float → Bool
@@ -112,16 +149,12 @@ rows-below largest (m ∷ maxima) f =
     ∙ ap (λ (b : Bool). b && not (anyFar maxima)) (row-below largest m f)
     ∙ neither-nor (lt largest Constants.infnormTol) (far m) (anyFar maxima)
 
-zero-fits : T (fits binary64 Constants.zero)
-unfolding ofBits fits
-zero-fits = tt
-
 zero-below : lt Constants.zero Constants.infnormTol ≡ true
 unfolding ofBits lt
 zero-below = refl
 
 pub none-far : (maxima : List Float) → lt (deviatingAll Constants.zero maxima) Constants.infnormTol ≡ not (anyFar maxima)
-none-far maxima = rows-below Constants.zero maxima zero-fits ∙ ap (λ (b : Bool). b && not (anyFar maxima)) zero-below
+none-far maxima = rows-below Constants.zero maxima (zero-ordered .double) ∙ ap (λ (b : Bool). b && not (anyFar maxima)) zero-below
 
 -- ---- a loop over the rows: one was far, or one of those from row i on is
 module _ {whole : Bool} (before : Bool) (maxima : List Float) (i : ℕ) (e : whole ≡ (before || anyFar (drop i maxima))) where

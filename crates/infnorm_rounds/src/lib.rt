@@ -39,11 +39,11 @@ fn update_rest(factors: &mut [f64], work: &[f64], from: usize)
     }
 }
 
-// Whether a row's maximum is above 0 and as far from 1 as the tolerance.
+// Whether a row's maximum is above 0 and as far from 1 as the tolerance. The sign of a zero makes no difference here.
 fn is_far(m: f64) -> bool
     ensures { λ r. ⌜ r ≡ (lt Constants.zero m && le Constants.infnormTol (Factors.deviation m)) ⌝ }
 {
-    (m > 0.0) & (float64::abs(m - 1.0) >= INFNORM_TOL)
+    (m > 0.0) & (float64::size_of(m - 1.0) >= INFNORM_TOL)
 }
 
 // Whether a row is far. The loop has no early exit, so that it can test several at a time.
