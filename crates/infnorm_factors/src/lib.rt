@@ -47,13 +47,3 @@ pub fn inv_sqrt_scale_guarded(m: f64, root: f64) -> f64
     let new = guarded(1.0 / root, 1.0);
     if m > 0.0 { new } else { 1.0 }
 }
-
-// The largest deviation from 1, with one more row.
-pub fn deviating(largest: f64, m: f64) -> f64
-    ensures { λ r. ⌜ r ≡ Factors.deviating largest m ⌝ }
-{
-    if m > 0.0 {
-        return larger(largest, float64::abs(m - 1.0));
-    }
-    largest
-}

@@ -1,2 +1,3 @@
 -- Why the rounds meet their contracts.
+pub mod Far
 pub mod Rounds

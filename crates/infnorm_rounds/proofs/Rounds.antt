@@ -1,17 +1,15 @@
 -- One round and the rounds: what a loop over the rows leaves is the definition's list, and the rounds from here on are all rounds.
 use mathlib.Core.Path.{_≡_, refl, sym, ap, _∙_, subst}
-use mathlib.Core.Bool.{true, false, cond}
+use mathlib.Core.Bool.{Bool, true, false, cond}
 use mathlib.Core.List.{List, [], _∷_}
 use Prim.Native.Nat.{ℕ, zero, suc, _+_, _-_, _≤_, _<_}
 use native.Mathlib.Nat.{not-suc-le-zero}
-use native.Mathlib.Numerals.{add-one}
 use native.Mathlib.Omega.{arith}
 use lib.Ieee.{Float, nan, lt}
-use lib.ListN.{length, getD, set, drop, drop-of-length-le}
-use lib.Seq.{drop-cons}
+use lib.ListN.{length, getD, set}
 use Rattle.float64.specs.Constants as Constants
 use Rattle.sparse.specs.Matrix.{Matrix}
-use Rattle.infnorm_factors.specs.Factors.{Round, roundIs, roundFrom, newFactor, deviating, deviatingAll, zipped, rounds}
+use Rattle.infnorm_factors.specs.Factors.{Round, roundFrom, newFactor, zipped, rounds}
 use Rattle.slices.specs.inner.Steps.{Front}
 use Rattle.slices.proofs.Fronts.{front-reads, front-next}
 use Rattle.infnorm_rounds.specs.inner.Blocks.{Updated}
@@ -30,16 +28,6 @@ getD-zipped f [] r i e h = absurd (not-suc-le-zero h)
 getD-zipped f (x ∷ l) [] i e h = let z : ⊥ = omega arith in absurd z
 getD-zipped f (x ∷ l) (y ∷ r) zero e h = refl
 getD-zipped f (x ∷ l) (y ∷ r) (suc i) e h = getD-zipped f l r i (omega arith) (omega arith)
-
--- ---- the largest deviation
-module _ {whole : Float} (largest : Float) (maxima : List Float) (i : ℕ) (e : whole ≡ deviatingAll largest (drop i maxima)) where
-  pub deviation-next : {more : Float} → i < length maxima → more ≡ deviating largest (getD maxima i nan) → whole ≡ deviatingAll more (drop (i + 1) maxima)
-  unfolding deviatingAll
-  deviation-next h m = e ∙ ap (deviatingAll largest) (drop-cons maxima i nan h) ∙ rw (m, add-one i) refl
-
-  pub deviation-end : length maxima ≤ i → largest ≡ whole
-  unfolding deviatingAll
-  deviation-end h = sym (e ∙ ap (deviatingAll largest) (drop-of-length-le maxima h))
 
 -- ---- one row more
 pub updated-next : {work f g : List Float} {x : Float} {from i : ℕ} → Updated work f from g i → length g ≡ length work → i < length work
@@ -73,15 +61,16 @@ module _ (m : Matrix) where
   no-more i d e = rw e refl
 
   module _ {whole : List Float} (most done : ℕ) (d : List Float) (e : whole ≡ rounds (most - done) m d) where
-    module _ {after : List Float} {largest : Float} (h : done < most) (r : roundIs after largest ≡ roundFrom m d) where
-      here : whole ≡ followed (most - (done + 1)) (roundIs after largest)
-      here = e ∙ one-more (most - done) (most - (done + 1)) d (omega arith) ∙ ap (followed (most - (done + 1))) (sym r)
+    module _ {after : List Float} {near : Bool} (h : done < most) (f : after ≡ roundFrom m d .factors)
+        (t : lt (roundFrom m d .largest) Constants.infnormTol ≡ near) where
+      here : whole ≡ cond near after (rounds (most - (done + 1)) m after)
+      here = e ∙ one-more (most - done) (most - (done + 1)) d (omega arith) ∙ rw (f, t) refl
 
-      pub round-last : lt largest Constants.infnormTol ≡ true → after ≡ whole
-      round-last t = sym (here ∙ rw t refl)
+      pub round-last : near ≡ true → after ≡ whole
+      round-last l = sym (here ∙ rw l refl)
 
-      pub round-next : lt largest Constants.infnormTol ≡ false → whole ≡ rounds (most - (done + 1)) m after
-      round-next t = here ∙ rw t refl
+      pub round-next : near ≡ false → whole ≡ rounds (most - (done + 1)) m after
+      round-next l = here ∙ rw l refl
 
     pub rounds-end : most ≤ done → d ≡ whole
     rounds-end h = sym (e ∙ no-more (most - done) d (omega arith))

@@ -1,6 +1,8 @@
 // The rounds of the iterated inf-norm factors.
 ghost use mathlib.Core.Path.{_≡_};
+ghost use mathlib.Core.Bool.{not, _&&_};
 ghost use Prim.Native.Nat.{_+_, _≤_};
+ghost use lib.Ieee.{lt, le};
 ghost use lib.ListN.{length};
 ghost use Rattle.root_blocks.specs.inner.Blocks.{Roots};
 ghost use Rattle.sparse.specs.Matrix.{matrix};
@@ -37,23 +39,30 @@ fn update_rest(factors: &mut [f64], work: &[f64], from: usize)
     }
 }
 
-// The largest deviation of the maxima from 1.
-fn largest_deviation(work: &[f64]) -> f64
-    ensures { λ r. ⌜ r ≡ Factors.deviatingAll Constants.zero (now (work .entry)) ⌝ }
+// Whether a row's maximum is above 0 and as far from 1 as the tolerance. The sign of a zero makes no difference here.
+fn is_far(m: f64) -> bool
+    ensures { λ r. ⌜ r ≡ (lt Constants.zero m && le Constants.infnormTol (Factors.deviation m)) ⌝ }
 {
-    let mut largest = 0.0;
-    for i in 0..work.len() {
-        largest = infnorm_factors::deviating(largest, work[i]);
-    }
-    largest
+    (m > 0.0) & (float64::size_of(m - 1.0) >= INFNORM_TOL)
 }
 
-// New factors from the maxima; their largest deviation from 1.
-fn update_factors(factors: &mut [f64], work: &[f64]) -> f64
+// Whether a row is far. The loop has no early exit, so that it can test several at a time.
+fn one_is_far(work: &[f64]) -> bool
+    ensures { λ r. ⌜ lt (Factors.deviatingAll Constants.zero (now (work .entry))) Constants.infnormTol ≡ not r ⌝ }
+{
+    let mut far = false;
+    for i in 0..work.len() {
+        far = far | is_far(work[i]);
+    }
+    far
+}
+
+// New factors from the maxima; whether a row was far.
+fn update_factors(factors: &mut [f64], work: &[f64]) -> bool
     requires { ⌜ length (now factors) ≡ length (now work) ⌝ }
     ensures { λ r.
-        ⌜ Factors.roundIs (now (factors .exit)) r
-        ≡ Factors.roundWith (now (factors .entry)) (now (work .entry)) ⌝ }
+        let round = Factors.roundWith (now (factors .entry)) (now (work .entry)) in
+        ⌜ (now (factors .exit) ≡ round .factors) × (lt (round .largest) Constants.infnormTol ≡ not r) ⌝ }
 {
     let mut roots = [0.0; root_blocks::BLOCK];
     let mut from = 0;
@@ -63,10 +72,10 @@ fn update_factors(factors: &mut [f64], work: &[f64]) -> f64
         from += root_blocks::BLOCK;
     }
     update_rest(factors, work, from);
-    largest_deviation(work)
+    one_is_far(work)
 }
 
-// One round: its largest deviation.
+// One round; whether a row was far.
 fn one_round(
     n: usize,
     col_ptr: &[u32],
@@ -74,19 +83,19 @@ fn one_round(
     values: &[f64],
     factors: &mut [f64],
     work: &mut [f64],
-) -> f64
+) -> bool
     requires { ⌜ Accepted (matrix n (now «col_ptr») (now «row_idx») (now values)) ⌝ }
     requires { ⌜ (length (now factors) ≡ n) × (length (now work) ≡ n) ⌝ }
     ensures { λ r.
-        ⌜ Factors.roundIs (now (factors .exit)) r
-        ≡ Factors.roundFrom (matrix n (now («col_ptr» .entry)) (now («row_idx» .entry)) (now (values .entry)))
-        (now (factors .entry)) ⌝ }
+        let m = matrix n (now («col_ptr» .entry)) (now («row_idx» .entry)) (now (values .entry)) in
+        let round = Factors.roundFrom m (now (factors .entry)) in
+        ⌜ (now (factors .exit) ≡ round .factors) × (lt (round .largest) Constants.infnormTol ≡ not r) ⌝ }
 {
     infnorm_maxima::row_maxima(n, col_ptr, row_idx, values, factors, work);
     update_factors(factors, work)
 }
 
-// Rounds until one whose largest deviation is small.
+// Rounds until one without a row that was far.
 pub fn iterate(
     n: usize,
     col_ptr: &[u32],
@@ -104,8 +113,8 @@ pub fn iterate(
 {
     let mut done = 0;
     while done < INFNORM_MAX_ITER {
-        let largest = one_round(n, col_ptr, row_idx, values, factors, work);
-        if largest < INFNORM_TOL {
+        let far = one_round(n, col_ptr, row_idx, values, factors, work);
+        if !far {
             return;
         }
         done += 1;

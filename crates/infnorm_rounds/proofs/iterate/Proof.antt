@@ -75,7 +75,7 @@ returns c =
     let loop = loop-of-then1 c in
     round-last (matrix (args .n) (args .col-ptr .now) (args .row-idx .now) (args .values .now)) 10 (loop .loop .done) (loop .loop .factors)
     (loop .loop .inv .3) (one-round-arg2-of-then1 c .before .before .loop-test .taken)
-    (one-round-of-then1 c .one-round .ensures) (c .if1 .taken)
+    (one-round-of-then1 c .one-round .ensures .0) (one-round-of-then1 c .one-round .ensures .1) (c .if1 .taken)
 
 add-done : tie.Need-add-done Inv-loop μ-loop
 add-done c = omega (arith, in-loop-of-else1 c .loop-test .taken)
@@ -94,7 +94,7 @@ loop-again c =
       one-round-of-else1 c .one-round .kept .1 .1 .1 .1 .1 .0 ∙ loop .loop .inv .2,
       round-next (matrix (args .n) (args .col-ptr .now) (args .row-idx .now) (args .values .now)) 10 (loop .loop .done)
           (loop .loop .factors) (loop .loop .inv .3) (In-loop .loop-test .taken)
-          (one-round-of-else1 c .one-round .ensures) (c .if1 .left),
+          (one-round-of-else1 c .one-round .ensures .0) (one-round-of-else1 c .one-round .ensures .1) (c .if1 .left),
     )
 
 same-length-3 : tie.Need-same-length-3 Inv-loop μ-loop

@@ -36,8 +36,8 @@ same-length-2 c = row-maxima-of-slice-known4 c .row-maxima .kept .1 .1 .1 .1 .1 
 
 returns : tie.Need-returns
 returns c =
-    c .before .before .update-factors .ensures
-    ∙ ap (roundWith (entry-of-slice-known4 c .args .factors .now)) (row-maxima-of-slice-known4 c .row-maxima .ensures)
+    let maxima = row-maxima-of-slice-known4 c .row-maxima .ensures in
+    rw maxima at (c .before .before .update-factors .ensures)
 
 pub one-round-spec : {M : Type 1} → statement M
 one-round-spec =

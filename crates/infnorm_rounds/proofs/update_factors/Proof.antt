@@ -1,9 +1,9 @@
 -- `update_factors` meets its contract. The loop's invariant: the rows below `from` have their factors.
-use mathlib.Core.Path.{_≡_, refl, sym, ap₂, _∙_}
+use mathlib.Core.Path.{_≡_, refl, sym, _∙_}
 use Prim.Native.Nat.{_-_, _≤_}
 use native.Mathlib.Omega.{arith}
 use lib.ListN.{length}
-use Rattle.infnorm_factors.specs.Factors.{newFactor, zipped, roundIs}
+use Rattle.infnorm_factors.specs.Factors.{newFactor, zipped}
 use Rattle.slices.specs.inner.Steps.{Front}
 use Rattle.slices.proofs.Fronts.{front-start, front-end}
 use Rattle.infnorm_rounds.proofs.Rounds.{length-zipped}
@@ -81,8 +81,8 @@ update-rest-requires c κs =
     let loop = c .before .before .loop in
     (loop .inv .3 .same ∙ loop .inv .1, loop .inv .0)
 
-largest-deviation-requires : tie.Need-largest-deviation-requires Inv-loop μ-loop
-largest-deviation-requires c κs = tt
+one-is-far-requires : tie.Need-one-is-far-requires Inv-loop μ-loop
+one-is-far-requires c κs = tt
 
 same-length : tie.Need-same-length Inv-loop μ-loop
 same-length c =
@@ -93,7 +93,7 @@ returns : tie.Need-returns Inv-loop μ-loop
 returns c =
     let rest = c .before .before .before in
     let loop = loop-of-update-rest rest .loop in
-    ap₂ roundIs (front-end (rest .update-rest .ensures .come _ (loop .inv .3)) (omega arith)) (c .largest-deviation .ensures)
+    (front-end (rest .update-rest .ensures .come _ (loop .inv .3)) (omega arith), c .one-is-far .ensures)
 
 pub update-factors-spec : {M : Type 1} → statement M
 update-factors-spec =
@@ -111,6 +111,6 @@ update-factors-spec =
     loop-less
     loop-again
     update-rest-requires
-    largest-deviation-requires
+    one-is-far-requires
     same-length
     returns)
