@@ -472,6 +472,7 @@ that it unfolds to. This page lists them: for each call of the C interface and f
 that its `ensures` names, and every one that these name, down to the prover's own libraries (`lib`, `mathlib`,
 `native`, `Prim`), which are not counted. Names are resolved by the imports of each file, and a word that nothing
 explains is an error. Enums and structs of the code that definitions speak of are counted too.
+`docs/trusted.py --call NAME` lists those of one call.
 
 A line is one of a declaration: comments, blank lines and imports are left out. What need not be read to know what is
 promised: the code itself, all of `proofs/`, and `specs/inner/`, which has invariants and what inner functions ask and
@@ -508,8 +509,8 @@ def page(house):
     yield wrapped(
         f"Together the calls below reach {len(union)} definitions of {lines(union)} lines, and with the native calls of "
         f"GUARANTEES.md's table {len(union | native)} of {lines(union | native)}. All of `specs/` has {len(every)} "
-        f"definitions of {lines(every)} lines: {lines(inner)} of them are in `specs/inner/`, {lines(beside)} are reached "
-        "by no call and stand in no `inner/`; these are listed last.\n")
+        f"definitions of {lines(every)} lines. Of these lines {lines(inner)} are in `specs/inner/`, and {lines(beside)} others "
+        "are reached by no call; the latter are listed last.\n")
     yield "| call | definitions | lines | files |\n|---|---|---|---|"
     for name, found in [*calls, ("all of these", union)]:
         yield f"| `{name}` | {len(found)} | {lines(found)} | {len({each.file for each in found})} |"
