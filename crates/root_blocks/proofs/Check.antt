@@ -6,12 +6,18 @@ use Prim.Native.Nat.{ℕ, zero, suc, _+_, _-_, _*_, _/_, _%_, _^_, _≤_, _<_}
 use native.Mathlib.Nat.{mul-le-mul, mul-mul-mul-comm, mul-right-comm, le-of-lt}
 use native.Mathlib.Omega.{arith}
 use lib.Dec.{T, leb, leb→le, nleb→lt}
-use lib.Ieee.{binary64, ofBits}
+use lib.IntN.{ℤ}
+use lib.Ieee.{Float, nan, inf, fin, binary64, size, isNan, ofBits, toBits}
+use lib.Ieee.Bits.{nanBits-is, toBits-ofBits}
+use Rattle.float64.proofs.Scale.{mag-of-value}
+use Rattle.float64.proofs.Bits.{bits-are, pattern, no-nan}
 use Rattle.float64.proofs.Normalised.{normal-scaling}
+use Rattle.square_root.specs.Root.{square, rootOf, sqrtOf, valueOf}
+use Rattle.square_root.specs.declared.Root.the-variants.{Is}
 use Rattle.square_root.specs.inner.Steps.{WholeRoot}
 use Rattle.square_root.proofs.Whole.{expanded, next-square}
 use Rattle.square_root.proofs.Frame.{root-bits, scaled-square}
-use Rattle.root_blocks.specs.inner.Blocks.{underRoot, rootBits, NormalRoot}
+use Rattle.root_blocks.specs.inner.Blocks.{underRoot, rootBits, rootBy}
 
 -- ---- the number under the root
 
@@ -74,6 +80,27 @@ module _ {n a b over t d left : ℕ} (s : Differences n a b over t d left) (a-sm
   left-over : d ≤ 4 * (a * 2 ^ 27 + b) + 3
   left-over = omega (arith, s .left-is, s .d-small, s .left-small)
 
+-- ---- the answer for a pattern of bits between those of zero and infinity
+
+zero-bits : (e : ℤ) → toBits binary64 (fin false zero e) ≡ 0
+unfolding size
+zero-bits e = bits-are (fin false zero e) tt ∙ ap (pattern false) (mag-of-value (fin false zero e) false 0 (refl, omega arith))
+
+answer : (z : Float) → T (not (isNan z)) → 0 < toBits binary64 z → toBits binary64 z < 2047 * 2 ^ 52 → sqrtOf z ≡ Is (rootOf (square z))
+unfolding sqrtOf isNan
+answer nan n l h = absurd n
+answer (inf true) n l h = absurd (let k : 2 ^ 63 + 2047 * 2 ^ 52 < 2047 * 2 ^ 52 = unfold toBits in h in omega arith)
+answer (inf false) n l h = absurd (let k : 2047 * 2 ^ 52 < 2047 * 2 ^ 52 = unfold toBits in h in omega arith)
+answer (fin true m e) n l h = absurd (let k = bits-are (fin true m e) tt in omega arith)
+answer (fin false zero e) n l h = absurd (let k = zero-bits e in omega arith)
+answer (fin false (suc m) e) n l h = refl
+
+answer-of : (b : ℕ) → 0 < b → b < 2047 * 2 ^ 52 → sqrtOf (ofBits binary64 b) ≡ Is (rootOf (square (ofBits binary64 b)))
+answer-of b l h =
+    let n = subst (λ (t : Bool). T (not t)) (nanBits-is binary64 b) (no-nan b h) in
+    let e = toBits-ofBits binary64 b (omega arith) n in
+    answer (ofBits binary64 b) n (omega arith) (omega arith)
+
 -- ---- the check
 
 -- the products that the code makes
@@ -90,13 +117,10 @@ products p h =
 
 pub checked : (bits p : ℕ) {n a b over t d left : ℕ} → n ≡ underRoot bits → 2 ^ 52 ≤ bits → bits < 2047 * 2 ^ 52
     → a * 2 ^ 27 + b + 1 ≡ 2 * p → a < 2 ^ 27 → b < 2 ^ 27 → Differences n a b over t d left
-    → NormalRoot bits (ofBits binary64 (rootBits bits p))
+    → ofBits binary64 (rootBits bits p) ≡ rootBy bits
 checked bits p {n} {a} {b} {over} {t} {d} {left} e lo hi q ha hb s =
     let w = between (n * 2 ^ 54) p (a * 2 ^ 27 + b) d q (balance s ha hb) (left-over s ha hb) in
     let v : WholeRoot (underRoot bits * 2 ^ 54) (w .q) = subst (λ (k : ℕ). WholeRoot (k * 2 ^ 54) (w .q)) e (w .whole) in
     let x : (bits / 2 ^ 52 + 1073 - 52) / 2 * 2 ^ 52 + (w .q + 1) / 2 ≡ rootBits bits p = omega (arith, w .half) in
-    record {
-      least = lo;
-      most = hi;
-      root = sym (root-bits (scaled-square (ofBits binary64 bits) (normal-scaling bits lo hi)) v ∙ ap (ofBits binary64) x);
-    }
+    sym (root-bits (scaled-square (ofBits binary64 bits) (normal-scaling bits lo hi)) v ∙ ap (ofBits binary64) x)
+    ∙ sym (ap valueOf (answer-of bits (omega arith) hi))

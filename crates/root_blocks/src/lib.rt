@@ -6,17 +6,20 @@ ghost use mathlib.Core.Path.{_≡_};
 ghost use Prim.Native.Nat.{_+_, _^_, _≤_, _<_};
 ghost use lib.ListN.{length};
 ghost use lib.Dec.{T};
-ghost use lib.Ieee.{binary64, ofBits, isNan};
+ghost use lib.Ieee.{binary64, ofBits, nanBits, isNan};
 ghost use mathlib.Core.Bool.{not};
 ghost use Prim.Native.Nat.{_*_, _/_, _%_};
 ghost use Rattle.square_root.specs.Root.{valueOf, sqrtOf};
-ghost use Rattle.root_blocks.specs.inner.Blocks.{BitsOf, underRoot, rootBits, RootDigits};
-ghost use Rattle.root_blocks.specs.inner.Blocks.{Taken, Checked, Roots};
+ghost use Rattle.root_blocks.specs.inner.Blocks.{BitsOf, underRoot, rootBits, rootBy, RootDigits};
+ghost use Rattle.root_blocks.specs.inner.Blocks.{Taken, NoNans, RootsBy, Roots};
 
 pub const BLOCK: usize = 16;
 
 // The distance of two numbers with the same digits and exponents that differ by one.
 const ONE_UP: u64 = 0x10_0000_0000_0000;
+
+// The bits of 1.0.
+const ONE: u64 = 0x3ff0_0000_0000_0000;
 
 // The bits of a number above zero; of any other those of 1.0, whose root is never asked for.
 fn bits_above_zero(x: f64) -> u64
@@ -25,7 +28,7 @@ fn bits_above_zero(x: f64) -> u64
     if x > 0.0 {
         return f64::to_bits(x);
     }
-    0x3ff0_0000_0000_0000
+    ONE
 }
 
 // The bits of a block of numbers.
@@ -48,12 +51,12 @@ fn above_one(bits: u64) -> u64
 
 // The double from 1 to 4 whose root has the same digits.
 fn from_one_to_four(bits: u64) -> f64 {
-    f64::from_bits(0x3ff0_0000_0000_0000 + above_one(bits))
+    f64::from_bits(ONE + above_one(bits))
 }
 
 // A first guess at 1 / root.
 fn first_inverse(bits: u64) -> f64 {
-    f64::from_bits(0x5fe6_eb50_c7b5_37a9 - (0x3ff0_0000_0000_0000 + above_one(bits)) / 2)
+    f64::from_bits(0x5fe6_eb50_c7b5_37a9 - (ONE + above_one(bits)) / 2)
 }
 
 // Near 1 / root, by two of Newton's steps, each with constants that halve its largest error.
@@ -161,7 +164,7 @@ fn root_with(bits: u64, p: u64) -> f64
 fn check_roots(bits: &[u64], candidates: &[u64], roots: &mut [f64]) -> u64
     requires { ⌜ length (now bits) ≡ 16 ⌝ }
     requires { ⌜ (length (now candidates) ≡ 16) × (length (now roots) ≡ 16) ⌝ }
-    ensures { λ r. ⌜ (r ≡ 0 → Checked (now (bits .entry)) (now (roots .exit)) 16) ⌝ }
+    ensures { λ r. ⌜ (r ≡ 0 → RootsBy (now (bits .entry)) (now (roots .exit)) 16) ⌝ }
 {
     let mut bad = 0;
     for i in 0..BLOCK {
@@ -184,20 +187,18 @@ fn off_line(bits: &[u64]) -> u64
 }
 
 // The roots of a block, if the answer is 0.
-fn try_block(numbers: &[f64], from: usize, roots: &mut [f64]) -> u64
-    requires { ⌜ (from + 16 ≤ length (now numbers)) × (length (now roots) ≡ 16) ⌝ }
-    ensures { λ r. ⌜ (r ≡ 0 → Roots (now (numbers .entry)) from (now (roots .exit)) 16) ⌝ }
+fn try_block(bits: &[u64], roots: &mut [f64]) -> u64
+    requires { ⌜ (length (now bits) ≡ 16) × (length (now roots) ≡ 16) ⌝ }
+    ensures { λ r. ⌜ (r ≡ 0 → RootsBy (now (bits .entry)) (now (roots .exit)) 16) ⌝ }
 {
-    let mut bits = [0u64; BLOCK];
-    let mut inverses = [0.0; BLOCK];
-    let mut candidates = [0u64; BLOCK];
-    take_bits(numbers, from, &mut bits);
-    if off_line(&bits) == 0 {
+    if off_line(bits) == 0 {
         return 1;
     }
-    guess_inverses(&bits, &mut inverses);
-    guess_roots(&bits, &inverses, &mut candidates);
-    check_roots(&bits, &candidates, roots)
+    let mut inverses = [0.0; BLOCK];
+    let mut candidates = [0u64; BLOCK];
+    guess_inverses(bits, &mut inverses);
+    guess_roots(bits, &inverses, &mut candidates);
+    check_roots(bits, &candidates, roots)
 }
 
 // The root of a number; a NaN where there is none.
@@ -210,13 +211,29 @@ pub fn root(x: f64) -> f64
     }
 }
 
-// The roots of a block, one after the other.
-fn one_by_one(numbers: &[f64], from: usize, roots: &mut [f64])
-    requires { ⌜ (from + 16 ≤ length (now numbers)) × (length (now roots) ≡ 16) ⌝ }
-    ensures { λ _. ⌜ Roots (now (numbers .entry)) from (now (roots .exit)) 16 ⌝ }
+// The root of the number with these bits: `y`, the root of the number before, if that one has the same bits.
+fn next_root(bits: u64, last: u64, y: f64) -> f64
+    requires { ⌜ T (not (nanBits binary64 bits)) × (y ≡ rootBy last) ⌝ }
+    ensures { λ r. ⌜ r ≡ rootBy bits ⌝ }
 {
+    if bits == last {
+        y
+    } else {
+        root(f64::from_bits(bits))
+    }
+}
+
+// The roots of a block, one after the other.
+fn one_by_one(bits: &[u64], roots: &mut [f64])
+    requires { ⌜ (length (now bits) ≡ 16) × (length (now roots) ≡ 16) × NoNans (now bits) ⌝ }
+    ensures { λ _. ⌜ RootsBy (now (bits .entry)) (now (roots .exit)) 16 ⌝ }
+{
+    let mut last = ONE;
+    let mut y = 1.0;
     for i in 0..BLOCK {
-        roots[i] = root(numbers[from + i]);
+        y = next_root(bits[i], last, y);
+        last = bits[i];
+        roots[i] = y;
     }
 }
 
@@ -225,7 +242,9 @@ pub fn roots_of(numbers: &[f64], from: usize, roots: &mut [f64])
     requires { ⌜ (from + 16 ≤ length (now numbers)) × (length (now roots) ≡ 16) ⌝ }
     ensures { λ _. ⌜ Roots (now (numbers .entry)) from (now (roots .exit)) 16 ⌝ }
 {
-    if try_block(numbers, from, roots) != 0 {
-        one_by_one(numbers, from, roots);
+    let mut bits = [0u64; BLOCK];
+    take_bits(numbers, from, &mut bits);
+    if try_block(&bits, roots) != 0 {
+        one_by_one(&bits, roots);
     }
 }

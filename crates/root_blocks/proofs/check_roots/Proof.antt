@@ -1,10 +1,10 @@
 -- `check_roots` meets its contract. The loop's invariant: if nothing was counted, the first i are roots.
-use mathlib.Core.Path.{_≡_, refl, sym, subst}
+use mathlib.Core.Path.{_≡_, refl, _∙_}
 use Prim.Native.Nat.{ℕ, _-_, _*_, _^_, _≤_}
 use native.Mathlib.Omega.{arith}
 use lib.Ieee.{Float, nan}
 use lib.ListN.{length, getD, length-set}
-use Rattle.root_blocks.specs.inner.Blocks.{NormalRoot, Checked}
+use Rattle.root_blocks.specs.inner.Blocks.{rootBy, RootsBy}
 use Rattle.root_blocks.proofs.Blocks.{placed}
 use Rattle.root_blocks.proofs.check_roots.Statement.{statement}
 use Rattle.root_blocks.proofs.check_roots.Tie as tie
@@ -12,7 +12,7 @@ use Rattle.root_blocks.proofs.check_roots.Tie as tie
 abbrev Inv-loop : tie.InvT-loop
 Inv-loop bits candidates roots₀ bad₀ i₀ roots bad i = (i ≤ 16) × (length bits ≡ 16) × (length candidates ≡ 16) × (length roots ≡ 16)
     × (length roots ≡ length roots₀) × (bad ≤ i * 2 ^ 36)
-    × (bad ≡ 0 → Checked bits roots i)
+    × (bad ≡ 0 → RootsBy bits roots i)
 
 abbrev μ-loop : tie.MeasureT-loop
 μ-loop bits candidates roots₀ bad₀ i₀ roots bad i = 16 - i
@@ -74,9 +74,9 @@ loop-again c =
       simp length-set (omega arith),
       omega arith,
       λ e. record {
-        at = placed (λ (j : ℕ) (y : Float). NormalRoot (getD (args .bits .now) j 0) y) (loop .roots) (loop .i) _ nan (omega arith)
+        at = placed (λ (j : ℕ) (y : Float). y ≡ rootBy (getD (args .bits .now) j 0)) (loop .roots) (loop .i) _ nan (omega arith)
             (loop .inv .6 (omega arith) .at)
-            (subst (NormalRoot (getD (args .bits .now) (loop .i) 0)) (sym (c .root-with .ensures)) (excess .excess .ensures .1 (omega arith)));
+            (c .root-with .ensures ∙ excess .excess .ensures .1 (omega arith));
       },
     )
 
