@@ -65,8 +65,9 @@ loop-less c = omega arith
 loop-again : tie.Need-loop-again Inv-loop μ-loop
 loop-again c =
     let excess = c .before .before in
-    let loop = excess .before .before .before .before .loop in
-    let args = excess .before .before .before .before .before .before .before .before .args in (
+    let at-loop = excess .before .before .before .before in
+    let loop = at-loop .loop in
+    let args = at-loop .before .before .before .before .args in (
       omega arith,
       omega arith,
       omega arith,
