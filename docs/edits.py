@@ -1,5 +1,6 @@
 #!/usr/bin/env python3
-"""The table of must-fail edits in docs/MUST_FAIL.md, from the edits and from what the prover said of them in the last `bash .ci/run`.
+"""The table of must-fail edits in docs/MUST_FAIL.md, from the edits and from what the prover said of them in the last
+`bash .ci/run` and the `tests/edits.sh` after it. Edits that only the latter tries have a star.
 
   docs/edits.py            prints the rows
   docs/edits.py --write    puts them into docs/MUST_FAIL.md, below the line that names this script
@@ -50,13 +51,14 @@ def false_fact(crate, label, text):
 
 
 def rows():
-    for path in sorted(ROOT.glob("crates/*/must-fail/*.edit")):
+    gate = [(path.parent.parent.name, path, "") for path in ROOT.glob("crates/*/must-fail/*.edit")]
+    apart = [(path.parent.name, path, " \\*") for path in ROOT.glob("tests/edits/*/*.edit")]
+    for crate, path, star in sorted(gate + apart, key=lambda one: (one[0], one[1].stem)):
         text = path.read_text()
         said = re.search(r"^# *(.*)$", text, re.M).group(1)
         files = re.findall(r"^file: (\S+)", text, re.M)
         kind = " and ".join(sorted({"code" if f.startswith("src/") else "definition" for f in files}))
-        crate = path.parent.parent.name
-        yield f"| {crate}/`{path.stem}` | {kind} | {said} | {false_fact(crate, path.stem, text)} |\n"
+        yield f"| {crate}/`{path.stem}`{star} | {kind} | {said} | {false_fact(crate, path.stem, text)} |\n"
 
 
 def main():
