@@ -3,13 +3,14 @@
 `bash .ci/run` and the `tests/edits.sh` after it. Edits that only the latter tries have a star.
 
   docs/edits.py            prints the rows
-  docs/edits.py --write    puts them into docs/MUST_FAIL.md, below the line that names this script
+  docs/edits.py --write    puts them into docs/MUST_FAIL.md, below the line that names this script, if the status is 0
   docs/edits.py --check    compares them with those of docs/MUST_FAIL.md
 
 Each row names a fact that is false under the edit and that the prover refused. An edit names it in a line
-`false: PLACE, FACT`; PLACE is a file of the crate's proofs, or the function whose proof it is. An edit without that line
-has the first promise of a function (`returns`) or step of a loop (`loop-again`, or by its label) that was refused. The
-status is 1 if the fact named was not refused, or if an edit names none and no promise and no step was refused.
+`false: PLACE, FACT`; PLACE is a file of the crate's proofs, or the function whose proof it is. An edit without that
+line has the first promise of a function (`returns`) or step of a loop (`loop-again`, or by its label) that was refused.
+The status is 1 if an edit was not tried, if the fact named was not refused, or if an edit names none and no promise and no
+step was refused.
 """
 import re
 import sys
@@ -17,7 +18,10 @@ from pathlib import Path
 
 ROOT = Path(__file__).resolve().parent.parent
 MARK = "<!-- rows by docs/edits.py -->\n"
-HEAD = "\n| edit | of | what the contract says, and the edit breaks | a fact that is false under it, and refused |\n|---|---|---|---|\n"
+HEAD = """
+| edit | of | what the contract says, and the edit breaks | a fact that is false under it, and refused |
+|---|---|---|---|
+"""
 faults = []
 
 
@@ -43,9 +47,12 @@ def false_fact(crate, label, text):
         return "not tried"
     facts = refused(crate, label)
     named = re.search(r"^false: (\S+), (\S+)$", text, re.M)
+    if not named and re.search(r"^false", text, re.M):
+        faults.append(f"{crate}/{label}: its line `false:` is not `false: PLACE, FACT`")
     chosen = [named.groups()] if named else [f for f in facts if re.match(r"(returns|\S*again)(-\d+)?$", f[1])]
     if not chosen or chosen[0] not in facts:
-        faults.append(f"{crate}/{label}: " + (f"{chosen[0]} was not refused" if chosen else "names no fact") + f"; refused: {facts}")
+        lacks = f"{chosen[0]} was not refused" if chosen else "names no fact"
+        faults.append(f"{crate}/{label}: {lacks}; refused: {facts}")
         return "none"
     return f"{chosen[0][0]}, `{chosen[0][1]}`"
 
@@ -68,7 +75,8 @@ def main():
     if not mark:
         faults.append("docs/MUST_FAIL.md has no line for the rows")
     elif "--write" in sys.argv:
-        page.write_text(head + mark + HEAD + table)
+        if not faults:
+            page.write_text(head + mark + HEAD + table)
     elif "--check" in sys.argv:
         if old != HEAD + table:
             faults.append("docs/MUST_FAIL.md has other rows")
