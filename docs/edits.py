@@ -9,8 +9,8 @@
 Each row names a fact that is false under the edit and that the prover refused. An edit names it in a line
 `false: PLACE, FACT`; PLACE is a file of the crate's proofs, or the function whose proof it is. An edit without that
 line has the first promise of a function (`returns`) or step of a loop (`loop-again`, or by its label) that was refused.
-The status is 1 if an edit was not tried, if the fact named was not refused, or if an edit names none and no promise and no
-step was refused.
+The status is 1 if an edit was not tried, if the fact named was not refused, or if an edit names none and no promise and
+no step was refused.
 """
 import re
 import sys
