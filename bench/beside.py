@@ -2,9 +2,10 @@
 """Two archives beside each other, on the same inputs: bench/beside.py OLD NEW [NAME [MILLISECONDS [TURNS]]]
 
 OLD and NEW are folders that hold libsuontarvi.a. `bench` is built once with each, and the two run in turns, TURNS times
-(3): NAME is a word of `bench` (all), MILLISECONDS the time of a row in a turn (60). For each row: the least time of each,
-new/old, and new beside the Rust; then the median and the largest new/old of each call. RSLAB is needed, as by `bench`.
-Status 1 if a run fails or the archives' rows differ.
+(3): NAME is a word of `bench` (all), MILLISECONDS the time of a row in a turn (60). For each row: each archive's time
+beside the Rust's of the same turn, as the median of the turns, and new/old, which is the ratio of these two: a machine
+that is slower in one turn than in another is so for both sides of a row. Then the median and the largest new/old of
+each call. RSLAB is needed, as by `bench`. Status 1 if a run fails or the archives' rows differ.
 """
 import os
 import re
@@ -33,17 +34,18 @@ def turn(driver, words):
     return {(call, given): (float(ours), float(rust)) for call, given, ours, rust in found}
 
 
-def least(turns, row, side):
-    return min(times[row][side] for times in turns)
+def beside_rust(turns, row):
+    """our time over the Rust's, the median of the turns"""
+    return statistics.median(ours / rust for ours, rust in (times[row] for times in turns))
 
 
 def table(old, new):
     """the rows, and for each call its ratios new/old"""
     calls = {}
-    print("| call | input | old, us | new, us | new/old | new/Rust |\n|---|---|---:|---:|---:|---:|")
+    print("| call | input | old/Rust | new/Rust | new/old |\n|---|---|---:|---:|---:|")
     for row in new[0]:
-        before, after, rust = least(old, row, 0), least(new, row, 0), least(new, row, 1)
-        print(f"| {row[0]} | {row[1]} | {before:.3f} | {after:.3f} | {after / before:.3f} | {after / rust:.2f} |")
+        before, after = beside_rust(old, row), beside_rust(new, row)
+        print(f"| {row[0]} | {row[1]} | {before:.2f} | {after:.2f} | {after / before:.2f} |")
         calls.setdefault(row[0], []).append(after / before)
     return calls
 
@@ -62,7 +64,7 @@ def main():
     calls = table(old, new)
     print("\n| call | rows | median new/old | largest |\n|---|---:|---:|---:|")
     for call, ratios in calls.items():
-        print(f"| {call} | {len(ratios)} | {statistics.median(ratios):.3f} | {max(ratios):.3f} |")
+        print(f"| {call} | {len(ratios)} | {statistics.median(ratios):.2f} | {max(ratios):.2f} |")
 
 
 main()
