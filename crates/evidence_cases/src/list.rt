@@ -23,7 +23,7 @@ pub const MATCH_WORK: usize = 49165;
 pub const DISTANCES: usize = 8194;
 
 // The reading of the list: the last word, how often it is repeated and by what it grows, and the state of the case.
-#[derive(Drop)]
+#[derive(Clone, Copy)]
 pub struct Place {
     pub at: usize,
     pub value: u64,
@@ -33,7 +33,7 @@ pub struct Place {
 }
 
 // The number of some digits, and the place after them.
-#[derive(Drop)]
+#[derive(Clone, Copy)]
 struct Digits {
     value: u64,
     next: usize,

@@ -19,7 +19,7 @@ use limits::NONE;
 use sparse::layout;
 
 // The factor of an unmatched index: 0, or one that leaves its largest entry to a matched index flat.
-#[derive(Drop)]
+#[derive(Clone, Copy)]
 pub enum Rule {
     Identity,
     Flat,

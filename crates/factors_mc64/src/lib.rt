@@ -13,7 +13,7 @@ ghost use Rattle.factors_mc64.specs.inner.Steps.{Rows, Accepted, Marked, SideRoo
 use limits::NONE;
 
 // What `log_factors` answers: every column is matched, or how many are not, or the refusal.
-#[derive(Drop)]
+#[derive(Clone, Copy)]
 pub enum Scaled {
     Applied,
     PartialSingular(u32),

@@ -66,7 +66,7 @@ pub fn clamp_log(x: f64) -> f64
 }
 
 // A double above zero as two integers, the first of 53 digits.
-#[derive(Drop)]
+#[derive(Clone, Copy)]
 pub struct Parts {
     pub significand: u64,
     pub exponent: u64,

@@ -38,7 +38,7 @@ pub fn larger(a: u64, b: u64) -> u64
 
 // The work counters: the Rust's five in its order, the rows popped and the largest size of a heap. A step takes the
 // counts and returns them.
-#[derive(Drop)]
+#[derive(Clone, Copy)]
 pub struct HungarianStats {
     pub heap_init_slots: u64,
     pub augment_searches: u64,
@@ -50,7 +50,7 @@ pub struct HungarianStats {
 }
 
 // The matched count and the work counters.
-#[derive(Drop)]
+#[derive(Clone, Copy)]
 pub struct Counts {
     pub matched: usize,
     pub stats: HungarianStats,

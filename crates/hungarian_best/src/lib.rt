@@ -11,7 +11,7 @@ use hungarian::{FROM, RINF};
 use limits::NONE;
 
 // The best entry so far of a column: its cost minus u, its row and its place.
-#[derive(Drop)]
+#[derive(Clone, Copy)]
 pub struct Best {
     pub value: f64,
     pub row: usize,

@@ -11,7 +11,7 @@ mod finish;
 pub mod graph_test;
 
 // What `hungarian_match` answers: the counts of the match, or the refusal.
-#[derive(Drop)]
+#[derive(Clone, Copy)]
 pub enum Answer {
     Matched(Counts),
     Refused(u32),

@@ -25,7 +25,7 @@ const NO_ENTRY: usize = NONE as usize;
 
 // The best path so far (its cost, last entry and that entry's column), how many rows are in the heap, touched and
 // popped, and the most that were in the heap at once.
-#[derive(Drop)]
+#[derive(Clone, Copy)]
 struct Frontier {
     csp: f64,
     isp: usize,
@@ -48,14 +48,14 @@ const UNSEEN: Frontier = Frontier {
 };
 
 // A search: its frontier and the counts.
-#[derive(Drop)]
+#[derive(Clone, Copy)]
 struct Progress {
     frontier: Frontier,
     stats: HungarianStats,
 }
 
 // What a search ends with: a path, its cost, its last entry and that entry's column, or no path.
-#[derive(Drop)]
+#[derive(Clone, Copy)]
 pub enum SearchEnd {
     Path(f64, usize, usize),
     NoPath,
@@ -63,7 +63,7 @@ pub enum SearchEnd {
 
 // A search that has ended: its result, how many rows it touched and popped, the most rows in its heap at once, and the
 // counts.
-#[derive(Drop)]
+#[derive(Clone, Copy)]
 pub struct Ending {
     pub end: SearchEnd,
     pub touched: usize,

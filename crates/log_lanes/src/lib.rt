@@ -12,7 +12,7 @@ const LANES: usize = 16;
 const NO_LOG: u32 = 137494528;
 
 // What a lane holds: the 32 leading digits of a number, and what is known of its logarithm.
-#[derive(Drop)]
+#[derive(Clone, Copy)]
 struct Lane {
     leading: u32,
     known: u32,

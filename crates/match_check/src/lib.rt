@@ -15,7 +15,7 @@ ghost use Rattle.match_check.specs.inner.Steps.{AcceptedPattern, Stretch, Checka
 use hungarian_match::graph_test;
 
 // What `check_match` answers: accepted, or the refusal.
-#[derive(Drop)]
+#[derive(Clone, Copy)]
 pub enum Verdict {
     Accepted,
     Refused(u32),

@@ -19,14 +19,14 @@ use hungarian_match::graph_test;
 use match_check::{lengths_fit, pairing_fits};
 
 // What `match_gap` answers: the slice has the gap, or the refusal.
-#[derive(Drop)]
+#[derive(Clone, Copy)]
 pub enum Gap {
     Found,
     Refused(u32),
 }
 
 // The excess and the lack of a column, each 0 or above.
-#[derive(Drop)]
+#[derive(Clone, Copy)]
 struct Column {
     excess: u64,
     lack: u64,

@@ -15,7 +15,7 @@ use limits::NONE;
 use match_check::has_row;
 
 // What `check_largest` answers: the pairing is a largest matching, or the refusal.
-#[derive(Drop)]
+#[derive(Clone, Copy)]
 pub enum Verdict {
     Accepted,
     Refused(u32),

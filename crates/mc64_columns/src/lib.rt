@@ -4,14 +4,14 @@ ghost use Rattle.mc64_columns.specs.Columns.{largest, below, normalised};
 ghost use Rattle.mc64_columns.specs.inner.Steps.{entry_log, WordOf, WordsPut};
 
 // What a builder answers: how many entries the graph has, or the refusal.
-#[derive(Drop)]
+#[derive(Clone, Copy)]
 pub enum Built {
     Kept(u32),
     Refused(u32),
 }
 
 // Where the logs of entries come from: they are lent, or values are lent and the logs are computed from them.
-#[derive(Drop)]
+#[derive(Clone, Copy)]
 pub enum LogSource {
     Lent,
     Own,

@@ -97,7 +97,7 @@ fn input_fault(
 }
 
 // What a column's kept entries leave: where the next one goes, and the largest of their logs.
-#[derive(Drop)]
+#[derive(Clone, Copy)]
 struct KeptColumn {
     next: usize,
     top: f64,

@@ -12,7 +12,7 @@ ghost use Rattle.scaling.specs.inner.Answers.{unless_refused};
 use factors_mc64::Scaled;
 use sparse::layout::Validity;
 
-#[derive(Drop)]
+#[derive(Clone, Copy)]
 pub enum ScalingStrategy {
     InfNorm,
     OnePassInfNorm,
@@ -22,7 +22,7 @@ pub enum ScalingStrategy {
 }
 
 // What was done, or the refusal.
-#[derive(Drop)]
+#[derive(Clone, Copy)]
 pub enum Scaling {
     Applied,
     PartialSingular(u32),

@@ -9,7 +9,7 @@ ghost use Rattle.sheet.specs.Format.{stands, bits_of, rows_present};
 use limits::NONE;
 
 // A record of a sheet file; an absent row is NONE, an absent number 0. The numbers are bits of doubles.
-#[derive(Drop)]
+#[derive(Clone, Copy)]
 pub struct Record {
     pub patch: u32,
     pub bits: u32,
@@ -21,7 +21,7 @@ pub struct Record {
 }
 
 // What the bytes begin with: a record, or one that is cut.
-#[derive(Drop)]
+#[derive(Clone, Copy)]
 pub enum Found {
     Is(Record),
     Cut,
@@ -49,14 +49,14 @@ pub fn record_size(bits: u32) -> usize
 }
 
 // A row, or NONE, and the place after it; or cut.
-#[derive(Drop)]
+#[derive(Clone, Copy)]
 enum TakenRow {
     Row(u32, usize),
     RowCut,
 }
 
 // A number, or 0, and the place after it; or cut.
-#[derive(Drop)]
+#[derive(Clone, Copy)]
 enum TakenNumber {
     Number(u64, usize),
     NumberCut,

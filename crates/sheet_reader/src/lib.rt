@@ -14,7 +14,7 @@ ghost use Rattle.sheet_reader.specs.Call.{body_of, lengths, sizes, outcome_by, R
 use sheet::{Found, Record};
 
 // What `read_sheet` answers: n and the matched count, or the refusal.
-#[derive(Drop)]
+#[derive(Clone, Copy)]
 pub enum Reading {
     Read(u32, u32),
     Refused(u32),

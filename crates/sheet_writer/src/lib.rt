@@ -11,7 +11,7 @@ ghost use Rattle.sheet_writer.specs.Call.{lengths, match_fault, Promises};
 use sheet::Record;
 
 // What `write_sheet` answers: how many bytes it used, or the refusal.
-#[derive(Drop)]
+#[derive(Clone, Copy)]
 pub enum Written {
     Used(u32),
     Refused(u32),

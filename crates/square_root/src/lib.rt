@@ -10,7 +10,7 @@ ghost use Rattle.square_root.specs.Root.{Answer, number_of, root_fault, sqrt_of,
 ghost use Rattle.square_root.specs.inner.Steps.{WholeRoot};
 
 // The root of a number, or the number of the refusal.
-#[derive(Drop)]
+#[derive(Clone, Copy)]
 pub enum Root {
     Is(f64),
     Refused(u32),

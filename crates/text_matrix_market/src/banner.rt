@@ -6,21 +6,21 @@ ghost use Rattle.text_matrix_market.specs.inner.Steps.{next_of, next_word, word_
 use crate::text;
 
 // The kinds of file that are read.
-#[derive(Drop)]
+#[derive(Clone, Copy)]
 pub enum Kind {
     General,
     Symmetric,
     Pattern,
 }
 
-#[derive(Drop)]
+#[derive(Clone, Copy)]
 pub enum BannerRead {
     Is(Kind),
     Other,
 }
 
 // The place past the word, if it is the expected one.
-#[derive(Drop)]
+#[derive(Clone, Copy)]
 pub enum Next {
     Past(usize),
     Other,

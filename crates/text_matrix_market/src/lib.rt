@@ -13,7 +13,7 @@ use crate::banner::Kind;
 use crate::stages::Stage;
 
 // An input holds a file of a kind, with n and a count of entries, or is refused with a number.
-#[derive(Drop)]
+#[derive(Clone, Copy)]
 pub enum Verdict {
     File(Kind, u32, u32),
     Refused(u32),

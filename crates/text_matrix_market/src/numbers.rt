@@ -6,20 +6,20 @@ ghost use Rattle.text_matrix_market.specs.inner.Steps.{word_read, field_of, weig
 use crate::banner::Kind;
 use crate::text;
 
-#[derive(Drop)]
+#[derive(Clone, Copy)]
 pub enum Number {
     Is(u64),
     Misshapen,
 }
 
 // A number and the place past it.
-#[derive(Drop)]
+#[derive(Clone, Copy)]
 pub enum Field {
     Is(u64, usize),
     Misshapen,
 }
 
-#[derive(Drop)]
+#[derive(Clone, Copy)]
 pub enum Numbers {
     Three(u64, u64, u64),
     Other,

@@ -11,14 +11,14 @@ use crate::numbers::Numbers;
 use crate::{banner, numbers, text};
 
 // Row and column count from 0. The weight is the cost, or the size of a symmetric entry's value; a pattern's is 0.
-#[derive(Drop)]
+#[derive(Clone, Copy)]
 pub struct Entry {
     pub row: u32,
     pub column: u32,
     pub weight: u64,
 }
 
-#[derive(Drop)]
+#[derive(Clone, Copy)]
 pub enum EntryRead {
     Is(Entry),
     Misshapen,
@@ -26,7 +26,7 @@ pub enum EntryRead {
 }
 
 // Before the banner, before the size line, below it (N, L and how many entries were read), or refused.
-#[derive(Drop)]
+#[derive(Clone, Copy)]
 pub enum Stage {
     Start,
     Sizing(Kind),

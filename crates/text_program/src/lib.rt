@@ -10,7 +10,7 @@ use text_report::Form;
 
 // The result of the reads: the first bytes, with more to read; all of the input, or as much of it as counts; or a read
 // that failed.
-#[derive(Drop)]
+#[derive(Clone, Copy)]
 enum Input {
     More(usize),
     All(usize),
@@ -54,7 +54,7 @@ fn read_input(buffer: &mut [u8]) -> Input
 }
 
 // What is printed for an input: a text of this length at the front of the output, or that it could not be read.
-#[derive(Drop)]
+#[derive(Clone, Copy)]
 enum Told {
     Text(usize),
     Unread,

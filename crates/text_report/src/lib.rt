@@ -16,7 +16,7 @@ ghost use Rattle.text_report.specs.Form.{form_text};
 pub const OUTPUT_LENGTH: usize = 4096;
 
 // What is printed of a match: its report, or its pairs as a pattern file.
-#[derive(Drop)]
+#[derive(Clone, Copy)]
 pub enum Form {
     Report,
     Pairs,

@@ -19,7 +19,7 @@ pub const POINTERS: usize = COLUMNS + 1;
 pub const ASSEMBLY_WORDS: usize = 2 * POINTERS + ENTRIES;
 
 // How many entries the graph has, or that a pair occurs twice.
-#[derive(Drop)]
+#[derive(Clone, Copy)]
 pub enum Mirrored {
     Graph(u32),
     Repeated,

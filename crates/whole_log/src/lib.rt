@@ -10,7 +10,7 @@ ghost use Rattle.whole_log.specs.Log.{log_of, log_from, from_units};
 ghost use Rattle.whole_log.specs.Stored.{Promises};
 
 // The logarithm of a number, or the number of the refusal.
-#[derive(Drop)]
+#[derive(Clone, Copy)]
 pub enum Log {
     Is(i32),
     Refused(u32),

@@ -1,18 +1,24 @@
 -- `get_double` meets its contract: the double of the bits that were read.
+use Rattle.std.proofs.Common.{rules}
 use mathlib.Core.Path.{ap, ◌∙◌}
 use lib.Ieee.{binary64, of_bits}
 use borrow.Author.Rules.{rules}
 use Rattle.byte_numbers.proofs.get_double.Statement.{statement}
 use Rattle.byte_numbers.proofs.get_double.Tie as tie
 
-get-u64-requires : tie.Need-get-u64-requires
-get-u64-requires c κs = search rules
+get_u64-requires : tie.Need-get_u64-requires
+get_u64-requires c κs = search rules
 
-double-of-requires : tie.Need-double-of-requires
-double-of-requires c κs = search rules
+double_of-requires : tie.Need-double_of-requires
+double_of-requires c κs = search rules
 
 returns : tie.Need-returns
-returns c = c.double-of.ensures ∙ ap (of_bits binary64) c.before.get-u64.ensures
+returns c = c.double_of.ensures ∙ ap (of_bits binary64) c.get_u64.ensures
 
-pub get-double-spec : {M : Type 1} → statement M
-get-double-spec = tie.close (tie.spec get-u64-requires double-of-requires returns)
+pub get_double_spec : {M : Type 1} → statement M
+get_double_spec =
+    tie.close
+    (tie.spec
+    get_u64-requires
+    double_of-requires
+    returns)

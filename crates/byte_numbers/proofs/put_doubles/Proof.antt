@@ -11,79 +11,72 @@ use Rattle.byte_numbers.proofs.Words.{laid, lay_none, lay_more, lay_all, double_
 use Rattle.byte_numbers.proofs.put_doubles.Statement.{statement}
 use Rattle.byte_numbers.proofs.put_doubles.Tie as tie
 
-abbrev invariant-loop : tie.invariant-loop
-invariant-loop values out₀ i₀ out i = (i ≤ length values) × (length out ≡ length out₀) × (out ≡ laid 8 (bits_of values) out₀ i)
+abbrev invariant-loop-i : tie.invariant-loop-i
+invariant-loop-i values out₀ i₀ out i = (i ≤ length values) × (length out ≡ length out₀) × (out ≡ laid 8 (bits_of values) out₀ i)
 
-abbrev decreases-loop : tie.decreases-loop
-decreases-loop values out₀ i₀ out i = length values - i
+abbrev decreases-loop-i : tie.decreases-loop-i
+decreases-loop-i values out₀ i₀ out i = length values - i
 
--- places of the proof, each from a later one
-abbrev loop-of-slice-known2 : tie.After-slice-known2 invariant-loop decreases-loop → tie.At-loop invariant-loop decreases-loop
-loop-of-slice-known2 c = c.before.before.before.before.before.before
+loop-i-init : tie.Need-loop-i-init invariant-loop-i decreases-loop-i
+loop-i-init c = (omega arith, refl, lay_none 8 (bits_of c.args.values.now) c.args.out.now)
 
-abbrev entry-of-slice-known2 : tie.After-slice-known2 invariant-loop decreases-loop → tie.Start invariant-loop decreases-loop
-entry-of-slice-known2 c = (loop-of-slice-known2 c).before.before.before
+overflow_mul-i : tie.Need-overflow_mul-i invariant-loop-i decreases-loop-i
+overflow_mul-i c = omega arith
 
-loop-holds : tie.Need-loop-init invariant-loop decreases-loop
-loop-holds c = (omega arith, refl, lay_none 8 (bits_of c.before.before.args.values.now) c.before.before.args.out.now)
+offset_bounds-values-i : tie.Need-offset_bounds-values-i invariant-loop-i decreases-loop-i
+offset_bounds-values-i c = omega arith
 
-mul-put-double : tie.Need-overflow-mul-put-double invariant-loop decreases-loop
-mul-put-double c = omega arith
+bounds-values-i : tie.Need-bounds-values-i invariant-loop-i decreases-loop-i
+bounds-values-i c = omega arith
 
-mul-put-double-2 : tie.Need-overflow-mul-put-double-2 invariant-loop decreases-loop
-mul-put-double-2 c = omega arith
+put_double-requires : tie.Need-put_double-requires invariant-loop-i decreases-loop-i
+put_double-requires c κs = omega arith
 
-shared-slice-read-put-double : tie.Need-shared-slice-read-put-double invariant-loop decreases-loop
-shared-slice-read-put-double c = omega arith
+overflow_add-i : tie.Need-overflow_add-i invariant-loop-i decreases-loop-i
+overflow_add-i c = omega arith
 
-put-double-requires : tie.Need-put-double-requires invariant-loop decreases-loop
-put-double-requires c κs = omega arith
+loop-i-smaller : tie.Need-loop-i-smaller invariant-loop-i decreases-loop-i
+loop-i-smaller c = omega arith
 
-add-i : tie.Need-overflow-add-i invariant-loop decreases-loop
-add-i c = omega arith
-
-loop-less : tie.Need-loop-smaller invariant-loop decreases-loop
-loop-less c = omega arith
-
-loop-again : tie.Need-loop-preserved invariant-loop decreases-loop
-loop-again c =
-    let args = (entry-of-slice-known2 c).args in
-    let l = (loop-of-slice-known2 c).loop in
+loop-i-preserved : tie.Need-loop-i-preserved invariant-loop-i decreases-loop-i
+loop-i-preserved c =
+    let args = c.args in
+    let l = c.loop-i in
     let n : length (bits_of args.values.now) ≡ length args.values.now = bits_length args.values.now in
     let h : length args.out.now ≡ 8 * length (bits_of args.values.now) = omega arith in (
       omega arith,
-      c.before.before.put-double.auto.0 ∙ l.inv.1,
-      c.before.before.put-double.ensures ∙ ap (λ (v : ℕ). sets l.out (8 * l.i) (bytes_of 8 v))
+      c.put_double.auto.out ∙ l.inv.1,
+      c.put_double.ensures ∙ ap (λ (v : ℕ). sets l.out (8 * l.i) (bytes_of 8 v))
           (sym (bits_at args.values.now l.i))
           ∙ ap (λ (x : List ℕ). sets x (8 * l.i) (bytes_of 8 (get_or (bits_of args.values.now) l.i (to_bits binary64 nan)))) l.inv.2
           ∙ lay_more 8 (bits_of args.values.now) args.out.now l.i (to_bits binary64 nan) (omega arith) (sym (ap length l.inv.2) ∙ l.inv.1 ∙ h),
     )
 
-same_length_lem : tie.Need-same-length invariant-loop decreases-loop
-same_length_lem c = c.before.loop.invariant.1
+shape_of-out : tie.Need-shape_of-out invariant-loop-i decreases-loop-i
+shape_of-out c = c.loop-i.invariant.1
 
-returns : tie.Need-returns invariant-loop decreases-loop
+returns : tie.Need-returns invariant-loop-i decreases-loop-i
 returns c =
-    let args = c.before.before.before.before.args in
-    let l = c.before.loop in
+    let args = c.args in
+    let l = c.loop-i in
     let n : length (bits_of args.values.now) ≡ length args.values.now = bits_length args.values.now in
     let e : l.i ≡ length (bits_of args.values.now) = omega arith in
     l.invariant.2 ∙ ap (laid 8 (bits_of args.values.now) args.out.now) e ∙ lay_all 8 (bits_of args.values.now) args.out.now (omega arith)
     ∙ double_bytes_are args.values.now
 
-pub put-doubles-spec : {M : Type 1} → statement M
-put-doubles-spec =
+pub put_doubles_spec : {M : Type 1} → statement M
+put_doubles_spec =
     tie.close
     (tie.spec
-    invariant-loop
-    decreases-loop
-    loop-holds
-    mul-put-double
-    mul-put-double-2
-    shared-slice-read-put-double
-    put-double-requires
-    add-i
-    loop-less
-    loop-again
-    same_length_lem
+    invariant-loop-i
+    decreases-loop-i
+    loop-i-init
+    overflow_mul-i
+    offset_bounds-values-i
+    bounds-values-i
+    put_double-requires
+    overflow_add-i
+    loop-i-smaller
+    loop-i-preserved
+    shape_of-out
     returns)

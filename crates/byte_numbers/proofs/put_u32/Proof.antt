@@ -1,4 +1,5 @@
 -- `put_u32` meets its contract: every place is within the slice, and the four stores are the number's bytes.
+use Rattle.std.proofs.Common.{rules}
 use native.Mathlib.Omega.{arith}
 use lib.ListN.{length-set}
 use Rattle.byte_numbers.proofs.Stores.{four_stores}
@@ -6,59 +7,59 @@ use borrow.Author.Rules.{rules}
 use Rattle.byte_numbers.proofs.put_u32.Statement.{statement}
 use Rattle.byte_numbers.proofs.put_u32.Tie as tie
 
-cast-out : tie.Need-overflow-cast-out
-cast-out c = search rules
+overflow_cast-out : tie.Need-overflow_cast-out
+overflow_cast-out c = search rules
 
-slice-write-out : tie.Need-slice-write-out
-slice-write-out c = search rules
+bounds-out-at : tie.Need-bounds-out-at
+bounds-out-at c = search rules
 
-cast-out-2 : tie.Need-overflow-cast-out-2
-cast-out-2 c = search rules
+overflow_cast-out-2 : tie.Need-overflow_cast-out-2
+overflow_cast-out-2 c = search rules
 
-add-out : tie.Need-overflow-add-out
-add-out c = search rules
+overflow_add-out : tie.Need-overflow_add-out
+overflow_add-out c = search rules
 
-slice-write-out-2 : tie.Need-slice-write-out-2
-slice-write-out-2 c = simp length-set (omega arith)
+bounds-out-at-2 : tie.Need-bounds-out-at-2
+bounds-out-at-2 c = simp length-set (omega arith)
 
-cast-out-3 : tie.Need-overflow-cast-out-3
-cast-out-3 c = search rules
+overflow_cast-out-3 : tie.Need-overflow_cast-out-3
+overflow_cast-out-3 c = search rules
 
-add-out-2 : tie.Need-overflow-add-out-2
-add-out-2 c = search rules
+overflow_add-out-2 : tie.Need-overflow_add-out-2
+overflow_add-out-2 c = search rules
 
-slice-write-out-3 : tie.Need-slice-write-out-3
-slice-write-out-3 c = simp length-set (omega arith)
+bounds-out-at-3 : tie.Need-bounds-out-at-3
+bounds-out-at-3 c = simp length-set (omega arith)
 
-cast-out-4 : tie.Need-overflow-cast-out-4
-cast-out-4 c = search rules
+overflow_cast-out-4 : tie.Need-overflow_cast-out-4
+overflow_cast-out-4 c = search rules
 
-add-out-3 : tie.Need-overflow-add-out-3
-add-out-3 c = search rules
+overflow_add-out-3 : tie.Need-overflow_add-out-3
+overflow_add-out-3 c = search rules
 
-slice-write-out-4 : tie.Need-slice-write-out-4
-slice-write-out-4 c = simp length-set (omega arith)
+bounds-out-at-4 : tie.Need-bounds-out-at-4
+bounds-out-at-4 c = simp length-set (omega arith)
 
-same_length_lem : tie.Need-same-length
-same_length_lem c = simp length-set
+shape_of-out : tie.Need-shape_of-out
+shape_of-out c = simp length-set
 
 returns : tie.Need-returns
 returns c = four_stores c.args.out.now c.args.at c.args.word
 
-pub put-u32-spec : {M : Type 1} → statement M
-put-u32-spec =
+pub put_u32_spec : {M : Type 1} → statement M
+put_u32_spec =
     tie.close
     (tie.spec
-    cast-out
-    slice-write-out
-    cast-out-2
-    add-out
-    slice-write-out-2
-    cast-out-3
-    add-out-2
-    slice-write-out-3
-    cast-out-4
-    add-out-3
-    slice-write-out-4
-    same_length_lem
+    overflow_cast-out
+    bounds-out-at
+    overflow_cast-out-2
+    overflow_add-out
+    bounds-out-at-2
+    overflow_cast-out-3
+    overflow_add-out-2
+    bounds-out-at-3
+    overflow_cast-out-4
+    overflow_add-out-3
+    bounds-out-at-4
+    shape_of-out
     returns)

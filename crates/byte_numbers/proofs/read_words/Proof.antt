@@ -1,4 +1,5 @@
 -- `read_words` meets its contract. The loop's invariant: the first i words precede what was there.
+use Rattle.std.proofs.Common.{rules}
 use mathlib.Core.Path.{◌≡◌, refl, ap, ◌∙◌}
 use Prim.Native.Nat.{◌-◌, ◌≤◌}
 use native.Mathlib.Omega.{arith}
@@ -9,75 +10,68 @@ use Rattle.byte_numbers.proofs.Words.{filled, fill_none, fill_more, fill_all, wo
 use Rattle.byte_numbers.proofs.read_words.Statement.{statement}
 use Rattle.byte_numbers.proofs.read_words.Tie as tie
 
-abbrev invariant-loop : tie.invariant-loop
-invariant-loop bytes out₀ i₀ out i = (i ≤ length out₀) × (length out ≡ length out₀) × (out ≡ filled (word_at bytes) out₀ i)
+abbrev invariant-loop-i : tie.invariant-loop-i
+invariant-loop-i bytes out₀ i₀ out i = (i ≤ length out₀) × (length out ≡ length out₀) × (out ≡ filled (word_at bytes) out₀ i)
 
-abbrev decreases-loop : tie.decreases-loop
-decreases-loop bytes out₀ i₀ out i = length out₀ - i
+abbrev decreases-loop-i : tie.decreases-loop-i
+decreases-loop-i bytes out₀ i₀ out i = length out₀ - i
 
--- places of the proof, each from a later one
-abbrev entry-of-after-loop : tie.After-loop invariant-loop decreases-loop → tie.Start invariant-loop decreases-loop
-entry-of-after-loop c = c.before.before.before.before
+loop-i-init : tie.Need-loop-i-init invariant-loop-i decreases-loop-i
+loop-i-init c = (omega arith, refl, fill_none (word_at c.args.bytes.now) c.args.out.now)
 
-abbrev entry-of-get-u32 : tie.After-get-u32 invariant-loop decreases-loop → tie.Start invariant-loop decreases-loop
-entry-of-get-u32 c = c.before.before.before.before.before
+overflow_mul-i : tie.Need-overflow_mul-i invariant-loop-i decreases-loop-i
+overflow_mul-i c = omega arith
 
-loop-holds : tie.Need-loop-init invariant-loop decreases-loop
-loop-holds c = (omega arith, refl, fill_none (word_at c.before.before.args.bytes.now) c.before.before.args.out.now)
+get_u32-requires : tie.Need-get_u32-requires invariant-loop-i decreases-loop-i
+get_u32-requires c κs = search rules
 
-mul-get-u32 : tie.Need-overflow-mul-get-u32 invariant-loop decreases-loop
-mul-get-u32 c = omega arith
+offset_bounds-out-i : tie.Need-offset_bounds-out-i invariant-loop-i decreases-loop-i
+offset_bounds-out-i c = omega arith
 
-get-u32-requires : tie.Need-get-u32-requires invariant-loop decreases-loop
-get-u32-requires c κs = search rules
+bounds-out-i : tie.Need-bounds-out-i invariant-loop-i decreases-loop-i
+bounds-out-i c = omega arith
 
-mul-out : tie.Need-overflow-mul-out invariant-loop decreases-loop
-mul-out c = omega arith
+overflow_add-i : tie.Need-overflow_add-i invariant-loop-i decreases-loop-i
+overflow_add-i c = omega arith
 
-slice-write-out : tie.Need-slice-write-out invariant-loop decreases-loop
-slice-write-out c = omega arith
+loop-i-smaller : tie.Need-loop-i-smaller invariant-loop-i decreases-loop-i
+loop-i-smaller c = omega arith
 
-add-i : tie.Need-overflow-add-i invariant-loop decreases-loop
-add-i c = omega arith
-
-loop-less : tie.Need-loop-smaller invariant-loop decreases-loop
-loop-less c = omega arith
-
-loop-again : tie.Need-loop-preserved invariant-loop decreases-loop
-loop-again c =
-    let l = c.before.before.loop in (
+loop-i-preserved : tie.Need-loop-i-preserved invariant-loop-i decreases-loop-i
+loop-i-preserved c =
+    let l = c.loop-i in (
       omega arith,
       simp length-set l.invariant.1,
-      rw (l.invariant.2, c.get-u32.ensures)
-          (fill_more (word_at (entry-of-get-u32 c).args.bytes.now)
-          (entry-of-get-u32 c).args.out.now l.i (omega arith)),
+      rw (l.invariant.2, c.get_u32.ensures)
+          (fill_more (word_at c.args.bytes.now)
+          c.args.out.now l.i (omega arith)),
     )
 
-same_length_lem : tie.Need-same-length invariant-loop decreases-loop
-same_length_lem c = c.before.loop.invariant.1
+shape_of-out : tie.Need-shape_of-out invariant-loop-i decreases-loop-i
+shape_of-out c = c.loop-i.invariant.1
 
-returns : tie.Need-returns invariant-loop decreases-loop
+returns : tie.Need-returns invariant-loop-i decreases-loop-i
 returns c =
-    let l = c.before.loop in
-    let e : l.i ≡ length (entry-of-after-loop c).args.out.now = omega arith in
-    l.invariant.2 ∙ fill_all (word_at (entry-of-after-loop c).args.bytes.now)
-    (entry-of-after-loop c).args.out.now l.i (omega arith) ∙ words_are
-    (entry-of-after-loop c).args.bytes.now l.i ∙ ap
-    (words (entry-of-after-loop c).args.bytes.now) e
+    let l = c.loop-i in
+    let e : l.i ≡ length c.args.out.now = omega arith in
+    l.invariant.2 ∙ fill_all (word_at c.args.bytes.now)
+    c.args.out.now l.i (omega arith) ∙ words_are
+    c.args.bytes.now l.i ∙ ap
+    (words c.args.bytes.now) e
 
-pub read-words-spec : {M : Type 1} → statement M
-read-words-spec =
+pub read_words_spec : {M : Type 1} → statement M
+read_words_spec =
     tie.close
     (tie.spec
-    invariant-loop
-    decreases-loop
-    loop-holds
-    mul-get-u32
-    get-u32-requires
-    mul-out
-    slice-write-out
-    add-i
-    loop-less
-    loop-again
-    same_length_lem
+    invariant-loop-i
+    decreases-loop-i
+    loop-i-init
+    overflow_mul-i
+    get_u32-requires
+    offset_bounds-out-i
+    bounds-out-i
+    overflow_add-i
+    loop-i-smaller
+    loop-i-preserved
+    shape_of-out
     returns)

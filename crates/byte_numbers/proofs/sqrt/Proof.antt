@@ -1,4 +1,5 @@
 -- `sqrt` meets its contract: the test of the length, then the root's answer by its cases.
+use Rattle.std.proofs.Common.{rules}
 use mathlib.Core.Path.{sym, ◌∙◌, subst}
 use borrow.Author.Rules.{rules}
 use lib.Dec.{T}
@@ -7,84 +8,59 @@ use Rattle.byte_numbers.proofs.Roots.{root_double, other_length, answered, no_ro
 use Rattle.byte_numbers.proofs.sqrt.Statement.{statement}
 use Rattle.byte_numbers.proofs.sqrt.Tie as tie
 
--- places of the proof, each from a later one
-abbrev entry-of-sqrt : tie.After-sqrt → tie.Start
-entry-of-sqrt c = c.before.before.before
-
-abbrev sqrt-of-known-told2 : tie.After-known-told2 → tie.After-sqrt
-sqrt-of-known-told2 c = c.before.before.before
-
-abbrev entry-of-known-told2 : tie.After-known-told2 → tie.Start
-entry-of-known-told2 c = entry-of-sqrt (sqrt-of-known-told2 c)
-
-abbrev sqrt-of-put-u64-arg : tie.After-put-u64-arg → tie.After-sqrt
-sqrt-of-put-u64-arg c = c.before.before.before.before
-
-abbrev entry-of-put-u64-arg : tie.After-put-u64-arg → tie.Start
-entry-of-put-u64-arg c = entry-of-sqrt (sqrt-of-put-u64-arg c)
-
-abbrev answer-of-slice-known2 : tie.After-slice-known2 → tie.After-answer
-answer-of-slice-known2 c = c.before.before.before.before.before
-
-abbrev sqrt-of-slice-known2 : tie.After-slice-known2 → tie.After-sqrt
-sqrt-of-slice-known2 c = (answer-of-slice-known2 c).before.before
-
-abbrev entry-of-slice-known2 : tie.After-slice-known2 → tie.Start
-entry-of-slice-known2 c = entry-of-sqrt (sqrt-of-slice-known2 c)
-
 double : (c : tie.Start) → T (fits binary64 c.args.x)
-double c = subst T (sym c.well-formed.0.1) tt
+double c = subst T (sym c.well_formed.0.1) tt
 
-returns : tie.Need-returns
-returns c = other_length c.before.before.args.x c.before.before.args.root.now c.if1.true
+returns-then-root-ne8 : tie.Need-returns-then-root-ne8
+returns-then-root-ne8 c = other_length c.args.x c.args.root.now c.if-root-ne8.true
 
-sqrt-requires : tie.Need-sqrt-requires
-sqrt-requires c κs = search rules
+sqrt-answer-requires : tie.Need-sqrt-answer-requires
+sqrt-answer-requires c κs = search rules
 
-enum-known-answer : tie.Need-enum-known-answer
-enum-known-answer c = search rules
+enum_known-answer : tie.Need-enum_known-answer
+enum_known-answer c = search rules
 
-float-to-bits-put-u64 : tie.Need-float-to-bits-put-u64
-float-to-bits-put-u64 c = (root_double (entry-of-put-u64-arg c).args.x
-    c.before.before.answer.given.0.0 (double (entry-of-put-u64-arg c))
-    (sym (sqrt-of-put-u64-arg c).sqrt.ensures.0 ∙ c.before.before.answer.given.1)).not_nan
+float_to_bits-y : tie.Need-float_to_bits-y
+float_to_bits-y c = (root_double c.args.x
+    c.answer-1.given.0.0 (double c.before.before.before.before.before.before.before)
+    (sym c.sqrt-answer.ensures.fault ∙ c.answer-1.given.1)).not_nan
 
-put-u64-requires : tie.Need-put-u64-requires
-put-u64-requires c κs = search rules
+put_u64-requires : tie.Need-put_u64-requires
+put_u64-requires c κs = search rules
 
-enum-known-answer-2 : tie.Need-enum-known-answer-2
-enum-known-answer-2 c = search rules
+enum_known-answer-in-Refused-1 : tie.Need-enum_known-answer-in-Refused-1
+enum_known-answer-in-Refused-1 c = search rules
 
-same_length_lem : tie.Need-same-length
-same_length_lem c = search rules
+shape_of-root : tie.Need-shape_of-root
+shape_of-root c = search rules
 
-returns-2 : tie.Need-returns-2
-returns-2 c = let a = answered (entry-of-slice-known2 c).args.x
-    (entry-of-slice-known2 c).args.root.now
-    (answer-of-slice-known2 c).answer.given.0.0
-    (double (entry-of-slice-known2 c))
-    (sqrt-of-slice-known2 c).before.if1.false
-    (sym (sqrt-of-slice-known2 c).sqrt.ensures.0 ∙
-    (answer-of-slice-known2 c).answer.given.1) in
-    (a.0, (c.before.before.put-u64.ensures ∙ a.1.0, (rw c.before.before.put-u64.ensures a.1.1.0, a.1.1.1)))
+returns-in-Is : tie.Need-returns-in-Is
+returns-in-Is c = let a = answered c.args.x
+    c.args.root.now
+    c.answer-1.given.0.0
+    (double c.before.before.before.before.before.before.before.before.before.before)
+    c.if-root-ne8.false
+    (sym c.sqrt-answer.ensures.fault ∙
+    c.answer-1.given.1) in
+    (a.0, (c.put_u64.ensures ∙ a.1.0, (rw c.put_u64.ensures a.1.1.0, a.1.1.1)))
 
-returns-3 : tie.Need-returns-3
-returns-3 c =
-    let args = (entry-of-known-told2 c).args in
-    no_root_lem args.x args.root.now c.before.answer2.given.0.0 (double (entry-of-known-told2 c))
-    (sqrt-of-known-told2 c).before.if1.false (sym (sqrt-of-known-told2 c).sqrt.ensures.0 ∙
-    c.before.answer2.given.1)
+returns-in-Refused : tie.Need-returns-in-Refused
+returns-in-Refused c =
+    let args = c.args in
+    no_root_lem args.x args.root.now c.answer-in-Refused-1.given.0.0 (double c.before.before.before.before.before.before)
+    c.if-root-ne8.false (sym c.sqrt-answer.ensures.fault ∙
+    c.answer-in-Refused-1.given.1)
 
-pub sqrt-spec : {M : Type 1} → statement M
-sqrt-spec =
+pub sqrt_spec : {M : Type 1} → statement M
+sqrt_spec =
     tie.close
     (tie.spec
-    returns
-    sqrt-requires
-    enum-known-answer
-    float-to-bits-put-u64
-    put-u64-requires
-    enum-known-answer-2
-    same_length_lem
-    returns-2
-    returns-3)
+    returns-then-root-ne8
+    sqrt-answer-requires
+    enum_known-answer
+    float_to_bits-y
+    put_u64-requires
+    enum_known-answer-in-Refused-1
+    shape_of-root
+    returns-in-Is
+    returns-in-Refused)

@@ -5,7 +5,10 @@ use Rattle.cost_limit.proofs.in_range.Statement.{statement}
 use Rattle.cost_limit.proofs.in_range.Tie as tie
 
 returns : tie.Need-returns
-returns c n L = L.exact c.args.cost (subst T (sym c.well-formed.1.0.1) tt)
+returns c n L = L.exact c.args.cost (subst T (sym c.well_formed.1.0.1) tt)
 
-pub in-range-spec : {M : Type 1} → statement M
-in-range-spec = tie.close (tie.spec returns)
+pub in_range_spec : {M : Type 1} → statement M
+in_range_spec =
+    tie.close
+    (tie.spec
+    returns)

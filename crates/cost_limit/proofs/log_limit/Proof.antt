@@ -1,4 +1,5 @@
 -- `log_limit` meets its contract: two comparisons with a bound are the test.
+use Rattle.std.proofs.Common.{rules}
 use borrow.Author.Rules.{rules}
 use Rattle.cost_limit.proofs.Limits.{log_limit}
 use Rattle.cost_limit.proofs.log_limit.Statement.{statement}
@@ -10,5 +11,9 @@ bound-requires c κs = search rules
 returns : tie.Need-returns
 returns c = log_limit c.bound.ensures
 
-pub log-limit-spec : {M : Type 1} → statement M
-log-limit-spec = tie.close (tie.spec bound-requires returns)
+pub log_limit_spec : {M : Type 1} → statement M
+log_limit_spec =
+    tie.close
+    (tie.spec
+    bound-requires
+    returns)

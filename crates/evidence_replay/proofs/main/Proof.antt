@@ -4,41 +4,35 @@ use lib.ListN.{length-replicate}
 use Rattle.evidence_replay.proofs.main.Statement.{statement}
 use Rattle.evidence_replay.proofs.main.Tie as tie
 
-slice-aggregate-read-full : tie.Need-slice-aggregate-read-full
-slice-aggregate-read-full c = sym (length-replicate {A = ℕ} 524288 0)
+slice_bounds-read_full-end : tie.Need-slice_bounds-read_full-end
+slice_bounds-read_full-end c = sym (length-replicate {A = ℕ} 524288 0)
 
-read-full-requires : tie.Need-read-full-requires
-read-full-requires c κs = tt
+read_full-length-requires : tie.Need-read_full-length-requires
+read_full-length-requires c κs = tt
 
-array-share-prefix-input : tie.Need-array-share-prefix-input
-array-share-prefix-input c = c.before.read-full.ensures.0
+slice_bounds-input-end : tie.Need-slice_bounds-input-end
+slice_bounds-input-end c = c.read_full-length.ensures.0
 
-slice-aggregate-replay : tie.Need-slice-aggregate-replay
-slice-aggregate-replay c = c.before.before.read-full.ensures.1
+slice_bounds-replay-end : tie.Need-slice_bounds-replay-end
+slice_bounds-replay-end c = c.read_full-length.ensures.1
 
-slice-aggregate-replay-2 : tie.Need-slice-aggregate-replay-2
-slice-aggregate-replay-2 c = sym (length-replicate {A = ℕ} 262145 0)
+slice_bounds-replay-end-2 : tie.Need-slice_bounds-replay-end-2
+slice_bounds-replay-end-2 c = sym (length-replicate {A = ℕ} 262145 0)
 
-slice-aggregate-replay-3 : tie.Need-slice-aggregate-replay-3
-slice-aggregate-replay-3 c = refl
+slice_bounds-replay-end-3 : tie.Need-slice_bounds-replay-end-3
+slice_bounds-replay-end-3 c = refl
 
-replay-requires : tie.Need-replay-requires
-replay-requires c κs = tt
+replay-place-requires : tie.Need-replay-place-requires
+replay-place-requires c κs = tt
 
-slice-aggregate-write-all : tie.Need-slice-aggregate-write-all
-slice-aggregate-write-all c = refl
+write_all-requires : tie.Need-write_all-requires
+write_all-requires c κs = tt
 
-write-all-requires : tie.Need-write-all-requires
-write-all-requires c κs = tt
+print_decimal-requires : tie.Need-print_decimal-requires
+print_decimal-requires c κs = tt
 
-print-decimal-requires : tie.Need-print-decimal-requires
-print-decimal-requires c κs = tt
-
-slice-aggregate-write-all-2 : tie.Need-slice-aggregate-write-all-2
-slice-aggregate-write-all-2 c = refl
-
-write-all-requires-2 : tie.Need-write-all-requires-2
-write-all-requires-2 c κs = tt
+write_all-requires-then-place-eq-BAD : tie.Need-write_all-requires-then-place-eq-BAD
+write_all-requires-then-place-eq-BAD c κs = tt
 
 report-requires : tie.Need-report-requires
 report-requires c κs = tt
@@ -50,17 +44,15 @@ pub main_spec : {M : Type 1} → statement M
 main_spec =
     tie.close
     (tie.spec
-    slice-aggregate-read-full
-    read-full-requires
-    array-share-prefix-input
-    slice-aggregate-replay
-    slice-aggregate-replay-2
-    slice-aggregate-replay-3
-    replay-requires
-    slice-aggregate-write-all
-    write-all-requires
-    print-decimal-requires
-    slice-aggregate-write-all-2
-    write-all-requires-2
+    slice_bounds-read_full-end
+    read_full-length-requires
+    slice_bounds-input-end
+    slice_bounds-replay-end
+    slice_bounds-replay-end-2
+    slice_bounds-replay-end-3
+    replay-place-requires
+    write_all-requires
+    print_decimal-requires
+    write_all-requires-then-place-eq-BAD
     report-requires
     returns)

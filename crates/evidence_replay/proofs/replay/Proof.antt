@@ -11,79 +11,62 @@ abbrev decreases-loop : tie.decreases-loop
 decreases-loop input rows₀ values₀ cases₀ differences₀ place₀ counter₀ end rows values cases differences place counter =
     length input - counter
 
--- places of the proof, each from a later one
-abbrev loop-of-step : tie.After-step invariant-loop decreases-loop → tie.At-loop invariant-loop decreases-loop
-loop-of-step c = c.before.before.before.before.before.before
+new-place-requires : tie.Need-new-place-requires invariant-loop decreases-loop
+new-place-requires c κs = tt
 
-abbrev step-of-then1 : tie.Then1 invariant-loop decreases-loop → tie.After-step invariant-loop decreases-loop
-step-of-then1 c = c.before.before.before.before.before.before
+loop-init : tie.Need-loop-init invariant-loop decreases-loop
+loop-init c = (omega arith, (refl, refl))
 
-abbrev loop-of-then1 : tie.Then1 invariant-loop decreases-loop → tie.At-loop invariant-loop decreases-loop
-loop-of-then1 c = loop-of-step (step-of-then1 c)
+step-place-requires : tie.Need-step-place-requires invariant-loop decreases-loop
+step-place-requires c κs = tt
 
-abbrev step-of-else1 : tie.Else1 invariant-loop decreases-loop → tie.After-step invariant-loop decreases-loop
-step-of-else1 c = c.before.before.before.before.before.before
+shape_of-rows-then-place-ge-BAD : tie.Need-shape_of-rows-then-place-ge-BAD invariant-loop decreases-loop
+shape_of-rows-then-place-ge-BAD c = c.step-place.auto.rows ∙ c.loop.invariant.1.0
 
-abbrev loop-of-else1 : tie.Else1 invariant-loop decreases-loop → tie.At-loop invariant-loop decreases-loop
-loop-of-else1 c = loop-of-step (step-of-else1 c)
+shape_of-values-then-place-ge-BAD : tie.Need-shape_of-values-then-place-ge-BAD invariant-loop decreases-loop
+shape_of-values-then-place-ge-BAD c = c.step-place.auto.values ∙ c.loop.invariant.1.1
 
-new-requires : tie.Need-new-requires invariant-loop decreases-loop
-new-requires c κs = tt
+returns-then-place-ge-BAD : tie.Need-returns-then-place-ge-BAD invariant-loop decreases-loop
+returns-then-place-ge-BAD c = tt
 
-loop-holds : tie.Need-loop-init invariant-loop decreases-loop
-loop-holds c = (omega arith, (refl, refl))
+overflow_step : tie.Need-overflow_step invariant-loop decreases-loop
+overflow_step c = omega arith
 
-step-requires : tie.Need-step-requires invariant-loop decreases-loop
-step-requires c κs = tt
+loop-smaller : tie.Need-loop-smaller invariant-loop decreases-loop
+loop-smaller c = omega arith
 
-same_length_lem : tie.Need-same-length invariant-loop decreases-loop
-same_length_lem c = (step-of-then1 c).step.auto.1.1.0 ∙ (loop-of-then1 c).loop.invariant.1.0
-
-same-length-2 : tie.Need-same-length-2 invariant-loop decreases-loop
-same-length-2 c = (step-of-then1 c).step.auto.1.1.1.0 ∙ (loop-of-then1 c).loop.invariant.1.1
-
-returns : tie.Need-returns invariant-loop decreases-loop
-returns c = tt
-
-add-counter : tie.Need-overflow-add-counter invariant-loop decreases-loop
-add-counter c = omega arith
-
-loop-less : tie.Need-loop-smaller invariant-loop decreases-loop
-loop-less c = omega arith
-
-loop-again : tie.Need-loop-preserved invariant-loop decreases-loop
-loop-again c =
-    let loop = loop-of-else1 c in
-    (omega arith, ((step-of-else1 c).step.auto.1.1.0 ∙ loop.loop.inv.1.0, (step-of-else1 c).step.auto.1.1.1.0 ∙ loop.loop.inv.1.1))
+loop-preserved : tie.Need-loop-preserved invariant-loop decreases-loop
+loop-preserved c =
+    (omega arith, (c.step-place.auto.rows ∙ c.loop.inv.1.0, c.step-place.auto.values ∙ c.loop.inv.1.1))
 
 bad-requires : tie.Need-bad-requires invariant-loop decreases-loop
 bad-requires c κs = tt
 
-same-length-3 : tie.Need-same-length-3 invariant-loop decreases-loop
-same-length-3 c = c.before.before.loop.invariant.1.0
+shape_of-rows : tie.Need-shape_of-rows invariant-loop decreases-loop
+shape_of-rows c = c.loop.invariant.1.0
 
-same-length-4 : tie.Need-same-length-4 invariant-loop decreases-loop
-same-length-4 c = c.before.before.loop.invariant.1.1
+shape_of-values : tie.Need-shape_of-values invariant-loop decreases-loop
+shape_of-values c = c.loop.invariant.1.1
 
-returns-2 : tie.Need-returns-2 invariant-loop decreases-loop
-returns-2 c = tt
+returns : tie.Need-returns invariant-loop decreases-loop
+returns-then-place-ge-BAD c = tt
 
-pub replay-spec : {M : Type 1} → statement M
-replay-spec =
+pub replay_spec : {M : Type 1} → statement M
+replay_spec =
     tie.close
     (tie.spec
     invariant-loop
     decreases-loop
-    new-requires
-    loop-holds
-    step-requires
-    same_length_lem
-    same-length-2
-    returns
-    add-counter
-    loop-less
-    loop-again
+    new-place-requires
+    loop-init
+    step-place-requires
+    shape_of-rows-then-place-ge-BAD
+    shape_of-values-then-place-ge-BAD
+    returns-then-place-ge-BAD
+    overflow_step
+    loop-smaller
+    loop-preserved
     bad-requires
-    same-length-3
-    same-length-4
-    returns-2)
+    shape_of-rows
+    shape_of-values
+    returns)

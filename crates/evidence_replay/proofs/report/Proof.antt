@@ -3,67 +3,67 @@ use Rattle.std.proofs.Common.{◌-◌, ◌≤◌, arith}
 use Rattle.evidence_replay.proofs.report.Statement.{statement}
 use Rattle.evidence_replay.proofs.report.Tie as tie
 
-abbrev invariant-loop : tie.invariant-loop
-invariant-loop cases differences call₀ call = call ≤ 14
+abbrev invariant-loop-call : tie.invariant-loop-call
+invariant-loop-call cases differences call₀ call = call ≤ 14
 
-abbrev decreases-loop : tie.decreases-loop
-decreases-loop cases differences call₀ call = 14 - call
+abbrev decreases-loop-call : tie.decreases-loop-call
+decreases-loop-call cases differences call₀ call = 14 - call
 
-loop-holds : tie.Need-loop-init invariant-loop decreases-loop
-loop-holds c = omega arith
+loop-call-init : tie.Need-loop-call-init invariant-loop-call decreases-loop-call
+loop-call-init c = omega arith
 
-mul-line : tie.Need-overflow-mul-line invariant-loop decreases-loop
-mul-line c = omega arith
+offset_bounds-cases-call : tie.Need-offset_bounds-cases-call invariant-loop-call decreases-loop-call
+offset_bounds-cases-call c = omega arith
 
-element-copy-out-line : tie.Need-element-copy-out-line invariant-loop decreases-loop
-element-copy-out-line c = omega arith
+bounds-cases-call : tie.Need-bounds-cases-call invariant-loop-call decreases-loop-call
+bounds-cases-call c = omega arith
 
-mul-line-2 : tie.Need-overflow-mul-line-2 invariant-loop decreases-loop
-mul-line-2 c = omega arith
+offset_bounds-differences-call : tie.Need-offset_bounds-differences-call invariant-loop-call decreases-loop-call
+offset_bounds-differences-call c = omega arith
 
-element-copy-out-line-2 : tie.Need-element-copy-out-line-2 invariant-loop decreases-loop
-element-copy-out-line-2 c = omega arith
+bounds-differences-call : tie.Need-bounds-differences-call invariant-loop-call decreases-loop-call
+bounds-differences-call c = omega arith
 
-line-requires : tie.Need-line-requires invariant-loop decreases-loop
+line-requires : tie.Need-line-requires invariant-loop-call decreases-loop-call
 line-requires c κs = tt
 
-add-call : tie.Need-overflow-add-call invariant-loop decreases-loop
-add-call c = omega arith
+overflow_step-call : tie.Need-overflow_step-call invariant-loop-call decreases-loop-call
+overflow_step-call c = omega arith
 
-loop-less : tie.Need-loop-smaller invariant-loop decreases-loop
-loop-less c = omega arith
+loop-call-smaller : tie.Need-loop-call-smaller invariant-loop-call decreases-loop-call
+loop-call-smaller c = omega arith
 
-loop-again : tie.Need-loop-preserved invariant-loop decreases-loop
-loop-again c = omega arith
+loop-call-preserved : tie.Need-loop-call-preserved invariant-loop-call decreases-loop-call
+loop-call-preserved c = omega arith
 
-element-copy-out-line-3 : tie.Need-element-copy-out-line-3 invariant-loop decreases-loop
-element-copy-out-line-3 c = omega arith
+bounds-cases-0 : tie.Need-bounds-cases-0 invariant-loop-call decreases-loop-call
+bounds-cases-0 c = omega arith
 
-element-copy-out-line-4 : tie.Need-element-copy-out-line-4 invariant-loop decreases-loop
-element-copy-out-line-4 c = omega arith
+bounds-differences-0 : tie.Need-bounds-differences-0 invariant-loop-call decreases-loop-call
+bounds-differences-0 c = omega arith
 
-line-requires-2 : tie.Need-line-requires-2 invariant-loop decreases-loop
+line-requires-2 : tie.Need-line-requires-2 invariant-loop-call decreases-loop-call
 line-requires-2 c κs = tt
 
-returns : tie.Need-returns invariant-loop decreases-loop
+returns : tie.Need-returns invariant-loop-call decreases-loop-call
 returns c = tt
 
-pub report-spec : {M : Type 1} → statement M
-report-spec =
+pub report_spec : {M : Type 1} → statement M
+report_spec =
     tie.close
     (tie.spec
-    invariant-loop
-    decreases-loop
-    loop-holds
-    mul-line
-    element-copy-out-line
-    mul-line-2
-    element-copy-out-line-2
+    invariant-loop-call
+    decreases-loop-call
+    loop-call-init
+    offset_bounds-cases-call
+    bounds-cases-call
+    offset_bounds-differences-call
+    bounds-differences-call
     line-requires
-    add-call
-    loop-less
-    loop-again
-    element-copy-out-line-3
-    element-copy-out-line-4
+    overflow_step-call
+    loop-call-smaller
+    loop-call-preserved
+    bounds-cases-0
+    bounds-differences-0
     line-requires-2
     returns)

@@ -1,4 +1,5 @@
 -- `columns_fault` meets its contract. The loop's invariant: no difference before j has a fault.
+use Rattle.std.proofs.Common.{rules}
 use mathlib.Core.Path.{◌≡◌, sym, ap, ◌∙◌}
 use mathlib.Core.Bool.{Bool}
 use Prim.Native.Nat.{◌-◌}
@@ -18,95 +19,82 @@ use Rattle.exponents.proofs.Calling.{differences_length, difference_at}
 use Rattle.exponents.proofs.columns_fault.Statement.{statement}
 use Rattle.exponents.proofs.columns_fault.Tie as tie
 
-abbrev invariant-loop : tie.invariant-loop
-invariant-loop v cmax j₀ j = Passed (factors_fault (differences v cmax)) (λ j. unless (factor_fits (get_or (differences v cmax) j nan)) exponent_range)
+abbrev invariant-loop-j : tie.invariant-loop-j
+invariant-loop-j v cmax j₀ j = Passed (factors_fault (differences v cmax)) (λ j. unless (factor_fits (get_or (differences v cmax) j nan)) exponent_range)
     (length (differences v cmax)) j
 
-abbrev decreases-loop : tie.decreases-loop
-decreases-loop v cmax j₀ j = length v - j
+abbrev decreases-loop-j : tie.decreases-loop-j
+decreases-loop-j v cmax j₀ j = length v - j
 
--- places of the proof, each from a later one
-abbrev entry-of-loop : tie.At-loop invariant-loop decreases-loop → tie.Start invariant-loop decreases-loop
-entry-of-loop c = c.before.before.before
+count : (c : tie.At-loop-j invariant-loop-j decreases-loop-j) → length (differences c.args.v.now c.args.cmax.now) ≡ length
+    c.args.v.now
+count c = differences_length c.args.v.now c.args.cmax.now c.requires
 
-abbrev entry-of-shared-slice-known4 : tie.After-shared-slice-known4 invariant-loop decreases-loop → tie.Start invariant-loop decreases-loop
-entry-of-shared-slice-known4 c = entry-of-loop c.before.before.before
-
-abbrev in-loop-of-within-limit : tie.After-within-limit invariant-loop decreases-loop → tie.In-loop invariant-loop decreases-loop
-in-loop-of-within-limit c = c.before.before.before.before
-
-count : (c : tie.At-loop invariant-loop decreases-loop) → length (differences (entry-of-loop c).args.v.now (entry-of-loop c).args.cmax.now) ≡ length
-    (entry-of-loop c).args.v.now
-count c = differences_length (entry-of-loop c).args.v.now (entry-of-loop c).args.cmax.now (entry-of-loop c).requires
-
-loop-holds : tie.Need-loop-init invariant-loop decreases-loop
+loop-j-init : tie.Need-loop-j-init invariant-loop-j decreases-loop-j
 unfolding factors_fault
-loop-holds c = from_zero _ _
+loop-j-init c = from_zero _ _
 
-mul-exponent-of : tie.Need-overflow-mul-exponent-of invariant-loop decreases-loop
-mul-exponent-of c = search rules
+offset_bounds-v-j : tie.Need-offset_bounds-v-j invariant-loop-j decreases-loop-j
+offset_bounds-v-j c = search rules
 
-shared-slice-read-exponent-of : tie.Need-shared-slice-read-exponent-of invariant-loop decreases-loop
-shared-slice-read-exponent-of c = search rules
+bounds-v-j : tie.Need-bounds-v-j invariant-loop-j decreases-loop-j
+bounds-v-j c = search rules
 
-mul-exponent-of-2 : tie.Need-overflow-mul-exponent-of-2 invariant-loop decreases-loop
-mul-exponent-of-2 c = search rules
+offset_bounds-cmax-j : tie.Need-offset_bounds-cmax-j invariant-loop-j decreases-loop-j
+offset_bounds-cmax-j c = search rules
 
-shared-slice-read-exponent-of-2 : tie.Need-shared-slice-read-exponent-of-2 invariant-loop decreases-loop
-shared-slice-read-exponent-of-2 c = omega (arith, c.before.before.loop-test.true, (entry-of-shared-slice-known4 c).requires)
+bounds-cmax-j : tie.Need-bounds-cmax-j invariant-loop-j decreases-loop-j
+bounds-cmax-j c = omega (arith, c.loop-j-test.true, c.requires)
 
-exponent-of-requires : tie.Need-exponent-of-requires invariant-loop decreases-loop
-exponent-of-requires c κs = tt
+exponent_of-exponent-requires : tie.Need-exponent_of-exponent-requires invariant-loop-j decreases-loop-j
+exponent_of-exponent-requires c κs = tt
 
-within-limit-requires : tie.Need-within-limit-requires invariant-loop decreases-loop
-within-limit-requires c κs = tt
+within_limit-requires : tie.Need-within_limit-requires invariant-loop-j decreases-loop-j
+within_limit-requires c κs = tt
 
 -- the test at j, of the exponent that was found there
-tested : (c : tie.After-within-limit invariant-loop decreases-loop) → let l = c.before.before.before.before.before in let a = (entry-of-loop l).args in
-    factor_fits (get_or (differences a.v.now a.cmax.now) l.loop.j nan) ≡ c.within-limit.result
+tested : (c : tie.After-within_limit invariant-loop-j decreases-loop-j) → let a = c.args in
+    factor_fits (get_or (differences a.v.now a.cmax.now) c.loop-j.j nan) ≡ c.within_limit.result
 tested c =
-    let l = c.before.before.before.before.before in
-    let a = (entry-of-loop l).args in
-    ap factor_fits (difference_at a.v.now a.cmax.now (entry-of-loop l).requires l.loop.j (in-loop-of-within-limit c).loop-test.true)
-    ∙ sym (c.within-limit.ensures ∙ ap within_limit (read_is c.before.exponent-of.result c.before.exponent-of.type-inv)
-    ∙ c.before.exponent-of.ensures.fits)
+    let a = c.args in
+    ap factor_fits (difference_at a.v.now a.cmax.now c.requires c.loop-j.j c.loop-j-test.true)
+    ∙ sym (c.within_limit.ensures ∙ ap within_limit (read_is c.exponent_of-exponent.result c.exponent_of-exponent.type-inv)
+    ∙ c.exponent_of-exponent.ensures.fits)
 
-returns : tie.Need-returns invariant-loop decreases-loop
-returns c =
-    let l = c.before.before.before.before.before.before in
-    found _ _ l.loop.j l.loop.invariant (omega (arith, (in-loop-of-within-limit c.before).loop-test.taken, count l))
-    (ap (λ (t : Bool). unless t exponent_range) (tested c.before ∙ not-true c.before.within-limit.result c.if1.true)) (omega arith)
+returns-then-not-within_limit : tie.Need-returns-then-not-within_limit invariant-loop-j decreases-loop-j
+returns-then-not-within_limit c =
+    found _ _ c.loop-j.j c.loop-j.invariant (omega (arith, c.loop-j-test.taken, count c.before.before.before.before.before.before))
+    (ap (λ (t : Bool). unless t exponent_range) (tested c.before ∙ not-true c.within_limit.result c.if-not-within_limit.true)) (omega arith)
 
-add-j : tie.Need-overflow-add-j invariant-loop decreases-loop
-add-j c = search rules
+overflow_add-j : tie.Need-overflow_add-j invariant-loop-j decreases-loop-j
+overflow_add-j c = search rules
 
-loop-less : tie.Need-loop-smaller invariant-loop decreases-loop
-loop-less c = search rules
+loop-j-smaller : tie.Need-loop-j-smaller invariant-loop-j decreases-loop-j
+loop-j-smaller c = search rules
 
-loop-again : tie.Need-loop-preserved invariant-loop decreases-loop
-loop-again c =
-    let l = c.before.before.before.before.before.before in
-    pass _ _ l.loop.j l.loop.invariant (omega (arith, (in-loop-of-within-limit c.before).loop-test.taken, count l))
-    (ap (λ (t : Bool). unless t exponent_range) (tested c.before ∙ not-false c.before.within-limit.result c.if1.false))
+loop-j-preserved : tie.Need-loop-j-preserved invariant-loop-j decreases-loop-j
+loop-j-preserved c =
+    pass _ _ c.loop-j.j c.loop-j.invariant (omega (arith, c.loop-j-test.taken, count c.before.before.before.before.before.before))
+    (ap (λ (t : Bool). unless t exponent_range) (tested c.before ∙ not-false c.within_limit.result c.if-not-within_limit.false))
 
-returns-2 : tie.Need-returns-2 invariant-loop decreases-loop
-returns-2 c = done _ _ c.before.loop.j c.before.loop.invariant (omega (arith, c.loop-test.false, count c.before))
+returns : tie.Need-returns invariant-loop-j decreases-loop-j
+returns-then-not-within_limit c = done _ _ c.loop-j.j c.loop-j.invariant (omega (arith, c.loop-j-test.false, count c.before))
 
-pub columns-fault-spec : {M : Type 1} → statement M
-columns-fault-spec =
+pub columns_fault_spec : {M : Type 1} → statement M
+columns_fault_spec =
     tie.close
     (tie.spec
-    invariant-loop
-    decreases-loop
-    loop-holds
-    mul-exponent-of
-    shared-slice-read-exponent-of
-    mul-exponent-of-2
-    shared-slice-read-exponent-of-2
-    exponent-of-requires
-    within-limit-requires
-    returns
-    add-j
-    loop-less
-    loop-again
-    returns-2)
+    invariant-loop-j
+    decreases-loop-j
+    loop-j-init
+    offset_bounds-v-j
+    bounds-v-j
+    offset_bounds-cmax-j
+    bounds-cmax-j
+    exponent_of-exponent-requires
+    within_limit-requires
+    returns-then-not-within_limit
+    overflow_add-j
+    loop-j-smaller
+    loop-j-preserved
+    returns)

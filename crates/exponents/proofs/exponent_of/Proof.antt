@@ -18,56 +18,65 @@ use Rattle.exponents.proofs.exponent_of.Statement.{statement}
 use Rattle.exponents.proofs.exponent_of.Tie as tie
 
 double : (c : tie.Start) → T (fits binary64 c.args.factor)
-double c = subst T (sym c.well-formed.0.1) tt
+double c = subst T (sym c.well_formed.0.1) tt
 
 -- the factor, moved
 abbrev moved : tie.Start → Float
 moved c = add binary64 c.args.factor middle
 
-place : (c : tie.Else1) → Counted (moved c.before)
+place : (c : tie.Else-not-moved) → Counted (moved c.before)
 place c =
     let y = moved c.before in
-    let t = both (le least y) (le y most) (not-false (le least y && le y most) c.if1.false) in
-    counted y (add-fits binary64 c.before.args.factor middle) t.0 t.1
+    let t = both (le least y) (le y most) (not-false (le least y && le y most) c.if-not-moved.false) in
+    counted y (add-fits binary64 c.args.factor middle) t.0 t.1
 
-returns : tie.Need-returns
-returns c =
-    let x = c.before.args.factor in
+returns-then-not-moved : tie.Need-returns-then-not-moved
+returns-then-not-moved c =
+    let x = c.args.factor in
     exponent_none x
-    (λ t. let p = passes x (double c.before) t in false≢true (sym (ap₂ (λ (a b : Bool). not (a && b)) p.0 p.1) ∙ c.if1.true))
+    (λ t. let p = passes x (double c.before) t in false≢true (sym (ap₂ (λ (a b : Bool). not (a && b)) p.0 p.1) ∙ c.if-not-moved.true))
 
-returns-2 : tie.Need-returns-2
+returns-then-moved-factor : tie.Need-returns-then-moved-factor
 unfolding ne
-returns-2 c =
-    let x = c.before.before.args.factor in
-    exponent_none x (λ t. let p = passes x (double c.before.before) t in false≢true (sym (ap not p.2) ∙ c.if2.true))
+returns-then-moved-factor c =
+    let x = c.args.factor in
+    exponent_none x (λ t. let p = passes x (double c.before.before) t in false≢true (sym (ap not p.2) ∙ c.if-moved-factor.true))
 
-float-to-bits-raised : tie.Need-float-to-bits-raised
-float-to-bits-raised c = let p = place c.before in
+float_to_bits-raised : tie.Need-float_to_bits-raised
+float_to_bits-raised c = let p = place c.before in
     (ordered (moved c.before.before) (number_whole (moved c.before.before) (pos p.number) p.whole)).not_nan
 
-sub-raised : tie.Need-overflow-sub-raised
-sub-raised c = let p = place c.before in omega (arith, p.bits, p.low)
+overflow_sub-raised : tie.Need-overflow_sub-raised
+overflow_sub-raised c = let p = place c.before in omega (arith, p.bits, p.low)
 
-cast-result : tie.Need-overflow-cast-result
-cast-result c = raised_fits (place c.before)
+overflow_cast-result : tie.Need-overflow_cast-result
+overflow_cast-result c = raised_fits (place c.before)
 
 -- the difference, as it is read
-read : (c : tie.Else2) → let q = raised_bits (moved c.before.before) in to_z w32 (of_z w32 (pos q)) -ℤ to_z w32 134217728 ≡ pos q -ℤ pos 134217728
+read : (c : tie.Else-moved-factor) → let q = raised_bits (moved c.before.before) in to_z w32 (of_z w32 (pos q)) -ℤ to_z w32 134217728 ≡ pos q -ℤ pos 134217728
 read c = let p = place c.before in ap (λ (z : ℤ). z -ℤ pos 134217728) (to_z-of_z w32 (pos (raised_bits (moved c.before.before))) (raised_fits p))
 
-sub-result : tie.Need-overflow-sub-result
-sub-result c = subst (SFits w32) (sym (read c)) (lowered_fits (place c.before))
+overflow_sub-result : tie.Need-overflow_sub-result
+overflow_sub-result c = subst (SFits w32) (sym (read c)) (lowered_fits (place c.before))
 
-returns-3 : tie.Need-returns-3
+returns : tie.Need-returns
 unfolding ne
-returns-3 c =
-    let x = c.before.before.args.factor in
+returns-then-not-moved c =
+    let x = c.args.factor in
     let y = moved c.before.before in
     let p = place c.before in
     let r = pos (raised_bits y) -ℤ pos 134217728 in
     subst (Exponent x) (sym (ap (λ (z : ℤ). to_z w32 (of_z w32 z)) (read c) ∙ to_z-of_z w32 r (lowered_fits p)))
-    (exponent_found x y (double c.before.before) p (not-false (eq (sub binary64 y middle) x) c.if2.false))
+    (exponent_found x y (double c.before.before) p (not-false (eq (sub binary64 y middle) x) c.if-moved-factor.false))
 
-pub exponent-of-spec : {M : Type 1} → statement M
-exponent-of-spec = tie.close (tie.spec returns returns-2 float-to-bits-raised sub-raised cast-result sub-result returns-3)
+pub exponent_of_spec : {M : Type 1} → statement M
+exponent_of_spec =
+    tie.close
+    (tie.spec
+    returns-then-not-moved
+    returns-then-moved-factor
+    float_to_bits-raised
+    overflow_sub-raised
+    overflow_cast-result
+    overflow_sub-result
+    returns)

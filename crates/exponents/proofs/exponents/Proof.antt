@@ -1,4 +1,5 @@
 -- `exponents` meets its contract: each refusal is the first fault of the chain and leaves both slices; after all tests they are written.
+use Rattle.std.proofs.Common.{rules}
 use mathlib.Core.Path.{◌≡◌, sym, ◌∙◌}
 use mathlib.Core.List.{List}
 use lib.IntN.{ℤ}
@@ -22,99 +23,81 @@ abbrev columns : tie.Start → List ℤ
 columns s = s.args.column-exponents.now
 
 -- ---- places, each from a later one
-abbrev start : tie.Else1 → tie.Start
-start c = c.before.before.before.before.before
-
-abbrev else1 : tie.Else2 → tie.Else1
-else1 c = c.before.before
-
-abbrev else2 : tie.Else3 → tie.Else2
-else2 c = c.before.before
-
 -- ---- a test that was passed found nothing
-no-size-fault : (c : tie.Else1) → let s = start c in size_fault s.args.n 0 0 (lengths_fit s.args.n (lent s) (length (rows s)) (length (columns s))) ≡ 0
+no-size-fault : (c : tie.Else-sizes-ne-ACCEPTED) → size_fault c.args.n 0 0 (lengths_fit c.args.n (lent c.before.before.before.before.before) (length (rows c.before.before.before.before.before)) (length (columns c.before.before.before.before.before))) ≡ 0
 unfolding lengths_fit
-no-size-fault c = sym c.before.size-fault.ensures ∙ c.if1.false
+no-size-fault c = sym c.size_fault-sizes.ensures ∙ c.if-sizes-ne-ACCEPTED.false
 
-fit : (c : tie.Else1) → let s = start c in Fitting s.args.n (lent s) (length (rows s)) (length (columns s))
-fit c = let s = start c in fitting s.args.n (lent s) (length (rows s)) (length (columns s)) (no-size-fault c)
+fit : (c : tie.Else-sizes-ne-ACCEPTED) → Fitting c.args.n (lent c.before.before.before.before.before) (length (rows c.before.before.before.before.before)) (length (columns c.before.before.before.before.before))
+fit c = fitting c.args.n (lent c.before.before.before.before.before) (length (rows c.before.before.before.before.before)) (length (columns c.before.before.before.before.before)) (no-size-fault c)
 
-no-row-fault : (c : tie.Else2) → factors_fault (row_factors (lent (start (else1 c)))) ≡ 0
-no-row-fault c = sym c.before.rows-fault.ensures ∙ c.if2.false
+no-row-fault : (c : tie.Else-rows-ne-ACCEPTED) → factors_fault (row_factors (lent c.before.before.before.before.before.before.before)) ≡ 0
+no-row-fault c = sym c.rows_fault-rows.ensures ∙ c.if-rows-ne-ACCEPTED.false
 
-no-column-fault : (c : tie.Else3) → factors_fault (column_factors (lent (start (else1 (else2 c))))) ≡ 0
-no-column-fault c = sym c.before.columns-fault.ensures ∙ c.if3.false
+no-column-fault : (c : tie.Else-columns-ne-ACCEPTED) → factors_fault (column_factors (lent c.before.before.before.before.before.before.before.before.before)) ≡ 0
+no-column-fault c = sym c.columns_fault-columns.ensures ∙ c.if-columns-ne-ACCEPTED.false
 
-no_fault : (c : tie.Else3) → let s = start (else1 (else2 c)) in exponents_fault s.args.n (lent s) (length (rows s)) (length (columns s)) ≡ 0
+no_fault : (c : tie.Else-columns-ne-ACCEPTED) → exponents_fault c.args.n (lent c.before.before.before.before.before.before.before.before.before) (length (rows c.before.before.before.before.before.before.before.before.before)) (length (columns c.before.before.before.before.before.before.before.before.before)) ≡ 0
 unfolding exponents_fault
-no_fault c = or-none (no-size-fault (else1 (else2 c))) ∙ or-none (no-row-fault (else2 c)) ∙ no-column-fault c
+no_fault c = or-none (no-size-fault c.before.before.before.before) ∙ or-none (no-row-fault c.before.before) ∙ no-column-fault c
 
-size-fault-requires : tie.Need-size-fault-requires
-size-fault-requires c κs = search rules
+size_fault-sizes-requires : tie.Need-size_fault-sizes-requires
+size_fault-sizes-requires c κs = search rules
+
+returns-then-sizes-ne-ACCEPTED : tie.Need-returns-then-sizes-ne-ACCEPTED
+unfolding exponents_fault lengths_fit
+returns-then-sizes-ne-ACCEPTED c =
+    refuses c.args.n (lent c.before.before.before.before.before) (rows c.before.before.before.before.before) (columns c.before.before.before.before.before) (answer_first _ c.size_fault-sizes.ensures c.if-sizes-ne-ACCEPTED.true) c.if-sizes-ne-ACCEPTED.true
+
+rows_fault-rows-requires : tie.Need-rows_fault-rows-requires
+rows_fault-rows-requires c κs = search rules
+
+returns-then-rows-ne-ACCEPTED : tie.Need-returns-then-rows-ne-ACCEPTED
+unfolding exponents_fault lengths_fit
+returns-then-rows-ne-ACCEPTED c =
+    refuses c.args.n (lent c.before.before.before.before.before.before.before) (rows c.before.before.before.before.before.before.before) (columns c.before.before.before.before.before.before.before) (answer_second c.size_fault-sizes.ensures c.if-sizes-ne-ACCEPTED.false
+    (answer_first _ c.rows_fault-rows.ensures c.if-rows-ne-ACCEPTED.true)) c.if-rows-ne-ACCEPTED.true
+
+columns_fault-columns-requires : tie.Need-columns_fault-columns-requires
+columns_fault-columns-requires c κs = let f = fit c.before.before in f.of_cmax ∙ sym f.of_v
+
+returns-then-columns-ne-ACCEPTED : tie.Need-returns-then-columns-ne-ACCEPTED
+unfolding exponents_fault lengths_fit
+returns-then-columns-ne-ACCEPTED c =
+    refuses c.args.n (lent c.before.before.before.before.before.before.before.before.before) (rows c.before.before.before.before.before.before.before.before.before) (columns c.before.before.before.before.before.before.before.before.before)
+    (answer_second c.size_fault-sizes.ensures c.if-sizes-ne-ACCEPTED.left
+    (answer_second c.rows_fault-rows.ensures c.if-rows-ne-ACCEPTED.false c.columns_fault-columns.ensures)) c.if-columns-ne-ACCEPTED.true
+
+write_rows-requires : tie.Need-write_rows-requires
+write_rows-requires c κs = let f = fit c.before.before.before.before.before in (f.of_rows ∙ sym f.of_u, no-row-fault c.before.before.before)
+
+write_columns-requires : tie.Need-write_columns-requires
+write_columns-requires c κs =
+    let f = fit c.before.before.before.before.before.before.before.before in
+    ((f.of_cmax ∙ sym f.of_v, f.of_columns ∙ sym f.of_v), no-column-fault c.before.before.before.before)
+
+shape_of-row_exponents : tie.Need-shape_of-row_exponents
+shape_of-row_exponents c = search rules
+
+shape_of-column_exponents : tie.Need-shape_of-column_exponents
+shape_of-column_exponents c = search rules
 
 returns : tie.Need-returns
-unfolding exponents_fault lengths_fit
-returns c =
-    let s = c.before.before.before.before.before in
-    refuses s.args.n (lent s) (rows s) (columns s) (answer_first _ c.before.size-fault.ensures c.if1.true) c.if1.true
+returns-then-sizes-ne-ACCEPTED c =
+    accepts c.args.n (lent c.before.before.before.before.before.before.before.before.before.before.before.before.before.before.before) (rows c.before.before.before.before.before.before.before.before.before.before.before.before.before.before.before) (columns c.before.before.before.before.before.before.before.before.before.before.before.before.before.before.before) (no_fault c.before.before.before.before.before.before) c.write_rows.ensures c.write_columns.ensures
 
-rows-fault-requires : tie.Need-rows-fault-requires
-rows-fault-requires c κs = search rules
-
-returns-2 : tie.Need-returns-2
-unfolding exponents_fault lengths_fit
-returns-2 c =
-    let e = c.before.before in
-    let s = start e in
-    refuses s.args.n (lent s) (rows s) (columns s) (answer_second e.before.size-fault.ensures e.if1.false
-    (answer_first _ c.before.rows-fault.ensures c.if2.true)) c.if2.true
-
-columns-fault-requires : tie.Need-columns-fault-requires
-columns-fault-requires c κs = let f = fit (else1 c) in f.of_cmax ∙ sym f.of_v
-
-returns-3 : tie.Need-returns-3
-unfolding exponents_fault lengths_fit
-returns-3 c =
-    let f = c.before.before in
-    let e = else1 f in
-    let s = start e in
-    refuses s.args.n (lent s) (rows s) (columns s)
-    (answer_second e.before.size-fault.ensures e.if1.left
-    (answer_second f.before.rows-fault.ensures f.if2.false c.before.columns-fault.ensures)) c.if3.true
-
-write-rows-requires : tie.Need-write-rows-requires
-write-rows-requires c κs = let d = c.before in let f = fit (else1 (else2 d)) in (f.of_rows ∙ sym f.of_u, no-row-fault (else2 d))
-
-write-columns-requires : tie.Need-write-columns-requires
-write-columns-requires c κs =
-    let d = c.before.before.before.before in
-    let f = fit (else1 (else2 d)) in
-    ((f.of_cmax ∙ sym f.of_v, f.of_columns ∙ sym f.of_v), no-column-fault d)
-
-same_length_lem : tie.Need-same-length
-same_length_lem c = search rules
-
-same-length-2 : tie.Need-same-length-2
-same-length-2 c = search rules
-
-returns-4 : tie.Need-returns-4
-returns-4 c =
-    let d = c.before.before.before.before.before.before in
-    let s = start (else1 (else2 d)) in
-    accepts s.args.n (lent s) (rows s) (columns s) (no_fault d) c.before.before.before.before.write-rows.ensures c.before.write-columns.ensures
-
-pub exponents-spec : {M : Type 1} → statement M
-exponents-spec =
+pub exponents_spec : {M : Type 1} → statement M
+exponents_spec =
     tie.close
     (tie.spec
-    size-fault-requires
-    returns
-    rows-fault-requires
-    returns-2
-    columns-fault-requires
-    returns-3
-    write-rows-requires
-    write-columns-requires
-    same_length_lem
-    same-length-2
-    returns-4)
+    size_fault-sizes-requires
+    returns-then-sizes-ne-ACCEPTED
+    rows_fault-rows-requires
+    returns-then-rows-ne-ACCEPTED
+    columns_fault-columns-requires
+    returns-then-columns-ne-ACCEPTED
+    write_rows-requires
+    write_columns-requires
+    shape_of-row_exponents
+    shape_of-column_exponents
+    returns)

@@ -1,4 +1,5 @@
 -- `rows_fault` meets its contract. The loop's invariant: no factor before i has a fault.
+use Rattle.std.proofs.Common.{rules}
 use mathlib.Core.Path.{◌≡◌, sym, ap, ◌∙◌}
 use mathlib.Core.Bool.{Bool}
 use Prim.Native.Nat.{◌-◌}
@@ -17,68 +18,66 @@ use Rattle.exponents.specs.Call.{factors_fault}
 use Rattle.exponents.proofs.rows_fault.Statement.{statement}
 use Rattle.exponents.proofs.rows_fault.Tie as tie
 
-abbrev invariant-loop : tie.invariant-loop
-invariant-loop u i₀ i = Passed (factors_fault u) (λ i. unless (factor_fits (get_or u i nan)) exponent_range) (length u) i
+abbrev invariant-loop-i : tie.invariant-loop-i
+invariant-loop-i u i₀ i = Passed (factors_fault u) (λ i. unless (factor_fits (get_or u i nan)) exponent_range) (length u) i
 
-abbrev decreases-loop : tie.decreases-loop
-decreases-loop u i₀ i = length u - i
+abbrev decreases-loop-i : tie.decreases-loop-i
+decreases-loop-i u i₀ i = length u - i
 
-loop-holds : tie.Need-loop-init invariant-loop decreases-loop
+loop-i-init : tie.Need-loop-i-init invariant-loop-i decreases-loop-i
 unfolding factors_fault
-loop-holds c = from_zero _ _
+loop-i-init c = from_zero _ _
 
-mul-exponent-of : tie.Need-overflow-mul-exponent-of invariant-loop decreases-loop
-mul-exponent-of c = search rules
+offset_bounds-u-i : tie.Need-offset_bounds-u-i invariant-loop-i decreases-loop-i
+offset_bounds-u-i c = search rules
 
-shared-slice-read-exponent-of : tie.Need-shared-slice-read-exponent-of invariant-loop decreases-loop
-shared-slice-read-exponent-of c = search rules
+bounds-u-i : tie.Need-bounds-u-i invariant-loop-i decreases-loop-i
+bounds-u-i c = search rules
 
-exponent-of-requires : tie.Need-exponent-of-requires invariant-loop decreases-loop
-exponent-of-requires c κs = tt
+exponent_of-exponent-requires : tie.Need-exponent_of-exponent-requires invariant-loop-i decreases-loop-i
+exponent_of-exponent-requires c κs = tt
 
-within-limit-requires : tie.Need-within-limit-requires invariant-loop decreases-loop
-within-limit-requires c κs = tt
+within_limit-requires : tie.Need-within_limit-requires invariant-loop-i decreases-loop-i
+within_limit-requires c κs = tt
 
 -- the test at i, of the exponent that was found there
-tested : (c : tie.After-within-limit invariant-loop decreases-loop) → let l = c.before.before.before.before in
-    factor_fits (get_or l.before.before.args.u.now l.loop.i nan) ≡ c.within-limit.result
-tested c = sym (c.within-limit.ensures ∙ ap within_limit (read_is c.before.exponent-of.result c.before.exponent-of.type-inv)
-    ∙ c.before.exponent-of.ensures.fits)
+tested : (c : tie.After-within_limit invariant-loop-i decreases-loop-i) → 
+    factor_fits (get_or c.args.u.now c.loop-i.i nan) ≡ c.within_limit.result
+tested c = sym (c.within_limit.ensures ∙ ap within_limit (read_is c.exponent_of-exponent.result c.exponent_of-exponent.type-inv)
+    ∙ c.exponent_of-exponent.ensures.fits)
 
-returns : tie.Need-returns invariant-loop decreases-loop
-returns c =
-    let l = c.before.before.before.before.before in
-    found _ _ l.loop.i l.loop.invariant c.before.before.before.before.loop-test.true
-    (ap (λ (t : Bool). unless t exponent_range) (tested c.before ∙ not-true c.before.within-limit.result c.if1.true)) (omega arith)
+returns-then-not-within_limit : tie.Need-returns-then-not-within_limit invariant-loop-i decreases-loop-i
+returns-then-not-within_limit c =
+    found _ _ c.loop-i.i c.loop-i.invariant c.loop-i-test.true
+    (ap (λ (t : Bool). unless t exponent_range) (tested c.before ∙ not-true c.within_limit.result c.if-not-within_limit.true)) (omega arith)
 
-add-i : tie.Need-overflow-add-i invariant-loop decreases-loop
-add-i c = search rules
+overflow_add-i : tie.Need-overflow_add-i invariant-loop-i decreases-loop-i
+overflow_add-i c = search rules
 
-loop-less : tie.Need-loop-smaller invariant-loop decreases-loop
-loop-less c = search rules
+loop-i-smaller : tie.Need-loop-i-smaller invariant-loop-i decreases-loop-i
+loop-i-smaller c = search rules
 
-loop-again : tie.Need-loop-preserved invariant-loop decreases-loop
-loop-again c =
-    let l = c.before.before.before.before.before in
-    pass _ _ l.loop.i l.loop.invariant c.before.before.before.before.loop-test.true
-    (ap (λ (t : Bool). unless t exponent_range) (tested c.before ∙ not-false c.before.within-limit.result c.if1.false))
+loop-i-preserved : tie.Need-loop-i-preserved invariant-loop-i decreases-loop-i
+loop-i-preserved c =
+    pass _ _ c.loop-i.i c.loop-i.invariant c.loop-i-test.true
+    (ap (λ (t : Bool). unless t exponent_range) (tested c.before ∙ not-false c.within_limit.result c.if-not-within_limit.false))
 
-returns-2 : tie.Need-returns-2 invariant-loop decreases-loop
-returns-2 c = done _ _ c.before.loop.i c.before.loop.invariant c.loop-test.false
+returns : tie.Need-returns invariant-loop-i decreases-loop-i
+returns-then-not-within_limit c = done _ _ c.loop-i.i c.loop-i.invariant c.loop-i-test.false
 
-pub rows-fault-spec : {M : Type 1} → statement M
-rows-fault-spec =
+pub rows_fault_spec : {M : Type 1} → statement M
+rows_fault_spec =
     tie.close
     (tie.spec
-    invariant-loop
-    decreases-loop
-    loop-holds
-    mul-exponent-of
-    shared-slice-read-exponent-of
-    exponent-of-requires
-    within-limit-requires
-    returns
-    add-i
-    loop-less
-    loop-again
-    returns-2)
+    invariant-loop-i
+    decreases-loop-i
+    loop-i-init
+    offset_bounds-u-i
+    bounds-u-i
+    exponent_of-exponent-requires
+    within_limit-requires
+    returns-then-not-within_limit
+    overflow_add-i
+    loop-i-smaller
+    loop-i-preserved
+    returns)

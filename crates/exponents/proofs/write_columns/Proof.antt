@@ -1,4 +1,5 @@
 -- `write_columns` meets its contract. The loop's invariant: the exponents before j are those of the definition.
+use Rattle.std.proofs.Common.{rules}
 use mathlib.Core.Path.{◌≡◌, refl, sym, ◌∙◌, subst}
 use mathlib.Core.List.{List, map}
 use Prim.Native.Nat.{ℕ, ◌-◌, ◌≤◌, ◌<◌}
@@ -17,105 +18,93 @@ use Rattle.exponents.proofs.Calling.{differences_length, difference_at, factor_f
 use Rattle.exponents.proofs.write_columns.Statement.{statement}
 use Rattle.exponents.proofs.write_columns.Tie as tie
 
-abbrev invariant-loop : tie.invariant-loop
-invariant-loop v cmax exponents₀ j₀ exponents j = (j ≤ length v) × (length exponents ≡ length v) × (take j exponents ≡ take j (map exponent_of (differences v cmax)))
+abbrev invariant-loop-j : tie.invariant-loop-j
+invariant-loop-j v cmax exponents₀ j₀ exponents j = (j ≤ length v) × (length exponents ≡ length v) × (take j exponents ≡ take j (map exponent_of (differences v cmax)))
 
-abbrev decreases-loop : tie.decreases-loop
-decreases-loop v cmax exponents₀ j₀ exponents j = length v - j
+abbrev decreases-loop-j : tie.decreases-loop-j
+decreases-loop-j v cmax exponents₀ j₀ exponents j = length v - j
 
--- places of the proof, each from a later one
-abbrev entry-of-loop : tie.At-loop invariant-loop decreases-loop → tie.Start invariant-loop decreases-loop
-entry-of-loop c = c.before.before.before
+abbrev factors : tie.At-loop-j invariant-loop-j decreases-loop-j → List Float
+factors c = differences c.args.v.now c.args.cmax.now
 
-abbrev entry-of-shared-slice-known4 : tie.After-shared-slice-known4 invariant-loop decreases-loop → tie.Start invariant-loop decreases-loop
-entry-of-shared-slice-known4 c = entry-of-loop c.before.before.before
+count : (c : tie.At-loop-j invariant-loop-j decreases-loop-j) → length (factors c) ≡ length c.args.v.now
+count c = differences_length c.args.v.now c.args.cmax.now c.requires.cmax_len.0
 
-abbrev in-loop-of-exponent-of : tie.After-exponent-of invariant-loop decreases-loop → tie.In-loop invariant-loop decreases-loop
-in-loop-of-exponent-of c = c.before.before.before
+loop-j-init : tie.Need-loop-j-init invariant-loop-j decreases-loop-j
+loop-j-init c = (omega arith, c.requires.cmax_len.1, refl)
 
-abbrev factors : tie.At-loop invariant-loop decreases-loop → List Float
-factors c = differences (entry-of-loop c).args.v.now (entry-of-loop c).args.cmax.now
+offset_bounds-v-j : tie.Need-offset_bounds-v-j invariant-loop-j decreases-loop-j
+offset_bounds-v-j c = search rules
 
-count : (c : tie.At-loop invariant-loop decreases-loop) → length (factors c) ≡ length (entry-of-loop c).args.v.now
-count c = differences_length (entry-of-loop c).args.v.now (entry-of-loop c).args.cmax.now (entry-of-loop c).requires.0.0
+bounds-v-j : tie.Need-bounds-v-j invariant-loop-j decreases-loop-j
+bounds-v-j c = search rules
 
-loop-holds : tie.Need-loop-init invariant-loop decreases-loop
-loop-holds c = (omega arith, c.before.before.requires.0.1, refl)
+offset_bounds-cmax-j : tie.Need-offset_bounds-cmax-j invariant-loop-j decreases-loop-j
+offset_bounds-cmax-j c = search rules
 
-mul-exponent-of : tie.Need-overflow-mul-exponent-of invariant-loop decreases-loop
-mul-exponent-of c = search rules
+bounds-cmax-j : tie.Need-bounds-cmax-j invariant-loop-j decreases-loop-j
+bounds-cmax-j c = omega (arith, c.loop-j-test.true, c.requires.cmax_len.0)
 
-shared-slice-read-exponent-of : tie.Need-shared-slice-read-exponent-of invariant-loop decreases-loop
-shared-slice-read-exponent-of c = search rules
+exponent_of-requires : tie.Need-exponent_of-requires invariant-loop-j decreases-loop-j
+exponent_of-requires c κs = tt
 
-mul-exponent-of-2 : tie.Need-overflow-mul-exponent-of-2 invariant-loop decreases-loop
-mul-exponent-of-2 c = search rules
+offset_bounds-exponents-j : tie.Need-offset_bounds-exponents-j invariant-loop-j decreases-loop-j
+offset_bounds-exponents-j c = omega (arith, c.loop-j-test.true, c.well_formed.0.1)
 
-shared-slice-read-exponent-of-2 : tie.Need-shared-slice-read-exponent-of-2 invariant-loop decreases-loop
-shared-slice-read-exponent-of-2 c = omega (arith, c.before.before.loop-test.true, (entry-of-shared-slice-known4 c).requires.0.0)
+bounds-exponents-j : tie.Need-bounds-exponents-j invariant-loop-j decreases-loop-j
+bounds-exponents-j c = omega (arith, c.loop-j-test.true, c.loop-j.invariant.1)
 
-exponent-of-requires : tie.Need-exponent-of-requires invariant-loop decreases-loop
-exponent-of-requires c κs = tt
+overflow_add-j : tie.Need-overflow_add-j invariant-loop-j decreases-loop-j
+overflow_add-j c = search rules
 
-mul-t14 : tie.Need-overflow-mul-t14 invariant-loop decreases-loop
-mul-t14 c = omega (arith, (in-loop-of-exponent-of c).loop-test.true, (entry-of-shared-slice-known4 c.before).good.0.1)
+loop-j-smaller : tie.Need-loop-j-smaller invariant-loop-j decreases-loop-j
+loop-j-smaller c = search rules
 
-slice-set-from-exponents : tie.Need-slice-set-from-exponents invariant-loop decreases-loop
-slice-set-from-exponents c = omega (arith, (in-loop-of-exponent-of c).loop-test.true, (in-loop-of-exponent-of c).before.loop.invariant.1)
-
-add-j : tie.Need-overflow-add-j invariant-loop decreases-loop
-add-j c = search rules
-
-loop-less : tie.Need-loop-smaller invariant-loop decreases-loop
-loop-less c = search rules
-
-loop-again : tie.Need-loop-preserved invariant-loop decreases-loop
-loop-again c =
-    let l = c.before.before.before.before in
-    let a = (entry-of-loop l).args in
-    let d = factors l in
-    let j = l.loop.j in
-    let h = (in-loop-of-exponent-of c).loop-test.true in
-    let b : j < length d = omega (arith, count l) in
-    let e : Exponent (get_or d j nan) c.exponent-of.result =
-    subst (λ (x : Float). Exponent x c.exponent-of.result) (sym (difference_at a.v.now a.cmax.now (entry-of-loop l).requires.0.0 j h))
-    c.exponent-of.ensures in
-    let x : to_z w32 (of_z w32 c.exponent-of.result) ≡ get_or (map exponent_of d) j (exponent_of nan) =
-    read_is c.exponent-of.result c.exponent-of.type-inv ∙ exponent_at_lem d j e (factor_fits_lem d (entry-of-loop l).requires.1 j b) in (
+loop-j-preserved : tie.Need-loop-j-preserved invariant-loop-j decreases-loop-j
+loop-j-preserved c =
+    let a = c.args in
+    let d = factors c.before.before.before.before in
+    let j = c.loop-j.j in
+    let h = c.loop-j-test.true in
+    let b : j < length d = omega (arith, count c.before.before.before.before) in
+    let e : Exponent (get_or d j nan) c.exponent_of.result =
+    subst (λ (x : Float). Exponent x c.exponent_of.result) (sym (difference_at a.v.now a.cmax.now c.requires.cmax_len.0 j h))
+    c.exponent_of.ensures in
+    let x : to_z w32 (of_z w32 c.exponent_of.result) ≡ get_or (map exponent_of d) j (exponent_of nan) =
+    read_is c.exponent_of.result c.exponent_of.type-inv ∙ exponent_at_lem d j e (factor_fits_lem d c.requires.cmax_value j b) in (
       omega arith,
-      length-set l.loop.exponents j (to_z w32 (of_z w32 c.exponent-of.result)) ∙ l.loop.invariant.1,
-      copied l.loop.exponents (map exponent_of d) j (to_z w32 (of_z w32 c.exponent-of.result)) (exponent_of nan) (omega (arith, l.loop.invariant.1))
-          (omega (arith, length-map d exponent_of)) x l.loop.invariant.2,
+      length-set c.loop-j.exponents j (to_z w32 (of_z w32 c.exponent_of.result)) ∙ c.loop-j.invariant.1,
+      copied c.loop-j.exponents (map exponent_of d) j (to_z w32 (of_z w32 c.exponent_of.result)) (exponent_of nan) (omega (arith, c.loop-j.invariant.1))
+          (omega (arith, length-map d exponent_of)) x c.loop-j.invariant.2,
     )
 
-same_length_lem : tie.Need-same-length invariant-loop decreases-loop
-same_length_lem c = c.before.loop.invariant.1 ∙ sym (entry-of-loop c.before).pre.0.1
+shape_of-exponents : tie.Need-shape_of-exponents invariant-loop-j decreases-loop-j
+shape_of-exponents c = c.loop-j.invariant.1 ∙ sym c.requires.cmax_len.1
 
-returns : tie.Need-returns invariant-loop decreases-loop
+returns : tie.Need-returns invariant-loop-j decreases-loop-j
 returns c =
-    let l = c.before in
-    let d = factors l in
-    let n = length (entry-of-loop l).args.v.now in
-    let e : l.loop.j ≡ n = omega (arith, l.loop.invariant.0, c.loop-test.false) in
-    whole n l.loop.exponents (map exponent_of d) l.loop.invariant.1 (length-map d exponent_of ∙ count l)
-    (subst (λ (j : ℕ). take j l.loop.exponents ≡ take j (map exponent_of d)) e l.loop.invariant.2)
+    let d = factors c.before in
+    let n = length c.args.v.now in
+    let e : c.loop-j.j ≡ n = omega (arith, c.loop-j.invariant.0, c.loop-j-test.false) in
+    whole n c.loop-j.exponents (map exponent_of d) c.loop-j.invariant.1 (length-map d exponent_of ∙ count c.before)
+    (subst (λ (j : ℕ). take j c.loop-j.exponents ≡ take j (map exponent_of d)) e c.loop-j.invariant.2)
 
-pub write-columns-spec : {M : Type 1} → statement M
-write-columns-spec =
+pub write_columns_spec : {M : Type 1} → statement M
+write_columns_spec =
     tie.close
     (tie.spec
-    invariant-loop
-    decreases-loop
-    loop-holds
-    mul-exponent-of
-    shared-slice-read-exponent-of
-    mul-exponent-of-2
-    shared-slice-read-exponent-of-2
-    exponent-of-requires
-    mul-t14
-    slice-set-from-exponents
-    add-j
-    loop-less
-    loop-again
-    same_length_lem
+    invariant-loop-j
+    decreases-loop-j
+    loop-j-init
+    offset_bounds-v-j
+    bounds-v-j
+    offset_bounds-cmax-j
+    bounds-cmax-j
+    exponent_of-requires
+    offset_bounds-exponents-j
+    bounds-exponents-j
+    overflow_add-j
+    loop-j-smaller
+    loop-j-preserved
+    shape_of-exponents
     returns)

@@ -1,4 +1,5 @@
 -- `write_rows` meets its contract. The loop's invariant: the exponents before i are those of the definition.
+use Rattle.std.proofs.Common.{rules}
 use mathlib.Core.Path.{◌≡◌, refl, sym, ◌∙◌, subst}
 use mathlib.Core.List.{map}
 use Prim.Native.Nat.{ℕ, ◌-◌, ◌≤◌}
@@ -15,76 +16,73 @@ use Rattle.exponents.proofs.Calling.{factor_fits_lem, exponent_at_lem}
 use Rattle.exponents.proofs.write_rows.Statement.{statement}
 use Rattle.exponents.proofs.write_rows.Tie as tie
 
-abbrev invariant-loop : tie.invariant-loop
-invariant-loop u exponents₀ i₀ exponents i = (i ≤ length u) × (length exponents ≡ length u) × (take i exponents ≡ take i (map exponent_of u))
+abbrev invariant-loop-i : tie.invariant-loop-i
+invariant-loop-i u exponents₀ i₀ exponents i = (i ≤ length u) × (length exponents ≡ length u) × (take i exponents ≡ take i (map exponent_of u))
 
-abbrev decreases-loop : tie.decreases-loop
-decreases-loop u exponents₀ i₀ exponents i = length u - i
+abbrev decreases-loop-i : tie.decreases-loop-i
+decreases-loop-i u exponents₀ i₀ exponents i = length u - i
 
-loop-holds : tie.Need-loop-init invariant-loop decreases-loop
-loop-holds c = (omega arith, c.before.requires.0, refl)
+loop-i-init : tie.Need-loop-i-init invariant-loop-i decreases-loop-i
+loop-i-init c = (omega arith, c.requires.exponents_len, refl)
 
-mul-exponent-of : tie.Need-overflow-mul-exponent-of invariant-loop decreases-loop
-mul-exponent-of c = search rules
+offset_bounds-u-i : tie.Need-offset_bounds-u-i invariant-loop-i decreases-loop-i
+offset_bounds-u-i c = search rules
 
-shared-slice-read-exponent-of : tie.Need-shared-slice-read-exponent-of invariant-loop decreases-loop
-shared-slice-read-exponent-of c = search rules
+bounds-u-i : tie.Need-bounds-u-i invariant-loop-i decreases-loop-i
+bounds-u-i c = search rules
 
-exponent-of-requires : tie.Need-exponent-of-requires invariant-loop decreases-loop
-exponent-of-requires c κs = tt
+exponent_of-requires : tie.Need-exponent_of-requires invariant-loop-i decreases-loop-i
+exponent_of-requires c κs = tt
 
-mul-t9 : tie.Need-overflow-mul-t9 invariant-loop decreases-loop
-mul-t9 c = let l = c.before.before.before in omega (arith, c.before.before.loop-test.true, l.before.before.well-formed.0.1)
+offset_bounds-exponents-i : tie.Need-offset_bounds-exponents-i invariant-loop-i decreases-loop-i
+offset_bounds-exponents-i c = omega (arith, c.loop-i-test.true, c.well_formed.0.1)
 
-slice-set-from-exponents : tie.Need-slice-set-from-exponents invariant-loop decreases-loop
-slice-set-from-exponents c = omega (arith, c.before.before.loop-test.true, c.before.before.before.loop.invariant.1)
+bounds-exponents-i : tie.Need-bounds-exponents-i invariant-loop-i decreases-loop-i
+bounds-exponents-i c = omega (arith, c.loop-i-test.true, c.loop-i.invariant.1)
 
-add-i : tie.Need-overflow-add-i invariant-loop decreases-loop
-add-i c = search rules
+overflow_add-i : tie.Need-overflow_add-i invariant-loop-i decreases-loop-i
+overflow_add-i c = search rules
 
-loop-less : tie.Need-loop-smaller invariant-loop decreases-loop
-loop-less c = search rules
+loop-i-smaller : tie.Need-loop-i-smaller invariant-loop-i decreases-loop-i
+loop-i-smaller c = search rules
 
-loop-again : tie.Need-loop-preserved invariant-loop decreases-loop
-loop-again c =
-    let l = c.before.before.before in
-    let s = l.before.before in
-    let u = s.args.u.now in
-    let i = l.loop.i in
-    let h = c.before.before.loop-test.true in
-    let x : to_z w32 (of_z w32 c.exponent-of.result) ≡ get_or (map exponent_of u) i (exponent_of nan) =
-    read_is c.exponent-of.result c.exponent-of.type-inv ∙ exponent_at_lem u i c.exponent-of.ensures (factor_fits_lem u s.requires.1 i h) in (
+loop-i-preserved : tie.Need-loop-i-preserved invariant-loop-i decreases-loop-i
+loop-i-preserved c =
+    let u = c.args.u.now in
+    let i = c.loop-i.i in
+    let h = c.loop-i-test.true in
+    let x : to_z w32 (of_z w32 c.exponent_of.result) ≡ get_or (map exponent_of u) i (exponent_of nan) =
+    read_is c.exponent_of.result c.exponent_of.type-inv ∙ exponent_at_lem u i c.exponent_of.ensures (factor_fits_lem u c.requires.u_value i h) in (
       omega arith,
-      length-set l.loop.exponents i (to_z w32 (of_z w32 c.exponent-of.result)) ∙ l.loop.invariant.1,
-      copied l.loop.exponents (map exponent_of u) i (to_z w32 (of_z w32 c.exponent-of.result)) (exponent_of nan) (omega (arith, l.loop.invariant.1))
-          (omega (arith, length-map u exponent_of)) x l.loop.invariant.2,
+      length-set c.loop-i.exponents i (to_z w32 (of_z w32 c.exponent_of.result)) ∙ c.loop-i.invariant.1,
+      copied c.loop-i.exponents (map exponent_of u) i (to_z w32 (of_z w32 c.exponent_of.result)) (exponent_of nan) (omega (arith, c.loop-i.invariant.1))
+          (omega (arith, length-map u exponent_of)) x c.loop-i.invariant.2,
     )
 
-same_length_lem : tie.Need-same-length invariant-loop decreases-loop
-same_length_lem c = c.before.loop.invariant.1 ∙ sym c.before.before.before.requires.0
+shape_of-exponents : tie.Need-shape_of-exponents invariant-loop-i decreases-loop-i
+shape_of-exponents c = c.loop-i.invariant.1 ∙ sym c.requires.exponents_len
 
-returns : tie.Need-returns invariant-loop decreases-loop
+returns : tie.Need-returns invariant-loop-i decreases-loop-i
 returns c =
-    let l = c.before in
-    let u = l.before.before.args.u.now in
-    let e : l.loop.i ≡ length u = omega (arith, l.loop.invariant.0, c.loop-test.false) in
-    whole (length u) l.loop.exponents (map exponent_of u) l.loop.invariant.1 (length-map u exponent_of)
-    (subst (λ (i : ℕ). take i l.loop.exponents ≡ take i (map exponent_of u)) e l.loop.invariant.2)
+    let u = c.args.u.now in
+    let e : c.loop-i.i ≡ length u = omega (arith, c.loop-i.invariant.0, c.loop-i-test.false) in
+    whole (length u) c.loop-i.exponents (map exponent_of u) c.loop-i.invariant.1 (length-map u exponent_of)
+    (subst (λ (i : ℕ). take i c.loop-i.exponents ≡ take i (map exponent_of u)) e c.loop-i.invariant.2)
 
-pub write-rows-spec : {M : Type 1} → statement M
-write-rows-spec =
+pub write_rows_spec : {M : Type 1} → statement M
+write_rows_spec =
     tie.close
     (tie.spec
-    invariant-loop
-    decreases-loop
-    loop-holds
-    mul-exponent-of
-    shared-slice-read-exponent-of
-    exponent-of-requires
-    mul-t9
-    slice-set-from-exponents
-    add-i
-    loop-less
-    loop-again
-    same_length_lem
+    invariant-loop-i
+    decreases-loop-i
+    loop-i-init
+    offset_bounds-u-i
+    bounds-u-i
+    exponent_of-requires
+    offset_bounds-exponents-i
+    bounds-exponents-i
+    overflow_add-i
+    loop-i-smaller
+    loop-i-preserved
+    shape_of-exponents
     returns)

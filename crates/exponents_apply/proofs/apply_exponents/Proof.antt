@@ -1,4 +1,5 @@
 -- `apply_exponents` meets its contract: each refusal is the first fault of the chain and leaves the values; after all tests the values are scaled.
+use Rattle.std.proofs.Common.{rules}
 use mathlib.Core.Path.{◌≡◌, sym, ◌∙◌}
 use mathlib.Core.List.{List}
 use Prim.Native.Nat.{ℕ, ◌+◌}
@@ -28,122 +29,97 @@ abbrev values : tie.Start → List ℕ
 values s = s.args.values.now
 
 -- ---- places, each from a later one
-abbrev start : tie.Else1 → tie.Start
-start c = c.before.before.before.before.before
-
-abbrev else1 : tie.Else2 → tie.Else1
-else1 c = c.before.before
-
-abbrev else2 : tie.Else3 → tie.Else2
-else2 c = c.before.before
-
-abbrev else3 : tie.Else4 → tie.Else3
-else3 c = c.before.before.before
-
 -- ---- a test that was passed found nothing
-no-pattern-fault : (c : tie.Else1) → let s = start c in pattern_fault (matrix s) (lengths_fit (matrix s) (both-sets s) (length (values s))) ≡ 0
-no-pattern-fault c = sym c.before.pattern-fault.ensures ∙ c.if1.false
+no-pattern-fault : (c : tie.Else-matrix-ne-ACCEPTED) → pattern_fault (matrix c.before.before.before.before.before) (lengths_fit (matrix c.before.before.before.before.before) (both-sets c.before.before.before.before.before) (length (values c.before.before.before.before.before))) ≡ 0
+no-pattern-fault c = sym c.pattern_fault-matrix.ensures ∙ c.if-matrix-ne-ACCEPTED.false
 
-no-row-fault : (c : tie.Else2) → limit_fault (both-sets (start (else1 c))).rows ≡ 0
-no-row-fault c = sym c.before.limit-fault.ensures ∙ c.if2.false
+no-row-fault : (c : tie.Else-rows-ne-ACCEPTED) → limit_fault (both-sets c.before.before.before.before.before.before.before).rows ≡ 0
+no-row-fault c = sym c.limit_fault-rows.ensures ∙ c.if-rows-ne-ACCEPTED.false
 
-no-column-fault : (c : tie.Else3) → limit_fault (both-sets (start (else1 (else2 c)))).columns ≡ 0
-no-column-fault c = sym c.before.limit-fault2.ensures ∙ c.if3.false
+no-column-fault : (c : tie.Else-columns-ne-ACCEPTED) → limit_fault (both-sets c.before.before.before.before.before.before.before.before.before).columns ≡ 0
+no-column-fault c = sym c.limit_fault-columns.ensures ∙ c.if-columns-ne-ACCEPTED.false
 
-no-value-fault : (c : tie.Else4) → let s = start (else1 (else2 (else3 c))) in values_fault (matrix s) (both-sets s) (values s) ≡ 0
-no-value-fault c = sym c.before.values-fault.ensures ∙ c.if4.false
+no-value-fault : (c : tie.Else-fault-ne-ACCEPTED) → values_fault (matrix c.before.before.before.before.before.before.before.before.before.before.before) (both-sets c.before.before.before.before.before.before.before.before.before.before.before) (values c.before.before.before.before.before.before.before.before.before.before.before) ≡ 0
+no-value-fault c = sym c.values_fault-fault.ensures ∙ c.if-fault-ne-ACCEPTED.false
 
-all_tested : (c : tie.Else3) → let s = start (else1 (else2 c)) in Tested (matrix s) (both-sets s) (values s)
+all_tested : (c : tie.Else-columns-ne-ACCEPTED) → Tested (matrix c.before.before.before.before.before.before.before.before.before) (both-sets c.before.before.before.before.before.before.before.before.before) (values c.before.before.before.before.before.before.before.before.before)
 all_tested c =
-    let s = start (else1 (else2 c)) in
-    tested (matrix s) (both-sets s) (values s) (no-pattern-fault (else1 (else2 c))) (no-row-fault (else2 c)) (no-column-fault c)
+    tested (matrix c.before.before.before.before.before.before.before.before.before) (both-sets c.before.before.before.before.before.before.before.before.before) (values c.before.before.before.before.before.before.before.before.before) (no-pattern-fault c.before.before.before.before) (no-row-fault c.before.before) (no-column-fault c)
 
-no_fault : (c : tie.Else4) → let s = start (else1 (else2 (else3 c))) in apply_fault (matrix s) (both-sets s) (values s) ≡ 0
+no_fault : (c : tie.Else-fault-ne-ACCEPTED) → apply_fault (matrix c.before.before.before.before.before.before.before.before.before.before.before) (both-sets c.before.before.before.before.before.before.before.before.before.before.before) (values c.before.before.before.before.before.before.before.before.before.before.before) ≡ 0
 unfolding apply_fault
-no_fault c = or-none (no-pattern-fault (else1 (else2 (else3 c)))) ∙ or-none (no-row-fault (else2 (else3 c))) ∙ or-none
-    (no-column-fault (else3 c)) ∙ no-value-fault c
+no_fault c = or-none (no-pattern-fault c.before.before.before.before.before.before) ∙ or-none (no-row-fault c.before.before.before.before) ∙ or-none
+    (no-column-fault c.before.before) ∙ no-value-fault c
 
-add-lengths : tie.Need-overflow-add-lengths
-add-lengths c = search rules
+overflow_add-lengths : tie.Need-overflow_add-lengths
+overflow_add-lengths c = search rules
 
-pattern-fault-requires : tie.Need-pattern-fault-requires
-pattern-fault-requires c κs = λ t. let a = c.before.before.before.args in eqb-true (length a.col-ptr.now) (a.n + 1)
+pattern_fault-matrix-requires : tie.Need-pattern_fault-matrix-requires
+pattern_fault-matrix-requires c κs = λ t. let a = c.args in eqb-true (length a.col-ptr.now) (a.n + 1)
     (both (eqb (length a.col-ptr.now) (a.n + 1)) _ t).0
 
+returns-then-matrix-ne-ACCEPTED : tie.Need-returns-then-matrix-ne-ACCEPTED
+unfolding apply_fault
+returns-then-matrix-ne-ACCEPTED c =
+    refuses (matrix c.before.before.before.before.before) (both-sets c.before.before.before.before.before) (values c.before.before.before.before.before) (answer_first _ c.pattern_fault-matrix.ensures c.if-matrix-ne-ACCEPTED.true) c.if-matrix-ne-ACCEPTED.true
+
+limit_fault-rows-requires : tie.Need-limit_fault-rows-requires
+limit_fault-rows-requires c κs = search rules
+
+returns-then-rows-ne-ACCEPTED : tie.Need-returns-then-rows-ne-ACCEPTED
+unfolding apply_fault
+returns-then-rows-ne-ACCEPTED c =
+    refuses (matrix c.before.before.before.before.before.before.before) (both-sets c.before.before.before.before.before.before.before) (values c.before.before.before.before.before.before.before) (answer_second c.pattern_fault-matrix.ensures c.if-matrix-ne-ACCEPTED.false
+    (answer_first _ c.limit_fault-rows.ensures c.if-rows-ne-ACCEPTED.true)) c.if-rows-ne-ACCEPTED.true
+
+limit_fault-columns-requires : tie.Need-limit_fault-columns-requires
+limit_fault-columns-requires c κs = search rules
+
+returns-then-columns-ne-ACCEPTED : tie.Need-returns-then-columns-ne-ACCEPTED
+unfolding apply_fault
+returns-then-columns-ne-ACCEPTED c =
+    refuses (matrix c.before.before.before.before.before.before.before.before.before) (both-sets c.before.before.before.before.before.before.before.before.before) (values c.before.before.before.before.before.before.before.before.before)
+    (answer_second c.pattern_fault-matrix.ensures c.if-matrix-ne-ACCEPTED.left
+    (answer_second c.limit_fault-rows.ensures c.if-rows-ne-ACCEPTED.false (answer_first _ c.limit_fault-columns.ensures c.if-columns-ne-ACCEPTED.true))) c.if-columns-ne-ACCEPTED.true
+
+values_fault-fault-requires : tie.Need-values_fault-fault-requires
+values_fault-fault-requires c κs = all_tested c
+
+shape_of-values-then-fault-ne-ACCEPTED : tie.Need-shape_of-values-then-fault-ne-ACCEPTED
+shape_of-values-then-fault-ne-ACCEPTED c = search rules
+
+returns-then-fault-ne-ACCEPTED : tie.Need-returns-then-fault-ne-ACCEPTED
+unfolding apply_fault
+returns-then-fault-ne-ACCEPTED c =
+    refuses (matrix c.before.before.before.before.before.before.before.before.before.before.before) (both-sets c.before.before.before.before.before.before.before.before.before.before.before) (values c.before.before.before.before.before.before.before.before.before.before.before)
+    (answer_second c.pattern_fault-matrix.ensures c.if-matrix-ne-ACCEPTED.left
+    (answer_second c.limit_fault-rows.ensures c.if-rows-ne-ACCEPTED.left
+    (answer_second c.limit_fault-columns.ensures c.if-columns-ne-ACCEPTED.false c.values_fault-fault.ensures))) c.if-fault-ne-ACCEPTED.true
+
+scale_values-requires : tie.Need-scale_values-requires
+scale_values-requires c κs = (all_tested c.before.before.before, no-value-fault c.before)
+
+shape_of-values : tie.Need-shape_of-values
+shape_of-values c = search rules
+
 returns : tie.Need-returns
-unfolding apply_fault
-returns c =
-    let s = c.before.before.before.before.before in
-    refuses (matrix s) (both-sets s) (values s) (answer_first _ c.before.pattern-fault.ensures c.if1.true) c.if1.true
+returns-then-matrix-ne-ACCEPTED c =
+    accepts (matrix c.before.before.before.before.before.before.before.before.before.before.before.before.before.before.before) (both-sets c.before.before.before.before.before.before.before.before.before.before.before.before.before.before.before) (values c.before.before.before.before.before.before.before.before.before.before.before.before.before.before.before) _ (no_fault c.before.before.before.before) c.scale_values.ensures
 
-limit-fault-requires : tie.Need-limit-fault-requires
-limit-fault-requires c κs = search rules
-
-returns-2 : tie.Need-returns-2
-unfolding apply_fault
-returns-2 c =
-    let e = c.before.before in
-    let s = start e in
-    refuses (matrix s) (both-sets s) (values s) (answer_second e.before.pattern-fault.ensures e.if1.false
-    (answer_first _ c.before.limit-fault.ensures c.if2.true)) c.if2.true
-
-limit-fault-requires-2 : tie.Need-limit-fault-requires-2
-limit-fault-requires-2 c κs = search rules
-
-returns-3 : tie.Need-returns-3
-unfolding apply_fault
-returns-3 c =
-    let f = c.before.before in
-    let e = else1 f in
-    let s = start e in
-    refuses (matrix s) (both-sets s) (values s)
-    (answer_second e.before.pattern-fault.ensures e.if1.left
-    (answer_second f.before.limit-fault.ensures f.if2.false (answer_first _ c.before.limit-fault2.ensures c.if3.true))) c.if3.true
-
-values-fault-requires : tie.Need-values-fault-requires
-values-fault-requires c κs = all_tested c.before
-
-same_length_lem : tie.Need-same-length
-same_length_lem c = search rules
-
-returns-4 : tie.Need-returns-4
-unfolding apply_fault
-returns-4 c =
-    let g = c.before.before.before in
-    let f = else2 g in
-    let e = else1 f in
-    let s = start e in
-    refuses (matrix s) (both-sets s) (values s)
-    (answer_second e.before.pattern-fault.ensures e.if1.left
-    (answer_second f.before.limit-fault.ensures f.if2.left
-    (answer_second g.before.limit-fault2.ensures g.if3.false c.before.values-fault.ensures))) c.if4.true
-
-scale-values-requires : tie.Need-scale-values-requires
-scale-values-requires c κs = (all_tested (else3 c.before), no-value-fault c.before)
-
-same-length-2 : tie.Need-same-length-2
-same-length-2 c = search rules
-
-returns-5 : tie.Need-returns-5
-returns-5 c =
-    let d = c.before.before.before.before in
-    let s = start (else1 (else2 (else3 d))) in
-    accepts (matrix s) (both-sets s) (values s) _ (no_fault d) c.before.before.scale-values.ensures
-
-pub apply-exponents-spec : {M : Type 1} → statement M
-apply-exponents-spec =
+pub apply_exponents_spec : {M : Type 1} → statement M
+apply_exponents_spec =
     tie.close
     (tie.spec
-    add-lengths
-    pattern-fault-requires
-    returns
-    limit-fault-requires
-    returns-2
-    limit-fault-requires-2
-    returns-3
-    values-fault-requires
-    same_length_lem
-    returns-4
-    scale-values-requires
-    same-length-2
-    returns-5)
+    overflow_add-lengths
+    pattern_fault-matrix-requires
+    returns-then-matrix-ne-ACCEPTED
+    limit_fault-rows-requires
+    returns-then-rows-ne-ACCEPTED
+    limit_fault-columns-requires
+    returns-then-columns-ne-ACCEPTED
+    values_fault-fault-requires
+    shape_of-values-then-fault-ne-ACCEPTED
+    returns-then-fault-ne-ACCEPTED
+    scale_values-requires
+    shape_of-values
+    returns)

@@ -1,4 +1,5 @@
 -- `limit_fault` meets its contract. The loop's invariant: no exponent before i has a fault.
+use Rattle.std.proofs.Common.{rules}
 use mathlib.Core.Path.{◌≡◌, sym, ap, ◌∙◌}
 use mathlib.Core.Bool.{Bool}
 use Prim.Native.Nat.{◌-◌}
@@ -15,63 +16,61 @@ use Rattle.exponents_apply.specs.Apply.{exponent_at, limit_fault}
 use Rattle.exponents_apply.proofs.limit_fault.Statement.{statement}
 use Rattle.exponents_apply.proofs.limit_fault.Tie as tie
 
-abbrev invariant-loop : tie.invariant-loop
-invariant-loop exponents i₀ i = Passed (limit_fault exponents) (λ i. unless (within_limit (exponent_at exponents i)) exponent_range) (length exponents) i
+abbrev invariant-loop-i : tie.invariant-loop-i
+invariant-loop-i exponents i₀ i = Passed (limit_fault exponents) (λ i. unless (within_limit (exponent_at exponents i)) exponent_range) (length exponents) i
 
-abbrev decreases-loop : tie.decreases-loop
-decreases-loop exponents i₀ i = length exponents - i
+abbrev decreases-loop-i : tie.decreases-loop-i
+decreases-loop-i exponents i₀ i = length exponents - i
 
-loop-holds : tie.Need-loop-init invariant-loop decreases-loop
+loop-i-init : tie.Need-loop-i-init invariant-loop-i decreases-loop-i
 unfolding limit_fault
-loop-holds c = from_zero _ _
+loop-i-init c = from_zero _ _
 
-mul-exponent : tie.Need-overflow-mul-exponent invariant-loop decreases-loop
-mul-exponent c = search rules
+offset_bounds-exponents-i : tie.Need-offset_bounds-exponents-i invariant-loop-i decreases-loop-i
+offset_bounds-exponents-i c = search rules
 
-shared-slice-copy-out-exponent : tie.Need-shared-slice-copy-out-exponent invariant-loop decreases-loop
-shared-slice-copy-out-exponent c = search rules
+bounds-exponents-i : tie.Need-bounds-exponents-i invariant-loop-i decreases-loop-i
+bounds-exponents-i c = search rules
 
-within-limit-requires : tie.Need-within-limit-requires invariant-loop decreases-loop
-within-limit-requires c κs = search rules
+within_limit-requires : tie.Need-within_limit-requires invariant-loop-i decreases-loop-i
+within_limit-requires c κs = search rules
 
 -- the test at i, of the exponent that was read there
-tested : (c : tie.After-within-limit invariant-loop decreases-loop) → let l = c.before.before.before in
-    c.within-limit.result ≡ within_limit (exponent_at l.before.args.exponents.now l.loop.i)
-tested c = c.within-limit.ensures ∙ ap within_limit (read_is _ c.before.exponent.given)
+tested : (c : tie.After-within_limit invariant-loop-i decreases-loop-i) → 
+    c.within_limit.result ≡ within_limit (exponent_at c.args.exponents.now c.loop-i.i)
+tested c = c.within_limit.ensures ∙ ap within_limit (read_is _ c.exponent-1.given)
 
-returns : tie.Need-returns invariant-loop decreases-loop
-returns c =
-    let l = c.before.before.before.before in
-    found _ _ l.loop.i l.loop.invariant c.before.before.before.loop-test.true
-    (ap (λ (t : Bool). unless t exponent_range) (sym (tested c.before) ∙ not-true _ c.if1.true)) (omega arith)
+returns-then-not-within_limit : tie.Need-returns-then-not-within_limit invariant-loop-i decreases-loop-i
+returns-then-not-within_limit c =
+    found _ _ c.loop-i.i c.loop-i.invariant c.loop-i-test.true
+    (ap (λ (t : Bool). unless t exponent_range) (sym (tested c.before) ∙ not-true _ c.if-not-within_limit.true)) (omega arith)
 
-add-i : tie.Need-overflow-add-i invariant-loop decreases-loop
-add-i c = search rules
+overflow_add-i : tie.Need-overflow_add-i invariant-loop-i decreases-loop-i
+overflow_add-i c = search rules
 
-loop-less : tie.Need-loop-smaller invariant-loop decreases-loop
-loop-less c = search rules
+loop-i-smaller : tie.Need-loop-i-smaller invariant-loop-i decreases-loop-i
+loop-i-smaller c = search rules
 
-loop-again : tie.Need-loop-preserved invariant-loop decreases-loop
-loop-again c =
-    let l = c.before.before.before.before in
-    pass _ _ l.loop.i l.loop.invariant c.before.before.before.loop-test.true
-    (ap (λ (t : Bool). unless t exponent_range) (sym (tested c.before) ∙ not-false _ c.if1.false))
+loop-i-preserved : tie.Need-loop-i-preserved invariant-loop-i decreases-loop-i
+loop-i-preserved c =
+    pass _ _ c.loop-i.i c.loop-i.invariant c.loop-i-test.true
+    (ap (λ (t : Bool). unless t exponent_range) (sym (tested c.before) ∙ not-false _ c.if-not-within_limit.false))
 
-returns-2 : tie.Need-returns-2 invariant-loop decreases-loop
-returns-2 c = done _ _ c.before.loop.i c.before.loop.invariant c.loop-test.false
+returns : tie.Need-returns invariant-loop-i decreases-loop-i
+returns-then-not-within_limit c = done _ _ c.loop-i.i c.loop-i.invariant c.loop-i-test.false
 
-pub limit-fault-spec : {M : Type 1} → statement M
-limit-fault-spec =
+pub limit_fault_spec : {M : Type 1} → statement M
+limit_fault_spec =
     tie.close
     (tie.spec
-    invariant-loop
-    decreases-loop
-    loop-holds
-    mul-exponent
-    shared-slice-copy-out-exponent
-    within-limit-requires
-    returns
-    add-i
-    loop-less
-    loop-again
-    returns-2)
+    invariant-loop-i
+    decreases-loop-i
+    loop-i-init
+    offset_bounds-exponents-i
+    bounds-exponents-i
+    within_limit-requires
+    returns-then-not-within_limit
+    overflow_add-i
+    loop-i-smaller
+    loop-i-preserved
+    returns)

@@ -21,145 +21,124 @@ use Rattle.exponents_apply.proofs.scale_column.Tie as tie
 abbrev target : List ℕ → List ℤ → ℤ → List ℕ → ℕ → ℕ
 target rows r e values k = scaled_bits (get_or values k 0) (exponent_at r (get_or rows k 0) +ℤ e)
 
-abbrev invariant-loop : tie.invariant-loop
-invariant-loop row-idx row-exponents column-exponent values₀ from to k₀ values k =
+abbrev invariant-loop-k : tie.invariant-loop-k
+invariant-loop-k row-idx row-exponents column-exponent values₀ from to k₀ values k =
     (from ≤ k) × (k ≤ to) × Written (target row-idx row-exponents (to_z w32 column-exponent) values₀) from k values₀ values
 
-abbrev decreases-loop : tie.decreases-loop
-decreases-loop row-idx row-exponents column-exponent values₀ from to k₀ values k = to - k
-
--- places of the proof, each from a later one
-abbrev entry-of-loop : tie.At-loop invariant-loop decreases-loop → tie.Start invariant-loop decreases-loop
-entry-of-loop c = c.before.before.before
-
-abbrev entry-of-in-loop : tie.In-loop invariant-loop decreases-loop → tie.Start invariant-loop decreases-loop
-entry-of-in-loop c = entry-of-loop c.before
-
-abbrev in-loop-of-slice-known2 : tie.After-slice-known2 invariant-loop decreases-loop → tie.In-loop invariant-loop decreases-loop
-in-loop-of-slice-known2 c = c.before.before.before
-
-abbrev in-loop-of-scaled : tie.After-scaled invariant-loop decreases-loop → tie.In-loop invariant-loop decreases-loop
-in-loop-of-scaled c = in-loop-of-slice-known2 c.before
-
-abbrev entry-of-scaled : tie.After-scaled invariant-loop decreases-loop → tie.Start invariant-loop decreases-loop
-entry-of-scaled c = entry-of-in-loop (in-loop-of-scaled c)
+abbrev decreases-loop-k : tie.decreases-loop-k
+decreases-loop-k row-idx row-exponents column-exponent values₀ from to k₀ values k = to - k
 
 -- place k is one of the places, and its row has an exponent
-facts : (c : tie.In-loop invariant-loop decreases-loop) → let a = (entry-of-in-loop c).args in let k = c.before.loop.k in
+facts : (c : tie.In-loop-k invariant-loop-k decreases-loop-k) → let a = c.args in let k = c.loop-k.k in
     (k < length a.row-idx.now) × (k < length a.values.now) × (get_or a.row-idx.now k 0 < length a.row-exponents.now)
-    × (length c.before.loop.values ≡ length a.values.now)
+    × (length c.loop-k.values ≡ length a.values.now)
 facts c =
-    let p = (entry-of-in-loop c).requires in
-    let k = c.before.loop.k in
-    let i : k < length (entry-of-in-loop c).args.row-idx.now = omega (arith, c.loop-test.true, p.1.0.1.0) in
-    (i, omega (arith, p.0.stored), p.0.inside k i, c.before.loop.invariant.2.same)
+    let p = c.requires in
+    let k = c.loop-k.k in
+    let i : k < length c.args.row-idx.now = omega (arith, c.loop-k-test.true, p.from_le_to.1.0) in
+    (i, omega (arith, p.places.stored), p.places.inside k i, c.loop-k.invariant.2.same)
 
 -- the exponents of the column and of the row as they are read
-column_read : (c : tie.At-loop invariant-loop decreases-loop) → to_z w32 (of_z w32 (entry-of-loop c).args.column-exponent) ≡ (entry-of-loop c).args.column-exponent
-column_read c = to_z-of_z w32 (entry-of-loop c).args.column-exponent (entry-of-loop c).ranges.column-exponent
+column_read : (c : tie.At-loop-k invariant-loop-k decreases-loop-k) → to_z w32 (of_z w32 c.args.column-exponent) ≡ c.args.column-exponent
+column_read c = to_z-of_z w32 c.args.column-exponent c.ranges.column-exponent
 
-row_read : (c : tie.After-row-exponent invariant-loop decreases-loop) → let l = c.before.before.before in let a = (entry-of-loop l).args in let e =
-    exponent_at a.row-exponents.now (get_or a.row-idx.now l.loop.k 0) in
+row_read : (c : tie.After-row_exponent-1 invariant-loop-k decreases-loop-k) → let a = c.args in let e =
+    exponent_at a.row-exponents.now (get_or a.row-idx.now c.loop-k.k 0) in
     to_z w32 (of_z w32 e) ≡ e
 row_read c =
-    let l = c.before.before.before in
-    let a = (entry-of-loop l).args in
-    read_is (exponent_at a.row-exponents.now (get_or a.row-idx.now l.loop.k 0)) c.row-exponent.given
+    let a = c.args in
+    read_is (exponent_at a.row-exponents.now (get_or a.row-idx.now c.loop-k.k 0)) c.row_exponent-1.given
 
-loop-holds : tie.Need-loop-init invariant-loop decreases-loop
-loop-holds c = (le_refl _, c.before.before.requires.1.0.0, none_written _ _ _)
+loop-k-init : tie.Need-loop-k-init invariant-loop-k decreases-loop-k
+loop-k-init c = (le_refl _, c.requires.from_le_to.0, none_written _ _ _)
 
-mul-row-exponent : tie.Need-overflow-mul-row-exponent invariant-loop decreases-loop
-mul-row-exponent c = omega (arith, facts c, (entry-of-in-loop c).well-formed.0.1)
+offset_bounds-row_idx-k : tie.Need-offset_bounds-row_idx-k invariant-loop-k decreases-loop-k
+offset_bounds-row_idx-k c = omega (arith, facts c, c.well_formed.0.1)
 
-shared-slice-read-row-exponent : tie.Need-shared-slice-read-row-exponent invariant-loop decreases-loop
-shared-slice-read-row-exponent c = omega (arith, facts c.before)
+bounds-row_idx-k : tie.Need-bounds-row_idx-k invariant-loop-k decreases-loop-k
+bounds-row_idx-k c = omega (arith, facts c.before)
 
-cast-row-exponent : tie.Need-overflow-cast-row-exponent invariant-loop decreases-loop
-cast-row-exponent c = omega (arith, c.shared-slice-known2.given c.before.before.loop.k)
+overflow_cast-row_exponent : tie.Need-overflow_cast-row_exponent invariant-loop-k decreases-loop-k
+overflow_cast-row_exponent c = omega (arith, c.shared_slice_known-in-loop-k-1.given c.loop-k.k)
 
-mul-row-exponent-2 : tie.Need-overflow-mul-row-exponent-2 invariant-loop decreases-loop
-mul-row-exponent-2 c = omega (arith, facts c.before, (entry-of-in-loop c.before).good.1.0.1)
+offset_bounds-row_exponents-row_idx : tie.Need-offset_bounds-row_exponents-row_idx invariant-loop-k decreases-loop-k
+offset_bounds-row_exponents-row_idx c = omega (arith, facts c.before, c.well_formed.1.0.1)
 
-shared-slice-copy-out-row-exponent : tie.Need-shared-slice-copy-out-row-exponent invariant-loop decreases-loop
-shared-slice-copy-out-row-exponent c = omega (arith, facts c.before)
+bounds-row_exponents-row_idx : tie.Need-bounds-row_exponents-row_idx invariant-loop-k decreases-loop-k
+bounds-row_exponents-row_idx c = omega (arith, facts c.before)
 
-mul-scaled : tie.Need-overflow-mul-scaled invariant-loop decreases-loop
-mul-scaled c = omega (arith, facts c.before.before, (entry-of-in-loop c.before.before).good.1.1.1.0.1)
+offset_bounds-values-k : tie.Need-offset_bounds-values-k invariant-loop-k decreases-loop-k
+offset_bounds-values-k c = omega (arith, facts c.before.before, c.well_formed.1.1.1.0.1)
 
-slice-read-scaled : tie.Need-slice-read-scaled invariant-loop decreases-loop
-slice-read-scaled c = omega (arith, facts (in-loop-of-slice-known2 c))
+bounds-values-k : tie.Need-bounds-values-k invariant-loop-k decreases-loop-k
+bounds-values-k c = omega (arith, facts c.before.before.before)
 
-scaled-requires : tie.Need-scaled-requires invariant-loop decreases-loop
+scaled-requires : tie.Need-scaled-requires invariant-loop-k decreases-loop-k
 scaled-requires c κs =
-    let l = c.before.before.before.before in
-    let s = entry-of-loop l in
-    let a = s.args in
-    let k = l.loop.k in
-    let f = facts (in-loop-of-slice-known2 c) in
-    let old : get_or l.loop.values k 0 ≡ get_or a.values.now k 0 = l.loop.invariant.2.over k (le_refl k) in
-    let fine = place_scalable a.row-idx.now a.row-exponents.now a.column-exponent a.values.now a.from a.to s.pre.1.1 k
-    l.loop.invariant.0 (in-loop-of-slice-known2 c).loop-test.true in (
-      (ap within_limit (row_read c.before) ∙ s.pre.0.within _ f.2, ap within_limit (column_read l) ∙ s.pre.1.0.1.1),
-      ap₂ scalable old (ap₂ ◌+ℤ◌ (row_read c.before) (column_read l)) ∙ fine,
+    let a = c.args in
+    let k = c.loop-k.k in
+    let f = facts c.before.before.before in
+    let old : get_or c.loop-k.values k 0 ≡ get_or a.values.now k 0 = c.loop-k.invariant.2.over k (le_refl k) in
+    let fine = place_scalable a.row-idx.now a.row-exponents.now a.column-exponent a.values.now a.from a.to c.requires.to_value k
+    c.loop-k.invariant.0 c.loop-k-test.true in (
+      (ap within_limit (row_read c.before) ∙ c.requires.places.within _ f.2, ap within_limit (column_read c.before.before.before.before) ∙ c.requires.from_le_to.1.1),
+      ap₂ scalable old (ap₂ ◌+ℤ◌ (row_read c.before) (column_read c.before.before.before.before)) ∙ fine,
     )
 
-mul-values : tie.Need-overflow-mul-values invariant-loop decreases-loop
-mul-values c = omega (arith, facts (in-loop-of-scaled c), (entry-of-scaled c).well-formed.1.1.1.0.1)
+offset_bounds-values-k-in-loop-k : tie.Need-offset_bounds-values-k-in-loop-k invariant-loop-k decreases-loop-k
+offset_bounds-values-k-in-loop-k c = omega (arith, facts c.before.before.before.before, c.well_formed.1.1.1.0.1)
 
-slice-write-values : tie.Need-slice-write-values invariant-loop decreases-loop
-slice-write-values c = omega (arith, facts (in-loop-of-scaled c))
+bounds-values-k-in-loop-k : tie.Need-bounds-values-k-in-loop-k invariant-loop-k decreases-loop-k
+bounds-values-k-in-loop-k c = omega (arith, facts c.before.before.before.before)
 
-add-k : tie.Need-overflow-add-k invariant-loop decreases-loop
-add-k c = omega (arith, facts (in-loop-of-scaled c), (entry-of-scaled c).well-formed.0.1)
+overflow_add-k : tie.Need-overflow_add-k invariant-loop-k decreases-loop-k
+overflow_add-k c = omega (arith, facts c.before.before.before.before, c.well_formed.0.1)
 
-loop-less : tie.Need-loop-smaller invariant-loop decreases-loop
-loop-less c = omega (arith, (in-loop-of-scaled c).loop-test.true)
+loop-k-smaller : tie.Need-loop-k-smaller invariant-loop-k decreases-loop-k
+loop-k-smaller c = omega (arith, c.loop-k-test.true)
 
-loop-again : tie.Need-loop-preserved invariant-loop decreases-loop
-loop-again c =
-    let l = c.before.before.before.before.before in
-    let a = (entry-of-loop l).args in
-    let k = l.loop.k in
-    let i = l.loop.invariant in
-    let f = facts (in-loop-of-scaled c) in
+loop-k-preserved : tie.Need-loop-k-preserved invariant-loop-k decreases-loop-k
+loop-k-preserved c =
+    let a = c.args in
+    let k = c.loop-k.k in
+    let i = c.loop-k.invariant in
+    let f = facts c.before.before.before.before in
     let e : c.scaled.result ≡ target a.row-idx.now a.row-exponents.now (to_z w32 (of_z w32 a.column-exponent)) a.values.now k =
     c.scaled.ensures
     ∙ ap₂ (λ (v : ℕ) (z : ℤ). scaled_bits v (z +ℤ to_z w32 (of_z w32 a.column-exponent))) (i.2.over k (le_refl k)) (row_read c.before.before) in
-    (omega (arith, i.0), omega (arith, (in-loop-of-scaled c).loop-test.true), one_more i.0 f.1 e i.2)
+    (omega (arith, i.0), omega (arith, c.loop-k-test.true), one_more i.0 f.1 e i.2)
 
-same_length_lem : tie.Need-same-length invariant-loop decreases-loop
-same_length_lem c = c.before.loop.invariant.2.same
+shape_of-values : tie.Need-shape_of-values invariant-loop-k decreases-loop-k
+shape_of-values c = c.loop-k.invariant.2.same
 
-returns : tie.Need-returns invariant-loop decreases-loop
+returns : tie.Need-returns invariant-loop-k decreases-loop-k
 returns c =
-    let l = c.before in
-    let a = (entry-of-loop l).args in
-    let e : l.loop.k ≡ a.to = omega (arith, l.loop.invariant.1, c.loop-test.false) in
+    let a = c.args in
+    let e : c.loop-k.k ≡ a.to = omega (arith, c.loop-k.invariant.1, c.loop-k-test.false) in
     subst (λ (k : ℕ). Written (target a.row-idx.now a.row-exponents.now a.column-exponent a.values.now) a.from k a.values.now
-    l.loop.values) e
-    (subst (λ (z : ℤ). Written (target a.row-idx.now a.row-exponents.now z a.values.now) a.from l.loop.k a.values.now
-    l.loop.values) (column_read l) l.loop.invariant.2)
+    c.loop-k.values) e
+    (subst (λ (z : ℤ). Written (target a.row-idx.now a.row-exponents.now z a.values.now) a.from c.loop-k.k a.values.now
+    c.loop-k.values) (column_read c.before) c.loop-k.invariant.2)
 
-pub scale-column-spec : {M : Type 1} → statement M
-scale-column-spec =
+pub scale_column_spec : {M : Type 1} → statement M
+scale_column_spec =
     tie.close
     (tie.spec
-    invariant-loop
-    decreases-loop
-    loop-holds
-    mul-row-exponent
-    shared-slice-read-row-exponent
-    cast-row-exponent
-    mul-row-exponent-2
-    shared-slice-copy-out-row-exponent
-    mul-scaled
-    slice-read-scaled
+    invariant-loop-k
+    decreases-loop-k
+    loop-k-init
+    offset_bounds-row_idx-k
+    bounds-row_idx-k
+    overflow_cast-row_exponent
+    offset_bounds-row_exponents-row_idx
+    bounds-row_exponents-row_idx
+    offset_bounds-values-k
+    bounds-values-k
     scaled-requires
-    mul-values
-    slice-write-values
-    add-k
-    loop-less
-    loop-again
-    same_length_lem
+    offset_bounds-values-k-in-loop-k
+    bounds-values-k-in-loop-k
+    overflow_add-k
+    loop-k-smaller
+    loop-k-preserved
+    shape_of-values
     returns)

@@ -17,159 +17,130 @@ use Rattle.exponents_apply.proofs.Writing.{scaled_at, none_written, stretch_more
 use Rattle.exponents_apply.proofs.scale_values.Statement.{statement}
 use Rattle.exponents_apply.proofs.scale_values.Tie as tie
 
-abbrev invariant-loop : tie.invariant-loop
-invariant-loop n col-ptr row-idx row-exponents column-exponents values₀ j₀ values j =
+abbrev invariant-loop-j : tie.invariant-loop-j
+invariant-loop-j n col-ptr row-idx row-exponents column-exponents values₀ j₀ values j =
     (j ≤ n) × Written (scaled_at (pattern n col-ptr row-idx) (exponents row-exponents column-exponents) values₀) 0 (get_or col-ptr j 0) values₀ values
 
-abbrev decreases-loop : tie.decreases-loop
-decreases-loop n col-ptr row-idx row-exponents column-exponents values₀ j₀ values j = n - j
+abbrev decreases-loop-j : tie.decreases-loop-j
+decreases-loop-j n col-ptr row-idx row-exponents column-exponents values₀ j₀ values j = n - j
 
--- places of the proof, each from a later one
-abbrev entry-of-loop : tie.At-loop invariant-loop decreases-loop → tie.Start invariant-loop decreases-loop
-entry-of-loop c = c.before.before.before.before
+column_read : (c : tie.After-column_exponent-1 invariant-loop-j decreases-loop-j) → let e =
+    exponent_at c.args.column-exponents.now c.loop-j.j in to_z w32 (of_z w32 e) ≡ e
+column_read c = read_is (exponent_at c.args.column-exponents.now c.loop-j.j) c.column_exponent-1.given
 
-abbrev entry-of-in-loop : tie.In-loop invariant-loop decreases-loop → tie.Start invariant-loop decreases-loop
-entry-of-in-loop c = entry-of-loop c.before
-
-abbrev entry-of-shared-slice-known3 : tie.After-shared-slice-known3 invariant-loop decreases-loop → tie.Start invariant-loop decreases-loop
-entry-of-shared-slice-known3 c = entry-of-in-loop c.before.before
-
-abbrev in-loop-of-shared-slice-known4 : tie.After-shared-slice-known4 invariant-loop decreases-loop → tie.In-loop invariant-loop decreases-loop
-in-loop-of-shared-slice-known4 c = c.before.before.before
-
-abbrev column-exponent-of-slice-known2 : tie.After-slice-known2 invariant-loop decreases-loop → tie.After-column-exponent invariant-loop decreases-loop
-column-exponent-of-slice-known2 c = c.before.before.before.before.before.before
-
-abbrev in-loop-of-slice-known2 : tie.After-slice-known2 invariant-loop decreases-loop → tie.In-loop invariant-loop decreases-loop
-in-loop-of-slice-known2 c = (column-exponent-of-slice-known2 c).before
-
-abbrev entry-of-slice-known2 : tie.After-slice-known2 invariant-loop decreases-loop → tie.Start invariant-loop decreases-loop
-entry-of-slice-known2 c = entry-of-in-loop (in-loop-of-slice-known2 c)
-
-column_read : (c : tie.After-column-exponent invariant-loop decreases-loop) → let l = c.before.before in let e =
-    exponent_at (entry-of-loop l).args.column-exponents.now l.loop.j in to_z w32 (of_z w32 e) ≡ e
-column_read c = let l = c.before.before in read_is (exponent_at (entry-of-loop l).args.column-exponents.now l.loop.j) c.column-exponent.given
-
-loop-holds : tie.Need-loop-init invariant-loop decreases-loop
-loop-holds c =
-    let s = c.before.before.before in
-    let a = s.args in
+loop-j-init : tie.Need-loop-j-init invariant-loop-j decreases-loop-j
+loop-j-init c =
+    let a = c.args in
     let f = scaled_at (pattern a.n a.col-ptr.now a.row-idx.now) (exponents a.row-exponents.now a.column-exponents.now) a.values.now in (
       omega arith,
-      subst (λ (k : ℕ). Written f 0 k a.values.now a.values.now) (sym s.requires.0.columns.pointers.first)
+      subst (λ (k : ℕ). Written f 0 k a.values.now a.values.now) (sym c.requires.tested.columns.pointers.first)
           (none_written f 0 a.values.now),
     )
 
-mul-column-exponent : tie.Need-overflow-mul-column-exponent invariant-loop decreases-loop
-mul-column-exponent c = omega (arith, c.loop-test.true, (entry-of-in-loop c).requires.0.exponents, (entry-of-in-loop c).well-formed.1.1.1.1.0.1)
+offset_bounds-column_exponents-j : tie.Need-offset_bounds-column_exponents-j invariant-loop-j decreases-loop-j
+offset_bounds-column_exponents-j c = omega (arith, c.loop-j-test.true, c.requires.tested.exponents, c.well_formed.1.1.1.1.0.1)
 
-shared-slice-copy-out-column-exponent : tie.Need-shared-slice-copy-out-column-exponent invariant-loop decreases-loop
-shared-slice-copy-out-column-exponent c = omega (arith, c.loop-test.true, (entry-of-in-loop c).requires.0.exponents)
+bounds-column_exponents-j : tie.Need-bounds-column_exponents-j invariant-loop-j decreases-loop-j
+bounds-column_exponents-j c = omega (arith, c.loop-j-test.true, c.requires.tested.exponents)
 
-mul-from : tie.Need-overflow-mul-from invariant-loop decreases-loop
-mul-from c = omega (arith, c.before.loop-test.true, (entry-of-in-loop c.before).pre.0.colptrs, (entry-of-in-loop c.before).good.1.0.1)
+offset_bounds-col_ptr-j : tie.Need-offset_bounds-col_ptr-j invariant-loop-j decreases-loop-j
+offset_bounds-col_ptr-j c = omega (arith, c.loop-j-test.true, c.requires.tested.colptrs, c.well_formed.1.0.1)
 
-shared-slice-read-from : tie.Need-shared-slice-read-from invariant-loop decreases-loop
-shared-slice-read-from c = omega (arith, c.before.before.loop-test.true, (entry-of-shared-slice-known3 c).requires.0.colptrs)
+bounds-col_ptr-j : tie.Need-bounds-col_ptr-j invariant-loop-j decreases-loop-j
+bounds-col_ptr-j c = omega (arith, c.loop-j-test.true, c.requires.tested.colptrs)
 
-cast-from : tie.Need-overflow-cast-from invariant-loop decreases-loop
-cast-from c = omega (arith, c.shared-slice-known3.given c.before.before.before.loop.j)
+overflow_cast-from : tie.Need-overflow_cast-from invariant-loop-j decreases-loop-j
+overflow_cast-from c = omega (arith, c.shared_slice_known-in-loop-j-1.given c.loop-j.j)
 
-add-to : tie.Need-overflow-add-to invariant-loop decreases-loop
-add-to c = omega (arith, c.before.before.loop-test.true, (entry-of-shared-slice-known3 c).requires.0.colptrs, (entry-of-shared-slice-known3 c).well-formed.1.0.1)
+overflow_add-to : tie.Need-overflow_add-to invariant-loop-j decreases-loop-j
+overflow_add-to c = omega (arith, c.loop-j-test.true, c.requires.tested.colptrs, c.well_formed.1.0.1)
 
-mul-to : tie.Need-overflow-mul-to invariant-loop decreases-loop
-mul-to c = omega (arith, c.before.before.loop-test.true, (entry-of-shared-slice-known3 c).requires.0.colptrs, (entry-of-shared-slice-known3 c).well-formed.1.0.1)
+offset_bounds-col_ptr-j-in-loop-j : tie.Need-offset_bounds-col_ptr-j-in-loop-j invariant-loop-j decreases-loop-j
+offset_bounds-col_ptr-j-in-loop-j c = omega (arith, c.loop-j-test.true, c.requires.tested.colptrs, c.well_formed.1.0.1)
 
-shared-slice-read-to : tie.Need-shared-slice-read-to invariant-loop decreases-loop
-shared-slice-read-to c = omega (arith, (in-loop-of-shared-slice-known4 c).loop-test.true, (entry-of-shared-slice-known3 c.before).pre.0.colptrs)
+bounds-col_ptr-j-in-loop-j : tie.Need-bounds-col_ptr-j-in-loop-j invariant-loop-j decreases-loop-j
+bounds-col_ptr-j-in-loop-j c = omega (arith, c.loop-j-test.true, c.requires.tested.colptrs)
 
-cast-to : tie.Need-overflow-cast-to invariant-loop decreases-loop
-cast-to c = omega (arith, c.shared-slice-known4.given ((in-loop-of-shared-slice-known4 c).before.loop.j + 1))
+overflow_cast-to : tie.Need-overflow_cast-to invariant-loop-j decreases-loop-j
+overflow_cast-to c = omega (arith, c.shared_slice_known-in-loop-j-2-1.given (c.loop-j.j + 1))
 
-scale-column-requires : tie.Need-scale-column-requires invariant-loop decreases-loop
-scale-column-requires c κs =
-    let l = c.before.before.before.before.before in
-    let s = entry-of-loop l in
-    let a = s.args in
-    let p = s.pre.0 in
-    let j = l.loop.j in
-    let h = (in-loop-of-shared-slice-known4 c.before).loop-test.taken in
-    let w = l.loop.invariant.1 in
+scale_column-requires : tie.Need-scale_column-requires invariant-loop-j decreases-loop-j
+scale_column-requires c κs =
+    let a = c.args in
+    let p = c.requires.tested in
+    let j = c.loop-j.j in
+    let h = c.loop-j-test.taken in
+    let w = c.loop-j.invariant.1 in
     let m = pattern a.n a.col-ptr.now a.row-idx.now in
     let e = exponents a.row-exponents.now a.column-exponents.now in
-    let places : Places a.row-idx.now a.row-exponents.now l.loop.values =
+    let places : Places a.row-idx.now a.row-exponents.now c.loop-j.values =
     record { stored = w.same ∙ p.places.stored; inside = p.places.inside; within = p.places.within } in
     let rises : get_or a.col-ptr.now j 0 ≤ get_or a.col-ptr.now (j + 1) 0 = rw add-one (p.columns.pointers.rises j h) in
-    let clean : column_fault a.row-idx.now a.row-exponents.now (exponent_at a.column-exponents.now j) l.loop.values
+    let clean : column_fault a.row-idx.now a.row-exponents.now (exponent_at a.column-exponents.now j) c.loop-j.values
     (get_or a.col-ptr.now j 0) (get_or a.col-ptr.now (j + 1) 0) ≡ 0 =
-    rw add-one (column_clean m e a.values.now p.columns j h s.pre.1 w) in
+    rw add-one (column_clean m e a.values.now p.columns j h c.requires.values_value w) in
     let read = column_read c.before.before.before in (
       places,
       (
         (rises, (pointer_below p.columns.pointers (j + 1) (omega arith), ap within_limit read ∙ p.within j (omega (arith, p.exponents)))),
-        ap (λ (z : ℤ). column_fault a.row-idx.now a.row-exponents.now z l.loop.values (get_or a.col-ptr.now j 0)
+        ap (λ (z : ℤ). column_fault a.row-idx.now a.row-exponents.now z c.loop-j.values (get_or a.col-ptr.now j 0)
             (get_or a.col-ptr.now (j + 1) 0)) read ∙ clean,
       ),
     )
 
-add-j : tie.Need-overflow-add-j invariant-loop decreases-loop
-add-j c = omega (arith, (in-loop-of-slice-known2 c).loop-test.true, (entry-of-slice-known2 c).requires.0.colptrs, (entry-of-slice-known2 c).well-formed.1.0.1)
+overflow_add-j : tie.Need-overflow_add-j invariant-loop-j decreases-loop-j
+overflow_add-j c = omega (arith, c.loop-j-test.true, c.requires.tested.colptrs, c.well_formed.1.0.1)
 
-loop-less : tie.Need-loop-smaller invariant-loop decreases-loop
-loop-less c = omega (arith, (in-loop-of-slice-known2 c).loop-test.true)
+loop-j-smaller : tie.Need-loop-j-smaller invariant-loop-j decreases-loop-j
+loop-j-smaller c = omega (arith, c.loop-j-test.true)
 
-loop-again : tie.Need-loop-preserved invariant-loop decreases-loop
-loop-again c =
-    let l = c.before.before.before.before.before.before.before.before in
-    let s = entry-of-loop l in
-    let a = s.args in
-    let p = s.pre.0 in
-    let j = l.loop.j in
-    let h = (in-loop-of-slice-known2 c).loop-test.true in
+loop-j-preserved : tie.Need-loop-j-preserved invariant-loop-j decreases-loop-j
+loop-j-preserved c =
+    let a = c.args in
+    let p = c.requires.tested in
+    let j = c.loop-j.j in
+    let h = c.loop-j-test.true in
     let m = pattern a.n a.col-ptr.now a.row-idx.now in
     let e = exponents a.row-exponents.now a.column-exponents.now in
-    let read = column_read (column-exponent-of-slice-known2 c) in
+    let read = column_read c.before.before.before.before.before.before in
     let rises : get_or a.col-ptr.now j 0 ≤ get_or a.col-ptr.now (j + 1) 0 = rw add-one (p.columns.pointers.rises j h) in (
       omega arith,
       stretch_more rises
-          (λ k x y. ap (λ (z : ℤ). scaled_bits (get_or l.loop.values k 0) (exponent_at a.row-exponents.now (get_or a.row-idx.now k 0) +ℤ z)) read
-          ∙ own_place m e a.values.now p.columns j h l.loop.invariant.1 k x (rw add-one at y))
-          l.loop.invariant.1 c.before.before.scale-column.ensures,
+          (λ k x y. ap (λ (z : ℤ). scaled_bits (get_or c.loop-j.values k 0) (exponent_at a.row-exponents.now (get_or a.row-idx.now k 0) +ℤ z)) read
+          ∙ own_place m e a.values.now p.columns j h c.loop-j.invariant.1 k x (rw add-one at y))
+          c.loop-j.invariant.1 c.scale_column.ensures,
     )
 
-same_length_lem : tie.Need-same-length invariant-loop decreases-loop
-same_length_lem c = c.before.loop.invariant.1.same
+shape_of-values : tie.Need-shape_of-values invariant-loop-j decreases-loop-j
+shape_of-values c = c.loop-j.invariant.1.same
 
-returns : tie.Need-returns invariant-loop decreases-loop
+returns : tie.Need-returns invariant-loop-j decreases-loop-j
 returns c =
-    let l = c.before in
-    let s = entry-of-loop l in
-    let a = s.args in
-    let e : l.loop.j ≡ a.n = omega (arith, l.loop.invariant.0, c.loop-test.false) in
+    let a = c.args in
+    let e : c.loop-j.j ≡ a.n = omega (arith, c.loop-j.invariant.0, c.loop-j-test.false) in
     let f = scaled_at (pattern a.n a.col-ptr.now a.row-idx.now) (exponents a.row-exponents.now a.column-exponents.now) a.values.now in
-    subst (λ (k : ℕ). Written f 0 k a.values.now l.loop.values)
-    (ap (λ (i : ℕ). get_or a.col-ptr.now i 0) e ∙ s.pre.0.columns.pointers.last) l.loop.invariant.1
+    subst (λ (k : ℕ). Written f 0 k a.values.now c.loop-j.values)
+    (ap (λ (i : ℕ). get_or a.col-ptr.now i 0) e ∙ c.requires.tested.columns.pointers.last) c.loop-j.invariant.1
 
-pub scale-values-spec : {M : Type 1} → statement M
-scale-values-spec =
+pub scale_values_spec : {M : Type 1} → statement M
+scale_values_spec =
     tie.close
     (tie.spec
-    invariant-loop
-    decreases-loop
-    loop-holds
-    mul-column-exponent
-    shared-slice-copy-out-column-exponent
-    mul-from
-    shared-slice-read-from
-    cast-from
-    add-to
-    mul-to
-    shared-slice-read-to
-    cast-to
-    scale-column-requires
-    add-j
-    loop-less
-    loop-again
-    same_length_lem
+    invariant-loop-j
+    decreases-loop-j
+    loop-j-init
+    offset_bounds-column_exponents-j
+    bounds-column_exponents-j
+    offset_bounds-col_ptr-j
+    bounds-col_ptr-j
+    overflow_cast-from
+    overflow_add-to
+    offset_bounds-col_ptr-j-in-loop-j
+    bounds-col_ptr-j-in-loop-j
+    overflow_cast-to
+    scale_column-requires
+    overflow_add-j
+    loop-j-smaller
+    loop-j-preserved
+    shape_of-values
     returns)

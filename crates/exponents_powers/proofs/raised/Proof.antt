@@ -23,11 +23,11 @@ read c =
     let e = c.args.exponent in
     ap (λ (z : ℤ). to_z w32 (of_z w32 z)) (sum c) ∙ to_z-of_z w32 (pos (raised_of e)) (raised_fits e c.requires)
 
-add-result : tie.Need-overflow-add-result
-add-result c = subst (SFits w32) (sym (sum c)) (raised_fits c.args.exponent c.requires)
+overflow_add-result : tie.Need-overflow_add-result
+overflow_add-result c = subst (SFits w32) (sym (sum c)) (raised_fits c.args.exponent c.requires)
 
-cast-result : tie.Need-overflow-cast-result
-cast-result c =
+overflow_cast-result : tie.Need-overflow_cast-result
+overflow_cast-result c =
     subst (λ (z : ℤ). T (non_neg z) × Fits w64 (nat_abs z)) (sym (read c)) (tt, record { fits = omega (arith, raised_most c.args.exponent c.requires) })
 
 returns : tie.Need-returns
@@ -36,5 +36,10 @@ returns c =
     let n = ap nat_abs (read c) in
     (ap pos n ∙ sym (raised_is e c.requires), subst (λ (r : ℕ). r ≤ 134217728) (sym n) (raised_most e c.requires))
 
-pub raised-spec : {M : Type 1} → statement M
-raised-spec = tie.close (tie.spec add-result cast-result returns)
+pub raised_spec : {M : Type 1} → statement M
+raised_spec =
+    tie.close
+    (tie.spec
+    overflow_add-result
+    overflow_cast-result
+    returns)

@@ -1,4 +1,5 @@
 -- `within_limit` meets its contract by computing.
+use Rattle.std.proofs.Common.{rules}
 use borrow.Author.Rules.{rules}
 use Rattle.exponents_powers.specs.Power.{within_limit}
 use Rattle.exponents_powers.proofs.within_limit.Statement.{statement}
@@ -8,5 +9,8 @@ returns : tie.Need-returns
 unfolding within_limit
 returns c = search rules
 
-pub within-limit-spec : {M : Type 1} → statement M
-within-limit-spec = tie.close (tie.spec returns)
+pub within_limit_spec : {M : Type 1} → statement M
+within_limit_spec =
+    tie.close
+    (tie.spec
+    returns)

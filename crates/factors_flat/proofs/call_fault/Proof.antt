@@ -1,21 +1,27 @@
 -- `call_fault` meets its contract: the matrix's fault, else the matching's.
+use Rattle.std.proofs.Common.{rules}
 use Rattle.sparse.proofs.First.{answer_first, answer_second}
 use borrow.Author.Rules.{rules}
 use Rattle.factors_flat.proofs.call_fault.Statement.{statement}
 use Rattle.factors_flat.proofs.call_fault.Tie as tie
 
-input-fault-requires : tie.Need-input-fault-requires
-input-fault-requires c κs = c.before.before.before.before.before.requires
+input_fault-fault-requires : tie.Need-input_fault-fault-requires
+input_fault-fault-requires c κs = c.requires
+
+returns-then-fault-ne-ACCEPTED : tie.Need-returns-then-fault-ne-ACCEPTED
+returns-then-fault-ne-ACCEPTED c = answer_first _ c.input_fault-fault.ensures c.if-fault-ne-ACCEPTED.true
+
+matching_fault-requires : tie.Need-matching_fault-requires
+matching_fault-requires c κs = search rules
 
 returns : tie.Need-returns
-returns c = answer_first _ c.before.input-fault.ensures c.if1.true
+returns-then-fault-ne-ACCEPTED c = answer_second c.input_fault-fault.ensures c.if-fault-ne-ACCEPTED.false c.matching_fault.ensures
 
-matching-fault-requires : tie.Need-matching-fault-requires
-matching-fault-requires c κs = search rules
-
-returns-2 : tie.Need-returns-2
-returns-2 c = answer_second c.before.before.input-fault.ensures c.before.if1.false c.matching-fault.ensures
-
-pub call-fault-spec : {M : Type 1} → statement M
-call-fault-spec =
-    tie.close (tie.spec input-fault-requires returns matching-fault-requires returns-2)
+pub call_fault_spec : {M : Type 1} → statement M
+call_fault_spec =
+    tie.close
+    (tie.spec
+    input_fault-fault-requires
+    returns-then-fault-ne-ACCEPTED
+    matching_fault-requires
+    returns)

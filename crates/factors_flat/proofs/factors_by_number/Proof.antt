@@ -1,4 +1,5 @@
 -- `factors_by_number` meets its contract: no rule, a wrong length, or the rule's answer by its three cases.
+use Rattle.std.proofs.Common.{rules}
 use Prim.Native.Nat.{◌≤◌}
 use native.Mathlib.Omega.{arith}
 use borrow.Author.Rules.{rules}
@@ -10,147 +11,128 @@ use Rattle.factors_flat.proofs.Numbers.{no_rule, unfit, applied, partial, refuse
 use Rattle.factors_flat.proofs.factors_by_number.Statement.{statement}
 use Rattle.factors_flat.proofs.factors_by_number.Tie as tie
 
--- places of the proof, each from a later one
-abbrev entry-of-Then1 : tie.Then1 → tie.Start
-entry-of-Then1 c = c.before.before.before.before.before.before.before.before.before.before.before.before
+low : (c : tie.Else-number-gt1) → c.args.number ≤ 1
+low c = omega (arith, c.if-number-gt1.false)
 
-abbrev entry-of-Else1 : tie.Else1 → tie.Start
-entry-of-Else1 c = c.before.before.before.before.before.before.before.before.before.before.before.before
-
-abbrev rule-of-called : tie.After-log-factors-by-rule → tie.After-rule-for
-rule-of-called c = c.before.before.before
-
-abbrev Else2-of-called : tie.After-log-factors-by-rule → tie.Else2
-Else2-of-called c = (rule-of-called c).before
-
-abbrev Else1-of-called : tie.After-log-factors-by-rule → tie.Else1
-Else1-of-called c = (Else2-of-called c).before
-
-abbrev entry-of-called : tie.After-log-factors-by-rule → tie.Start
-entry-of-called c = entry-of-Else1 (Else1-of-called c)
-
-low : (c : tie.Else1) → (entry-of-Else1 c).args.number ≤ 1
-low c = omega (arith, c.if1.false)
-
-returns : tie.Need-returns
-returns c =
-    let a = (entry-of-Then1 c).args in
+returns-then-number-gt1 : tie.Need-returns-then-number-gt1
+returns-then-number-gt1 c =
+    let a = c.args in
     let g = input (match_of a.perm.now a.u.now a.v.now a.cmax.now) (matrix a.n a.col-ptr.now a.row-idx.now a.values.now)
     a.logs.now in
     let s = slices a.factors.now a.work.now in
-    no_rule a.number a.matched g s a.unmatched.now c.if1.true
+    no_rule a.number a.matched g s a.unmatched.now c.if-number-gt1.true
 
-unfit-fault-requires : tie.Need-unfit-fault-requires
-unfit-fault-requires c κs = search rules
+unfit_fault-requires : tie.Need-unfit_fault-requires
+unfit_fault-requires c κs = search rules
 
-returns-2 : tie.Need-returns-2
-returns-2 c =
-    let a = (entry-of-Else1 c.before.before).args in
+returns-then-unmatched-ne1 : tie.Need-returns-then-unmatched-ne1
+returns-then-unmatched-ne1 c =
+    let a = c.args in
     let g = input (match_of a.perm.now a.u.now a.v.now a.cmax.now) (matrix a.n a.col-ptr.now a.row-idx.now a.values.now)
     a.logs.now in
     let s = slices a.factors.now a.work.now in
-    unfit a.number a.matched g s a.unmatched.now (low c.before.before) c.before.if2.true c.unfit-fault.ensures
+    unfit a.number a.matched g s a.unmatched.now (low c.before.before) c.if-unmatched-ne1.true c.unfit_fault.ensures
 
-rule-for-requires : tie.Need-rule-for-requires
-rule-for-requires c κs = search rules
+rule_for-rule-requires : tie.Need-rule_for-rule-requires
+rule_for-rule-requires c κs = search rules
 
-log-factors-by-rule-requires : tie.Need-log-factors-by-rule-requires
-log-factors-by-rule-requires c κs = search rules
+log_factors_by_rule-answer-requires : tie.Need-log_factors_by_rule-answer-requires
+log_factors_by_rule-answer-requires c κs = search rules
 
-enum_told : tie.Need-enum-told
-enum_told c = search rules
+enum_told-1 : tie.Need-enum_told-1
+enum_told-1 c = search rules
 
-slice-write-unmatched : tie.Need-slice-write-unmatched
-slice-write-unmatched c = search rules
+bounds-unmatched-0 : tie.Need-bounds-unmatched-0
+bounds-unmatched-0 c = search rules
 
-enum-known-answer : tie.Need-enum-known-answer
-enum-known-answer c = search rules
+enum_known-answer : tie.Need-enum_known-answer
+enum_known-answer c = search rules
 
-slice-write-unmatched-2 : tie.Need-slice-write-unmatched-2
-slice-write-unmatched-2 c = search rules
+bounds-unmatched-0-in-PartialSingular : tie.Need-bounds-unmatched-0-in-PartialSingular
+bounds-unmatched-0-in-PartialSingular c = search rules
 
-enum-known-answer-2 : tie.Need-enum-known-answer-2
-enum-known-answer-2 c = search rules
+enum_known-answer-in-Refused-1 : tie.Need-enum_known-answer-in-Refused-1
+enum_known-answer-in-Refused-1 c = search rules
 
-same_length_lem : tie.Need-same-length
-same_length_lem c = search rules
+shape_of-factors-in-Applied : tie.Need-shape_of-factors-in-Applied
+shape_of-factors-in-Applied c = search rules
 
-same-length-2 : tie.Need-same-length-2
-same-length-2 c = search rules
+shape_of-work-in-Applied : tie.Need-shape_of-work-in-Applied
+shape_of-work-in-Applied c = search rules
 
-same-length-3 : tie.Need-same-length-3
-same-length-3 c = search rules
+shape_of-unmatched-in-Applied : tie.Need-shape_of-unmatched-in-Applied
+shape_of-unmatched-in-Applied c = search rules
 
-returns-3 : tie.Need-returns-3
-returns-3 c =
-    let a = (entry-of-called c.before.before.before.before.before.before).args in
+returns-in-Applied : tie.Need-returns-in-Applied
+returns-in-Applied c =
+    let a = c.args in
     let g = input (match_of a.perm.now a.u.now a.v.now a.cmax.now) (matrix a.n a.col-ptr.now a.row-idx.now a.values.now)
     a.logs.now in
     let s = slices a.factors.now a.work.now in
-    applied a.number a.matched g s a.unmatched.now (low (Else1-of-called c.before.before.before.before.before.before))
-    (Else2-of-called c.before.before.before.before.before.before).if2.left
-    (rule-of-called c.before.before.before.before.before.before).rule-for.ensures
-    c.before.before.before.before.before.before.log-factors-by-rule.ensures c.enum_told.given.1
+    applied a.number a.matched g s a.unmatched.now (low c.before.before.before.before.before.before.before.before.before.before.before)
+    c.if-unmatched-ne1.left
+    c.rule_for-rule.ensures
+    c.log_factors_by_rule-answer.ensures c.enum_told-1.given.1
 
-same-length-4 : tie.Need-same-length-4
-same-length-4 c = search rules
+shape_of-factors-in-PartialSingular : tie.Need-shape_of-factors-in-PartialSingular
+shape_of-factors-in-PartialSingular c = search rules
 
-same-length-5 : tie.Need-same-length-5
-same-length-5 c = search rules
+shape_of-work-in-PartialSingular : tie.Need-shape_of-work-in-PartialSingular
+shape_of-work-in-PartialSingular c = search rules
 
-same-length-6 : tie.Need-same-length-6
-same-length-6 c = search rules
+shape_of-unmatched-in-PartialSingular : tie.Need-shape_of-unmatched-in-PartialSingular
+shape_of-unmatched-in-PartialSingular c = search rules
 
-returns-4 : tie.Need-returns-4
-returns-4 c =
-    let a = (entry-of-called c.before.before.before.before.before.before.before).args in
+returns-in-PartialSingular : tie.Need-returns-in-PartialSingular
+returns-in-PartialSingular c =
+    let a = c.args in
     let g = input (match_of a.perm.now a.u.now a.v.now a.cmax.now) (matrix a.n a.col-ptr.now a.row-idx.now a.values.now)
     a.logs.now in
     let s = slices a.factors.now a.work.now in
-    partial a.number a.matched g s a.unmatched.now (low (Else1-of-called c.before.before.before.before.before.before.before))
-    (Else2-of-called c.before.before.before.before.before.before.before).if2.left (rule-of-called
+    partial a.number a.matched g s a.unmatched.now (low c.before.before.before.before.before.before.before.before.before.before.before.before)
+    c.if-unmatched-ne1.left (rule-of-called
     c.before.before.before.before.before.before.before).rule-for.ensures
-    c.before.before.before.before.before.before.before.log-factors-by-rule.ensures c.before.answer.given.1
+    c.log_factors_by_rule-answer.ensures c.answer-1.given.1
 
-same-length-7 : tie.Need-same-length-7
-same-length-7 c = search rules
+shape_of-factors-in-Refused : tie.Need-shape_of-factors-in-Refused
+shape_of-factors-in-Refused c = search rules
 
-same-length-8 : tie.Need-same-length-8
-same-length-8 c = search rules
+shape_of-work-in-Refused : tie.Need-shape_of-work-in-Refused
+shape_of-work-in-Refused c = search rules
 
-returns-5 : tie.Need-returns-5
-returns-5 c =
-    let a = (entry-of-called c.before.before.before.before.before.before.before).args in
+returns-in-Refused : tie.Need-returns-in-Refused
+returns-in-Refused c =
+    let a = c.args in
     let g = input (match_of a.perm.now a.u.now a.v.now a.cmax.now) (matrix a.n a.col-ptr.now a.row-idx.now a.values.now)
     a.logs.now in
     let s = slices a.factors.now a.work.now in
-    refused a.number a.matched g s a.unmatched.now (low (Else1-of-called c.before.before.before.before.before.before.before))
-    (Else2-of-called c.before.before.before.before.before.before.before).if2.left (rule-of-called
+    refused a.number a.matched g s a.unmatched.now (low c.before.before.before.before.before.before.before.before.before.before.before.before)
+    c.if-unmatched-ne1.left (rule-of-called
     c.before.before.before.before.before.before.before).rule-for.ensures
-    c.before.before.before.before.before.before.before.log-factors-by-rule.ensures c.before.answer2.given.1
+    c.log_factors_by_rule-answer.ensures c.answer-in-Refused-1.given.1
 
-pub factors-by-number-spec : {M : Type 1} → statement M
-factors-by-number-spec =
+pub factors_by_number_spec : {M : Type 1} → statement M
+factors_by_number_spec =
     tie.close
     (tie.spec
-    returns
-    unfit-fault-requires
-    returns-2
-    rule-for-requires
-    log-factors-by-rule-requires
-    enum_told
-    slice-write-unmatched
-    enum-known-answer
-    slice-write-unmatched-2
-    enum-known-answer-2
-    same_length_lem
-    same-length-2
-    same-length-3
-    returns-3
-    same-length-4
-    same-length-5
-    same-length-6
-    returns-4
-    same-length-7
-    same-length-8
-    returns-5)
+    returns-then-number-gt1
+    unfit_fault-requires
+    returns-then-unmatched-ne1
+    rule_for-rule-requires
+    log_factors_by_rule-answer-requires
+    enum_told-1
+    bounds-unmatched-0
+    enum_known-answer
+    bounds-unmatched-0-in-PartialSingular
+    enum_known-answer-in-Refused-1
+    shape_of-factors-in-Applied
+    shape_of-work-in-Applied
+    shape_of-unmatched-in-Applied
+    returns-in-Applied
+    shape_of-factors-in-PartialSingular
+    shape_of-work-in-PartialSingular
+    shape_of-unmatched-in-PartialSingular
+    returns-in-PartialSingular
+    shape_of-factors-in-Refused
+    shape_of-work-in-Refused
+    returns-in-Refused)

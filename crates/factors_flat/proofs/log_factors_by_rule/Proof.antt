@@ -1,4 +1,5 @@
 -- `log_factors_by_rule` meets its contract: each rule's call leaves that rule's outcome.
+use Rattle.std.proofs.Common.{rules}
 use borrow.Author.Rules.{rules}
 use Rattle.sparse.specs.Matrix.{matrix}
 use Rattle.matching.specs.Match.{match_of}
@@ -10,58 +11,55 @@ use Rattle.factors_flat.proofs.log_factors_by_rule.Statement.{statement}
 use Rattle.factors_flat.proofs.log_factors_by_rule.Tie as tie
 
 -- a place of the proof, from a later one
-abbrev entry-of-slice-known2 : tie.After-slice-known2 → tie.Start
-entry-of-slice-known2 c = c.before.before.before.before.before.before.before.before.before.before
+enum_told-1 : tie.Need-enum_told-1
+enum_told-1 c = search rules
 
-enum_told : tie.Need-enum-told
-enum_told c = search rules
+log_factors-requires : tie.Need-log_factors-requires
+log_factors-requires c κs = search rules
 
-log-factors-requires : tie.Need-log-factors-requires
-log-factors-requires c κs = search rules
+enum_told-in-Flat : tie.Need-enum_told-in-Flat
+enum_told-in-Flat c = search rules
 
-enum-told-2 : tie.Need-enum-told-2
-enum-told-2 c = search rules
+flat_factors-requires : tie.Need-flat_factors-requires
+flat_factors-requires c κs = search rules
 
-flat-factors-requires : tie.Need-flat-factors-requires
-flat-factors-requires c κs = search rules
+shape_of-factors-in-Identity : tie.Need-shape_of-factors-in-Identity
+shape_of-factors-in-Identity c = search rules
 
-same_length_lem : tie.Need-same-length
-same_length_lem c = search rules
+shape_of-work-in-Identity : tie.Need-shape_of-work-in-Identity
+shape_of-work-in-Identity c = search rules
 
-same-length-2 : tie.Need-same-length-2
-same-length-2 c = search rules
-
-returns : tie.Need-returns
-returns c =
-    let a = (entry-of-slice-known2 c.before.before.before.before.before.before.before.before.before).args in
+returns-in-Identity : tie.Need-returns-in-Identity
+returns-in-Identity c =
+    let a = c.args in
     promised a.matched (input (match_of a.perm.now a.u.now a.v.now a.cmax.now)
     (matrix a.n a.col-ptr.now a.row-idx.now a.values.now) a.logs.now) (slices a.factors.now a.work.now) a.rule Identity
-    c.before.before.before.before.before.before.before.enum_told.given.1 c.before.before.before.before.log-factors.ensures.outcome
+    c.enum_told-1.given.1 c.log_factors.ensures.outcome
 
-same-length-3 : tie.Need-same-length-3
-same-length-3 c = search rules
+shape_of-factors-in-Flat : tie.Need-shape_of-factors-in-Flat
+shape_of-factors-in-Flat c = search rules
 
-same-length-4 : tie.Need-same-length-4
-same-length-4 c = search rules
+shape_of-work-in-Flat : tie.Need-shape_of-work-in-Flat
+shape_of-work-in-Flat c = search rules
 
-returns-2 : tie.Need-returns-2
-returns-2 c =
-    let a = (entry-of-slice-known2 c.before.before.before.before.before.before.before.before.before).args in
+returns-in-Flat : tie.Need-returns-in-Flat
+returns-in-Flat c =
+    let a = c.args in
     promised a.matched (input (match_of a.perm.now a.u.now a.v.now a.cmax.now)
     (matrix a.n a.col-ptr.now a.row-idx.now a.values.now) a.logs.now) (slices a.factors.now a.work.now) a.rule Flat
-    c.before.before.before.before.before.before.before.enum-told2.given.1 c.before.before.before.before.flat-factors.ensures
+    c.enum_told-in-Flat-1.given.1 c.flat_factors.ensures
 
-pub log-factors-by-rule-spec : {M : Type 1} → statement M
-log-factors-by-rule-spec =
+pub log_factors_by_rule_spec : {M : Type 1} → statement M
+log_factors_by_rule_spec =
     tie.close
     (tie.spec
-    enum_told
-    log-factors-requires
-    enum-told-2
-    flat-factors-requires
-    same_length_lem
-    same-length-2
-    returns
-    same-length-3
-    same-length-4
-    returns-2)
+    enum_told-1
+    log_factors-requires
+    enum_told-in-Flat
+    flat_factors-requires
+    shape_of-factors-in-Identity
+    shape_of-work-in-Identity
+    returns-in-Identity
+    shape_of-factors-in-Flat
+    shape_of-work-in-Flat
+    returns-in-Flat)

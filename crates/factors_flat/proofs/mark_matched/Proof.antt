@@ -9,92 +9,85 @@ use Rattle.factors_flat.proofs.Ends.{tested, marked_next, marked_last, byte_bit}
 use Rattle.factors_flat.proofs.mark_matched.Statement.{statement}
 use Rattle.factors_flat.proofs.mark_matched.Tie as tie
 
-abbrev invariant-loop : tie.invariant-loop
-invariant-loop n perm cmax work₀ i₀ work i = (i ≤ n) × MarkedTo n perm cmax i work
+abbrev invariant-loop-i : tie.invariant-loop-i
+invariant-loop-i n perm cmax work₀ i₀ work i = (i ≤ n) × MarkedTo n perm cmax i work
 
-abbrev decreases-loop : tie.decreases-loop
-decreases-loop n perm cmax work₀ i₀ work i = n - i
+abbrev decreases-loop-i : tie.decreases-loop-i
+decreases-loop-i n perm cmax work₀ i₀ work i = n - i
 
--- places of the proof, each from a later one
-abbrev loop-of-is-finite : tie.After-is-finite invariant-loop decreases-loop → tie.At-loop invariant-loop decreases-loop
-loop-of-is-finite c = c.before.before.before.before.before
+loop-i-init : tie.Need-loop-i-init invariant-loop-i decreases-loop-i
+loop-i-init c = (omega arith, c.requires.n_le_max_columns.1)
 
-loop-holds : tie.Need-loop-init invariant-loop decreases-loop
-loop-holds c = (omega arith, c.before.before.before.requires.1.1)
+offset_bounds-perm-i : tie.Need-offset_bounds-perm-i invariant-loop-i decreases-loop-i
+offset_bounds-perm-i c = omega arith
 
-mul-both : tie.Need-overflow-mul-both invariant-loop decreases-loop
-mul-both c = omega arith
+bounds-perm-i : tie.Need-bounds-perm-i invariant-loop-i decreases-loop-i
+bounds-perm-i c = omega arith
 
-shared-slice-read-both : tie.Need-shared-slice-read-both invariant-loop decreases-loop
-shared-slice-read-both c = omega arith
+offset_bounds-work-i : tie.Need-offset_bounds-work-i invariant-loop-i decreases-loop-i
+offset_bounds-work-i c = omega (arith, c.loop-i.invariant.1.words)
 
-mul-both-2 : tie.Need-overflow-mul-both-2 invariant-loop decreases-loop
-mul-both-2 c = omega (arith, c.before.before.loop.invariant.1.words)
+bounds-work-i : tie.Need-bounds-work-i invariant-loop-i decreases-loop-i
+bounds-work-i c = omega (arith, c.loop-i.invariant.1.words)
 
-slice-read-both : tie.Need-slice-read-both invariant-loop decreases-loop
-slice-read-both c = omega (arith, c.before.before.before.loop.invariant.1.words)
+offset_bounds-cmax-i : tie.Need-offset_bounds-cmax-i invariant-loop-i decreases-loop-i
+offset_bounds-cmax-i c = omega arith
 
-mul-is-finite : tie.Need-overflow-mul-is-finite invariant-loop decreases-loop
-mul-is-finite c = omega arith
+bounds-cmax-i : tie.Need-bounds-cmax-i invariant-loop-i decreases-loop-i
+bounds-cmax-i c = omega arith
 
-shared-slice-read-is-finite : tie.Need-shared-slice-read-is-finite invariant-loop decreases-loop
-shared-slice-read-is-finite c = omega arith
+is_finite-bounded-requires : tie.Need-is_finite-bounded-requires invariant-loop-i decreases-loop-i
+is_finite-bounded-requires c κs = tt
 
-is-finite-requires : tie.Need-is-finite-requires invariant-loop decreases-loop
-is-finite-requires c κs = tt
+overflow_cast-work : tie.Need-overflow_cast-work invariant-loop-i decreases-loop-i
+overflow_cast-work c = tt
 
-cast-work : tie.Need-overflow-cast-work invariant-loop decreases-loop
-cast-work c = tt
+offset_bounds-work-i-in-loop-i : tie.Need-offset_bounds-work-i-in-loop-i invariant-loop-i decreases-loop-i
+offset_bounds-work-i-in-loop-i c = omega (arith, c.loop-i.invariant.1.words)
 
-mul-work : tie.Need-overflow-mul-work invariant-loop decreases-loop
-mul-work c = omega (arith, (loop-of-is-finite c).loop.invariant.1.words)
+bounds-work-i-in-loop-i : tie.Need-bounds-work-i-in-loop-i invariant-loop-i decreases-loop-i
+bounds-work-i-in-loop-i c = omega (arith, c.loop-i.invariant.1.words)
 
-slice-write-work : tie.Need-slice-write-work invariant-loop decreases-loop
-slice-write-work c = omega (arith, (loop-of-is-finite c).loop.invariant.1.words)
+overflow_step-i : tie.Need-overflow_step-i invariant-loop-i decreases-loop-i
+overflow_step-i c = omega arith
 
-add-i : tie.Need-overflow-add-i invariant-loop decreases-loop
-add-i c = omega arith
+loop-i-smaller : tie.Need-loop-i-smaller invariant-loop-i decreases-loop-i
+loop-i-smaller c = omega arith
 
-loop-less : tie.Need-loop-smaller invariant-loop decreases-loop
-loop-less c = omega arith
-
-loop-again : tie.Need-loop-preserved invariant-loop decreases-loop
-loop-again c =
-    let in-loop = c.before.before.before.before in
-    let loop = in-loop.before in
-    let entry = loop.before.before.before.before in
-    let a = entry.args in (
+loop-i-preserved : tie.Need-loop-i-preserved invariant-loop-i decreases-loop-i
+loop-i-preserved c =
+    let a = c.args in (
       omega arith,
-      marked_next _ _ _ _ _ loop.loop.invariant.1 in-loop.loop-test.true
-          (rw c.is_finite.ensures (ap bool_byte (tested _ _ _ _ _ loop.loop.invariant.1
-          in-loop.loop-test.true) ∙ byte_bit (matched_by a.n a.perm.now a.cmax.now loop.loop.i))),
+      marked_next _ _ _ _ _ c.loop-i.invariant.1 c.loop-i-test.true
+          (rw c.is_finite-bounded.ensures (ap bool_byte (tested _ _ _ _ _ c.loop-i.invariant.1
+          c.loop-i-test.true) ∙ byte_bit (matched_by a.n a.perm.now a.cmax.now c.loop-i.i))),
     )
 
-same_length_lem : tie.Need-same-length invariant-loop decreases-loop
-same_length_lem c = omega (arith, c.before.loop.invariant.1.words, c.before.before.before.before.before.requires.1.1.words)
+shape_of-work : tie.Need-shape_of-work invariant-loop-i decreases-loop-i
+shape_of-work c = omega (arith, c.loop-i.invariant.1.words, c.requires.n_le_max_columns.1.words)
 
-returns : tie.Need-returns invariant-loop decreases-loop
-returns c = marked_last (omega arith) c.before.loop.invariant.1
+returns : tie.Need-returns invariant-loop-i decreases-loop-i
+returns c = marked_last (omega arith) c.loop-i.invariant.1
 
-pub mark-matched-spec : {M : Type 1} → statement M
-mark-matched-spec =
+pub mark_matched_spec : {M : Type 1} → statement M
+mark_matched_spec =
     tie.close
     (tie.spec
-    invariant-loop
-    decreases-loop
-    loop-holds
-    mul-both
-    shared-slice-read-both
-    mul-both-2
-    slice-read-both
-    mul-is-finite
-    shared-slice-read-is-finite
-    is-finite-requires
-    cast-work
-    mul-work
-    slice-write-work
-    add-i
-    loop-less
-    loop-again
-    same_length_lem
+    invariant-loop-i
+    decreases-loop-i
+    loop-i-init
+    offset_bounds-perm-i
+    bounds-perm-i
+    offset_bounds-work-i
+    bounds-work-i
+    offset_bounds-cmax-i
+    bounds-cmax-i
+    is_finite-bounded-requires
+    overflow_cast-work
+    offset_bounds-work-i-in-loop-i
+    bounds-work-i-in-loop-i
+    overflow_step-i
+    loop-i-smaller
+    loop-i-preserved
+    shape_of-work
     returns)

@@ -3,11 +3,15 @@ use mathlib.Core.Path.{refl}
 use Rattle.factors_flat.proofs.raised.Statement.{statement}
 use Rattle.factors_flat.proofs.raised.Tie as tie
 
-returns : tie.Need-returns
-returns c = rw c.if1.true refl
+returns-then-mark-best : tie.Need-returns-then-mark-best
+returns-then-mark-best c = rw c.if-mark-best.true refl
 
-returns-2 : tie.Need-returns-2
-returns-2 c = rw c.if1.false refl
+returns-else-mark-best : tie.Need-returns-else-mark-best
+returns-else-mark-best c = rw c.if-mark-best.false refl
 
-pub raised-spec : {M : Type 1} → statement M
-raised-spec = tie.close (tie.spec returns returns-2)
+pub raised_spec : {M : Type 1} → statement M
+raised_spec =
+    tie.close
+    (tie.spec
+    returns-then-mark-best
+    returns-else-mark-best)

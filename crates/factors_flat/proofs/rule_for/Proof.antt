@@ -3,11 +3,15 @@ use Rattle.factors_flat.proofs.Numbers.{identity_of, flat_of}
 use Rattle.factors_flat.proofs.rule_for.Statement.{statement}
 use Rattle.factors_flat.proofs.rule_for.Tie as tie
 
+returns-then-number-eq0 : tie.Need-returns-then-number-eq0
+returns-then-number-eq0 c = identity_of c.args.number c.if-number-eq0.true
+
 returns : tie.Need-returns
-returns c = identity_of c.before.args.number c.if1.true
+returns-then-number-eq0 c = flat_of c.args.number c.if-number-eq0.false
 
-returns-2 : tie.Need-returns-2
-returns-2 c = flat_of c.before.args.number c.if1.false
-
-pub rule-for-spec : {M : Type 1} → statement M
-rule-for-spec = tie.close (tie.spec returns returns-2)
+pub rule_for_spec : {M : Type 1} → statement M
+rule_for_spec =
+    tie.close
+    (tie.spec
+    returns-then-number-eq0
+    returns)

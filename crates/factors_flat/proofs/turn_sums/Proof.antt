@@ -10,78 +10,71 @@ use Rattle.factors_flat.proofs.Ends.{turned_length, turn_next}
 use Rattle.factors_flat.proofs.turn_sums.Statement.{statement}
 use Rattle.factors_flat.proofs.turn_sums.Tie as tie
 
-abbrev invariant-loop : tie.invariant-loop
-invariant-loop n factors₀ work i₀ factors i = (i ≤ n) × Front (turned_all n (slices factors₀ work)) factors₀ factors i
+abbrev invariant-loop-i : tie.invariant-loop-i
+invariant-loop-i n factors₀ work i₀ factors i = (i ≤ n) × Front (turned_all n (slices factors₀ work)) factors₀ factors i
 
-abbrev decreases-loop : tie.decreases-loop
-decreases-loop n factors₀ work i₀ factors i = n - i
+abbrev decreases-loop-i : tie.decreases-loop-i
+decreases-loop-i n factors₀ work i₀ factors i = n - i
 
--- places of the proof, each from a later one
-abbrev loop-of-turn : tie.After-turn invariant-loop decreases-loop → tie.At-loop invariant-loop decreases-loop
-loop-of-turn c = c.before.before.before.before
+loop-i-init : tie.Need-loop-i-init invariant-loop-i decreases-loop-i
+loop-i-init c = (omega arith, front_start _ _ (turned_length _ _ ∙ sym c.requires.0))
 
-abbrev entry-of-turn : tie.After-turn invariant-loop decreases-loop → tie.Start invariant-loop decreases-loop
-entry-of-turn c = (loop-of-turn c).before.before.before
+offset_bounds-work-i : tie.Need-offset_bounds-work-i invariant-loop-i decreases-loop-i
+offset_bounds-work-i c = omega arith
 
-loop-holds : tie.Need-loop-init invariant-loop decreases-loop
-loop-holds c = (omega arith, front_start _ _ (turned_length _ _ ∙ sym c.before.before.requires.0))
+bounds-work-i : tie.Need-bounds-work-i invariant-loop-i decreases-loop-i
+bounds-work-i c = omega arith
 
-mul-turn : tie.Need-overflow-mul-turn invariant-loop decreases-loop
-mul-turn c = omega arith
+offset_bounds-factors-i : tie.Need-offset_bounds-factors-i invariant-loop-i decreases-loop-i
+offset_bounds-factors-i c = omega (arith, c.loop-i.invariant.1.same)
 
-shared-slice-read-turn : tie.Need-shared-slice-read-turn invariant-loop decreases-loop
-shared-slice-read-turn c = omega arith
+bounds-factors-i : tie.Need-bounds-factors-i invariant-loop-i decreases-loop-i
+bounds-factors-i c = omega (arith, c.loop-i.invariant.1.same)
 
-mul-turn-2 : tie.Need-overflow-mul-turn-2 invariant-loop decreases-loop
-mul-turn-2 c = omega (arith, c.before.before.loop.invariant.1.same)
-
-slice-read-turn : tie.Need-slice-read-turn invariant-loop decreases-loop
-slice-read-turn c = omega (arith, c.before.before.before.loop.invariant.1.same)
-
-turn-requires : tie.Need-turn-requires invariant-loop decreases-loop
+turn-requires : tie.Need-turn-requires invariant-loop-i decreases-loop-i
 turn-requires c κs = tt
 
-mul-factors : tie.Need-overflow-mul-factors invariant-loop decreases-loop
-mul-factors c = omega (arith, (loop-of-turn c).loop.invariant.1.same)
+offset_bounds-factors-i-in-loop-i : tie.Need-offset_bounds-factors-i-in-loop-i invariant-loop-i decreases-loop-i
+offset_bounds-factors-i-in-loop-i c = omega (arith, c.loop-i.invariant.1.same)
 
-slice-write-factors : tie.Need-slice-write-factors invariant-loop decreases-loop
-slice-write-factors c = omega (arith, (loop-of-turn c).loop.invariant.1.same)
+bounds-factors-i-in-loop-i : tie.Need-bounds-factors-i-in-loop-i invariant-loop-i decreases-loop-i
+bounds-factors-i-in-loop-i c = omega (arith, c.loop-i.invariant.1.same)
 
-add-i : tie.Need-overflow-add-i invariant-loop decreases-loop
-add-i c = omega arith
+overflow_step-i : tie.Need-overflow_step-i invariant-loop-i decreases-loop-i
+overflow_step-i c = omega arith
 
-loop-less : tie.Need-loop-smaller invariant-loop decreases-loop
-loop-less c = omega arith
+loop-i-smaller : tie.Need-loop-i-smaller invariant-loop-i decreases-loop-i
+loop-i-smaller c = omega arith
 
-loop-again : tie.Need-loop-preserved invariant-loop decreases-loop
-loop-again c = (
+loop-i-preserved : tie.Need-loop-i-preserved invariant-loop-i decreases-loop-i
+loop-i-preserved c = (
   omega arith,
-  turn_next _ _ _ (entry-of-turn c).requires.0 c.before.before.before.loop-test.true c.turn.ensures
-      (loop-of-turn c).loop.invariant.1,
+  turn_next _ _ _ c.requires.0 c.loop-i-test.true c.turn.ensures
+      c.loop-i.invariant.1,
 )
 
-same_length_lem : tie.Need-same-length invariant-loop decreases-loop
-same_length_lem c = c.before.loop.invariant.1.same
+shape_of-factors : tie.Need-shape_of-factors invariant-loop-i decreases-loop-i
+shape_of-factors c = c.loop-i.invariant.1.same
 
-returns : tie.Need-returns invariant-loop decreases-loop
-returns c = front_end c.before.loop.invariant.1 (omega arith)
+returns : tie.Need-returns invariant-loop-i decreases-loop-i
+returns c = front_end c.loop-i.invariant.1 (omega arith)
 
-pub turn-sums-spec : {M : Type 1} → statement M
-turn-sums-spec =
+pub turn_sums_spec : {M : Type 1} → statement M
+turn_sums_spec =
     tie.close
     (tie.spec
-    invariant-loop
-    decreases-loop
-    loop-holds
-    mul-turn
-    shared-slice-read-turn
-    mul-turn-2
-    slice-read-turn
+    invariant-loop-i
+    decreases-loop-i
+    loop-i-init
+    offset_bounds-work-i
+    bounds-work-i
+    offset_bounds-factors-i
+    bounds-factors-i
     turn-requires
-    mul-factors
-    slice-write-factors
-    add-i
-    loop-less
-    loop-again
-    same_length_lem
+    offset_bounds-factors-i-in-loop-i
+    bounds-factors-i-in-loop-i
+    overflow_step-i
+    loop-i-smaller
+    loop-i-preserved
+    shape_of-factors
     returns)

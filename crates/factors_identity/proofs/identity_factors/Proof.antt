@@ -1,4 +1,5 @@
 -- `identity_factors` meets its contract: a fault changes nothing, else every factor is 1.0.
+use Rattle.std.proofs.Common.{rules}
 use mathlib.Core.Path.{sym, ap, ◌∙◌}
 use Prim.Native.Nat.{ℕ}
 use lib.ListN.{replicate}
@@ -11,62 +12,49 @@ use borrow.Author.Rules.{rules}
 use Rattle.factors_identity.proofs.identity_factors.Statement.{statement}
 use Rattle.factors_identity.proofs.identity_factors.Tie as tie
 
--- places of the proof, each from a later one
-abbrev entry-of-lengths-fit : tie.After-lengths-fit → tie.Start
-entry-of-lengths-fit c = c.before.before.before.before.before.before
+lengths_fit-lengths-requires : tie.Need-lengths_fit-lengths-requires
+lengths_fit-lengths-requires c κs = search rules
 
-abbrev else1-of-slice-known2 : tie.After-slice-known2 → tie.Else1
-else1-of-slice-known2 c = c.before.before.before.before
+input_fault-fault-requires : tie.Need-input_fault-fault-requires
+input_fault-fault-requires c κs = search rules
 
-abbrev lengths-fit-of-slice-known2 : tie.After-slice-known2 → tie.After-lengths-fit
-lengths-fit-of-slice-known2 c = (else1-of-slice-known2 c).before.before
+shape_of-factors-then-fault-ne-ACCEPTED : tie.Need-shape_of-factors-then-fault-ne-ACCEPTED
+shape_of-factors-then-fault-ne-ACCEPTED c = search rules
 
-abbrev entry-of-slice-known2 : tie.After-slice-known2 → tie.Start
-entry-of-slice-known2 c = entry-of-lengths-fit (lengths-fit-of-slice-known2 c)
-
-lengths-fit-requires : tie.Need-lengths-fit-requires
-lengths-fit-requires c κs = search rules
-
-input-fault-requires : tie.Need-input-fault-requires
-input-fault-requires c κs = search rules
-
-same_length_lem : tie.Need-same-length
-same_length_lem c = search rules
-
-returns : tie.Need-returns
+returns-then-fault-ne-ACCEPTED : tie.Need-returns-then-fault-ne-ACCEPTED
 unfolding identity_factors
-returns c =
-    let args = (entry-of-lengths-fit c.before.before).args in
+returns-then-fault-ne-ACCEPTED c =
+    let args = c.args in
     filled_refused (replicate args.n Constants.one) args.factors.now
     (onepass_fault_lem (matrix args.n args.col-ptr.now args.row-idx.now args.values.now) args.factors.now
-    c.before.input-fault.ensures c.before.before.lengths_fit_lem.ensures) c.if1.true
+    c.input_fault-fault.ensures c.lengths_fit-lengths.ensures) c.if-fault-ne-ACCEPTED.true
 
 fill-requires : tie.Need-fill-requires
 fill-requires c κs = search rules
 
-same-length-2 : tie.Need-same-length-2
-same-length-2 c = search rules
+shape_of-factors : tie.Need-shape_of-factors
+shape_of-factors c = search rules
 
-returns-2 : tie.Need-returns-2
+returns : tie.Need-returns
 unfolding identity_factors
-returns-2 c =
-    let args = (entry-of-slice-known2 c).args in
+returns-then-fault-ne-ACCEPTED c =
+    let args = c.args in
     let fine = sym (onepass_fault_lem (matrix args.n args.col-ptr.now args.row-idx.now args.values.now)
-    args.factors.now (else1-of-slice-known2 c).before.input-fault.ensures
-    (lengths-fit-of-slice-known2 c).lengths_fit_lem.ensures) ∙
-    (else1-of-slice-known2 c).if1.false in
+    args.factors.now c.input_fault-fault.ensures
+    c.lengths_fit-lengths.ensures) ∙
+    c.if-fault-ne-ACCEPTED.false in
     filled_done (replicate args.n Constants.one) args.factors.now fine
-    (c.before.before.fill.ensures ∙ ap (λ (k : ℕ). replicate k Constants.one)
+    (c.fill.ensures ∙ ap (λ (k : ℕ). replicate k Constants.one)
     (onepass_room (matrix args.n args.col-ptr.now args.row-idx.now args.values.now) args.factors.now fine))
 
-pub identity-factors-spec : {M : Type 1} → statement M
-identity-factors-spec =
+pub identity_factors_spec : {M : Type 1} → statement M
+identity_factors_spec =
     tie.close
     (tie.spec
-    lengths-fit-requires
-    input-fault-requires
-    same_length_lem
-    returns
+    lengths_fit-lengths-requires
+    input_fault-fault-requires
+    shape_of-factors-then-fault-ne-ACCEPTED
+    returns-then-fault-ne-ACCEPTED
     fill-requires
-    same-length-2
-    returns-2)
+    shape_of-factors
+    returns)

@@ -1,18 +1,24 @@
 -- `answer` meets its contract: its test is the definition's.
+use Rattle.std.proofs.Common.{rules}
 use mathlib.Core.Path.{refl}
 use borrow.Author.Tests.{eq-eqb, ne_eqb}
 use borrow.Author.Rules.{rules}
 use Rattle.factors_mc64.proofs.answer.Statement.{statement}
 use Rattle.factors_mc64.proofs.answer.Tie as tie
 
+returns-then-matched-n : tie.Need-returns-then-matched-n
+returns-then-matched-n c = rw (eq-eqb _ _ c.if-matched-n.true) refl
+
+overflow_sub-result : tie.Need-overflow_sub-result
+overflow_sub-result c = search rules
+
 returns : tie.Need-returns
-returns c = rw (eq-eqb _ _ c.if1.true) refl
+returns-then-matched-n c = rw (ne_eqb _ _ c.if-matched-n.false) refl
 
-sub-t4 : tie.Need-overflow-sub-t4
-sub-t4 c = search rules
-
-returns-2 : tie.Need-returns-2
-returns-2 c = rw (ne_eqb _ _ c.if1.false) refl
-
-pub answer-spec : {M : Type 1} → statement M
-answer-spec = tie.close (tie.spec returns sub-t4 returns-2)
+pub answer_spec : {M : Type 1} → statement M
+answer_spec =
+    tie.close
+    (tie.spec
+    returns-then-matched-n
+    overflow_sub-result
+    returns)

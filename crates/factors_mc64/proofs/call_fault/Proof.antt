@@ -3,18 +3,23 @@ use Rattle.sparse.proofs.First.{answer_first, answer_second}
 use Rattle.factors_mc64.proofs.call_fault.Statement.{statement}
 use Rattle.factors_mc64.proofs.call_fault.Tie as tie
 
-size-fault-requires : tie.Need-size-fault-requires
-size-fault-requires c κs = tt
+size_fault-fault-requires : tie.Need-size_fault-fault-requires
+size_fault-fault-requires c κs = tt
+
+returns-then-fault-ne-ACCEPTED : tie.Need-returns-then-fault-ne-ACCEPTED
+returns-then-fault-ne-ACCEPTED c = answer_first _ c.size_fault-fault.ensures c.if-fault-ne-ACCEPTED.true
+
+matching_fault-requires : tie.Need-matching_fault-requires
+matching_fault-requires c κs = tt
 
 returns : tie.Need-returns
-returns c = answer_first _ c.before.size-fault.ensures c.if1.true
+returns-then-fault-ne-ACCEPTED c = answer_second c.size_fault-fault.ensures c.if-fault-ne-ACCEPTED.false c.matching_fault.ensures
 
-matching-fault-requires : tie.Need-matching-fault-requires
-matching-fault-requires c κs = tt
-
-returns-2 : tie.Need-returns-2
-returns-2 c = answer_second c.before.before.size-fault.ensures c.before.if1.false c.matching-fault.ensures
-
-pub call-fault-spec : {M : Type 1} → statement M
-call-fault-spec =
-    tie.close (tie.spec size-fault-requires returns matching-fault-requires returns-2)
+pub call_fault_spec : {M : Type 1} → statement M
+call_fault_spec =
+    tie.close
+    (tie.spec
+    size_fault-fault-requires
+    returns-then-fault-ne-ACCEPTED
+    matching_fault-requires
+    returns)

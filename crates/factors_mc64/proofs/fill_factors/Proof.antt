@@ -9,110 +9,100 @@ use Rattle.factors_mc64.proofs.Loops.{fill_goes_on, fill_ends, mark_tells}
 use Rattle.factors_mc64.proofs.fill_factors.Statement.{statement}
 use Rattle.factors_mc64.proofs.fill_factors.Tie as tie
 
-abbrev invariant-loop : tie.invariant-loop
-invariant-loop n perm u v cmax factors₀ work i₀ factors i = (i ≤ n) × (length factors ≡ n) × (take i factors ≡ doubles_of (factor_at n (match_of perm u v cmax)) i)
+abbrev invariant-loop-i : tie.invariant-loop-i
+invariant-loop-i n perm u v cmax factors₀ work i₀ factors i = (i ≤ n) × (length factors ≡ n) × (take i factors ≡ doubles_of (factor_at n (match_of perm u v cmax)) i)
 
-abbrev decreases-loop : tie.decreases-loop
-decreases-loop n perm u v cmax factors₀ work i₀ factors i = n - i
+abbrev decreases-loop-i : tie.decreases-loop-i
+decreases-loop-i n perm u v cmax factors₀ work i₀ factors i = n - i
 
--- places of the proof, each from a later one
-abbrev in-loop-of-log-factor : tie.After-log-factor invariant-loop decreases-loop → tie.In-loop invariant-loop decreases-loop
-in-loop-of-log-factor c = c.before.before.before.before.before.before
-
-abbrev loop-of-log-factor : tie.After-log-factor invariant-loop decreases-loop → tie.At-loop invariant-loop decreases-loop
-loop-of-log-factor c = (in-loop-of-log-factor c).before
-
-abbrev entry-of-log-factor : tie.After-log-factor invariant-loop decreases-loop → tie.Start invariant-loop decreases-loop
-entry-of-log-factor c = (loop-of-log-factor c).before.before.before.before.before.before.before
-
-loop-holds : tie.Need-loop-init invariant-loop decreases-loop
+loop-i-init : tie.Need-loop-i-init invariant-loop-i decreases-loop-i
 unfolding doubles_of
-loop-holds c = (omega arith, omega arith, refl)
+loop-i-init c = (omega arith, omega arith, refl)
 
-mul-both : tie.Need-overflow-mul-both invariant-loop decreases-loop
-mul-both c = omega arith
+offset_bounds-perm-i : tie.Need-offset_bounds-perm-i invariant-loop-i decreases-loop-i
+offset_bounds-perm-i c = omega arith
 
-shared-slice-read-both : tie.Need-shared-slice-read-both invariant-loop decreases-loop
-shared-slice-read-both c = omega arith
+bounds-perm-i : tie.Need-bounds-perm-i invariant-loop-i decreases-loop-i
+bounds-perm-i c = omega arith
 
-mul-both-2 : tie.Need-overflow-mul-both-2 invariant-loop decreases-loop
-mul-both-2 c = omega arith
+offset_bounds-work-i : tie.Need-offset_bounds-work-i invariant-loop-i decreases-loop-i
+offset_bounds-work-i c = omega arith
 
-shared-slice-read-both-2 : tie.Need-shared-slice-read-both-2 invariant-loop decreases-loop
-shared-slice-read-both-2 c = omega arith
+bounds-work-i : tie.Need-bounds-work-i invariant-loop-i decreases-loop-i
+bounds-work-i c = omega arith
 
-mul-log-factor : tie.Need-overflow-mul-log-factor invariant-loop decreases-loop
-mul-log-factor c = omega arith
+offset_bounds-u-i : tie.Need-offset_bounds-u-i invariant-loop-i decreases-loop-i
+offset_bounds-u-i c = omega arith
 
-shared-slice-read-log-factor : tie.Need-shared-slice-read-log-factor invariant-loop decreases-loop
-shared-slice-read-log-factor c = omega arith
+bounds-u-i : tie.Need-bounds-u-i invariant-loop-i decreases-loop-i
+bounds-u-i c = omega arith
 
-mul-log-factor-2 : tie.Need-overflow-mul-log-factor-2 invariant-loop decreases-loop
-mul-log-factor-2 c = omega arith
+offset_bounds-v-i : tie.Need-offset_bounds-v-i invariant-loop-i decreases-loop-i
+offset_bounds-v-i c = omega arith
 
-shared-slice-read-log-factor-2 : tie.Need-shared-slice-read-log-factor-2 invariant-loop decreases-loop
-shared-slice-read-log-factor-2 c = omega arith
+bounds-v-i : tie.Need-bounds-v-i invariant-loop-i decreases-loop-i
+bounds-v-i c = omega arith
 
-mul-log-factor-3 : tie.Need-overflow-mul-log-factor-3 invariant-loop decreases-loop
-mul-log-factor-3 c = omega arith
+offset_bounds-cmax-i : tie.Need-offset_bounds-cmax-i invariant-loop-i decreases-loop-i
+offset_bounds-cmax-i c = omega arith
 
-shared-slice-read-log-factor-3 : tie.Need-shared-slice-read-log-factor-3 invariant-loop decreases-loop
-shared-slice-read-log-factor-3 c = omega arith
+bounds-cmax-i : tie.Need-bounds-cmax-i invariant-loop-i decreases-loop-i
+bounds-cmax-i c = omega arith
 
-log-factor-requires : tie.Need-log-factor-requires invariant-loop decreases-loop
-log-factor-requires c κs = tt
+log_factor-requires : tie.Need-log_factor-requires invariant-loop-i decreases-loop-i
+log_factor-requires c κs = tt
 
-mul-factors : tie.Need-overflow-mul-factors invariant-loop decreases-loop
-mul-factors c = omega arith
+offset_bounds-factors-i : tie.Need-offset_bounds-factors-i invariant-loop-i decreases-loop-i
+offset_bounds-factors-i c = omega arith
 
-slice-write-factors : tie.Need-slice-write-factors invariant-loop decreases-loop
-slice-write-factors c = omega arith
+bounds-factors-i : tie.Need-bounds-factors-i invariant-loop-i decreases-loop-i
+bounds-factors-i c = omega arith
 
-add-i : tie.Need-overflow-add-i invariant-loop decreases-loop
-add-i c = omega arith
+overflow_step-i : tie.Need-overflow_step-i invariant-loop-i decreases-loop-i
+overflow_step-i c = omega arith
 
-loop-less : tie.Need-loop-smaller invariant-loop decreases-loop
-loop-less c = omega arith
+loop-i-smaller : tie.Need-loop-i-smaller invariant-loop-i decreases-loop-i
+loop-i-smaller c = omega arith
 
-loop-again : tie.Need-loop-preserved invariant-loop decreases-loop
-loop-again c = (
+loop-i-preserved : tie.Need-loop-i-preserved invariant-loop-i decreases-loop-i
+loop-i-preserved c = (
   omega arith,
-  simp length-set (loop-of-log-factor c).loop.invariant.1,
-  fill_goes_on _ _ (loop-of-log-factor c).loop.i _ (omega arith)
-      (c.log-factor.ensures ∙ rw (mark_tells (entry-of-log-factor c).requires.1
-      (loop-of-log-factor c).loop.i
-      (in-loop-of-log-factor c).loop-test.true) refl)
-      (loop-of-log-factor c).loop.invariant.2,
+  simp length-set c.loop-i.invariant.1,
+  fill_goes_on _ _ c.loop-i.i _ (omega arith)
+      (c.log_factor.ensures ∙ rw (mark_tells c.requires.marked
+      c.loop-i.i
+      c.loop-i-test.true) refl)
+      c.loop-i.invariant.2,
 )
 
-same_length_lem : tie.Need-same-length invariant-loop decreases-loop
-same_length_lem c = omega arith
+shape_of-factors : tie.Need-shape_of-factors invariant-loop-i decreases-loop-i
+shape_of-factors c = omega arith
 
-returns : tie.Need-returns invariant-loop decreases-loop
-returns c = fill_ends _ _ _ c.before.loop.i (omega arith) c.before.loop.invariant.1 c.before.loop.invariant.2
+returns : tie.Need-returns invariant-loop-i decreases-loop-i
+returns c = fill_ends _ _ _ c.loop-i.i (omega arith) c.loop-i.invariant.1 c.loop-i.invariant.2
 
-pub fill-factors-spec : {M : Type 1} → statement M
-fill-factors-spec =
+pub fill_factors_spec : {M : Type 1} → statement M
+fill_factors_spec =
     tie.close
     (tie.spec
-    invariant-loop
-    decreases-loop
-    loop-holds
-    mul-both
-    shared-slice-read-both
-    mul-both-2
-    shared-slice-read-both-2
-    mul-log-factor
-    shared-slice-read-log-factor
-    mul-log-factor-2
-    shared-slice-read-log-factor-2
-    mul-log-factor-3
-    shared-slice-read-log-factor-3
-    log-factor-requires
-    mul-factors
-    slice-write-factors
-    add-i
-    loop-less
-    loop-again
-    same_length_lem
+    invariant-loop-i
+    decreases-loop-i
+    loop-i-init
+    offset_bounds-perm-i
+    bounds-perm-i
+    offset_bounds-work-i
+    bounds-work-i
+    offset_bounds-u-i
+    bounds-u-i
+    offset_bounds-v-i
+    bounds-v-i
+    offset_bounds-cmax-i
+    bounds-cmax-i
+    log_factor-requires
+    offset_bounds-factors-i
+    bounds-factors-i
+    overflow_step-i
+    loop-i-smaller
+    loop-i-preserved
+    shape_of-factors
     returns)

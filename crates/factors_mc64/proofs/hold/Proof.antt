@@ -1,4 +1,5 @@
 -- `hold` meets its contract: only a NaN differs from itself.
+use Rattle.std.proofs.Common.{rules}
 use mathlib.Core.Path.{◌≡◌, refl}
 use mathlib.Core.Bool.{true, false, true≢false}
 use lib.Ieee.{Float, nan, inf, fin, is_nan, ne}
@@ -18,16 +19,21 @@ no_nan nan e = absurd (true≢false e)
 no_nan (inf s) e = refl
 no_nan (fin s m k) e = refl
 
+returns-then-x : tie.Need-returns-then-x
+unfolding held
+returns-then-x c = rw (nan-only c.args.x c.if-x.true) refl
+
+clamp_log-requires : tie.Need-clamp_log-requires
+clamp_log-requires c κs = search rules
+
 returns : tie.Need-returns
 unfolding held
-returns c = rw (nan-only c.before.args.x c.if1.true) refl
+returns-then-x c = rw (c.clamp_log.ensures, no_nan c.args.x c.if-x.false) refl
 
-clamp-log-requires : tie.Need-clamp-log-requires
-clamp-log-requires c κs = search rules
-
-returns-2 : tie.Need-returns-2
-unfolding held
-returns-2 c = rw (c.clamp-log.ensures, no_nan c.before.before.args.x c.before.if1.false) refl
-
-pub hold-spec : {M : Type 1} → statement M
-hold-spec = tie.close (tie.spec returns clamp-log-requires returns-2)
+pub hold_spec : {M : Type 1} → statement M
+hold_spec =
+    tie.close
+    (tie.spec
+    returns-then-x
+    clamp_log-requires
+    returns)

@@ -8,5 +8,8 @@ returns : tie.Need-returns
 unfolding lengths
 returns c = refl
 
-pub lengths-fit-spec : {M : Type 1} → statement M
-lengths-fit-spec = tie.close (tie.spec returns)
+pub lengths_fit_spec : {M : Type 1} → statement M
+lengths_fit_spec =
+    tie.close
+    (tie.spec
+    returns)

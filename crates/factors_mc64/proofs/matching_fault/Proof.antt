@@ -11,77 +11,70 @@ use Rattle.factors_mc64.specs.Calls.{matching_fault, row_or_none}
 use Rattle.factors_mc64.proofs.matching_fault.Statement.{statement}
 use Rattle.factors_mc64.proofs.matching_fault.Tie as tie
 
-abbrev invariant-loop : tie.invariant-loop
-invariant-loop n matched perm k₀ k-end k = (k ≤ length perm) × Passed (first_of (length perm) (λ i. unless (row_or_none n (get_or perm i 0)) matching_range) 0)
+abbrev invariant-loop-k : tie.invariant-loop-k
+invariant-loop-k n matched perm k₀ k-end k = (k ≤ length perm) × Passed (first_of (length perm) (λ i. unless (row_or_none n (get_or perm i 0)) matching_range) 0)
     (λ i. unless (row_or_none n (get_or perm i 0)) matching_range) (length perm) k
 
-abbrev decreases-loop : tie.decreases-loop
-decreases-loop n matched perm k₀ k-end k = length perm - k
+abbrev decreases-loop-k : tie.decreases-loop-k
+decreases-loop-k n matched perm k₀ k-end k = length perm - k
 
--- places of the proof, each from a later one
-abbrev loop-of-then2 : tie.Then2 invariant-loop decreases-loop → tie.At-loop invariant-loop decreases-loop
-loop-of-then2 c = c.before.before.before.before
-
-abbrev loop-of-else2 : tie.Else2 invariant-loop decreases-loop → tie.At-loop invariant-loop decreases-loop
-loop-of-else2 c = c.before.before.before.before
-
-returns : tie.Need-returns invariant-loop decreases-loop
+returns-then-matched-n : tie.Need-returns-then-matched-n invariant-loop-k decreases-loop-k
 unfolding matching_fault
-returns c = rw (lt-leb _ _ c.if1.true) refl
+returns-then-matched-n c = rw (lt-leb _ _ c.if-matched-n.true) refl
 
-loop-holds : tie.Need-loop-init invariant-loop decreases-loop
-loop-holds c = (omega arith, from_zero _ _)
+loop-k-init : tie.Need-loop-k-init invariant-loop-k decreases-loop-k
+loop-k-init c = (omega arith, from_zero _ _)
 
-mul-row-or-none : tie.Need-overflow-mul-row-or-none invariant-loop decreases-loop
-mul-row-or-none c = omega arith
+offset_bounds-perm-k : tie.Need-offset_bounds-perm-k invariant-loop-k decreases-loop-k
+offset_bounds-perm-k c = omega arith
 
-shared-slice-read-row-or-none : tie.Need-shared-slice-read-row-or-none invariant-loop decreases-loop
-shared-slice-read-row-or-none c = omega arith
+bounds-perm-k : tie.Need-bounds-perm-k invariant-loop-k decreases-loop-k
+bounds-perm-k c = omega arith
 
-row-or-none-requires : tie.Need-row-or-none-requires invariant-loop decreases-loop
-row-or-none-requires c κs = tt
+row_or_none-fine-requires : tie.Need-row_or_none-fine-requires invariant-loop-k decreases-loop-k
+row_or_none-fine-requires c κs = tt
 
-returns-2 : tie.Need-returns-2 invariant-loop decreases-loop
+returns-then-not-fine : tie.Need-returns-then-not-fine invariant-loop-k decreases-loop-k
 unfolding matching_fault
-returns-2 c = rw (le-leb _ _ (loop-of-then2 c).before.if1.false)
-    (found _ _ (loop-of-then2 c).loop.k (loop-of-then2 c).loop.invariant.1
-    c.before.before.before.loop-test.true (rw (
-      ← c.before.row-or-none.ensures,
-      not-true c.before.row-or-none.result
-          c.if2.true,
+returns-then-not-fine c = rw (le-leb _ _ c.if-matched-n.false)
+    (found _ _ c.loop-k.k c.loop-k.invariant.1
+    c.loop-k-test.true (rw (
+      ← c.row_or_none-fine.ensures,
+      not-true c.row_or_none-fine.result
+          c.if-not-fine.true,
     ) refl) (omega arith))
 
-add-k : tie.Need-overflow-add-k invariant-loop decreases-loop
-add-k c = omega arith
+overflow_step-k : tie.Need-overflow_step-k invariant-loop-k decreases-loop-k
+overflow_step-k c = omega arith
 
-loop-less : tie.Need-loop-smaller invariant-loop decreases-loop
-loop-less c = omega arith
+loop-k-smaller : tie.Need-loop-k-smaller invariant-loop-k decreases-loop-k
+loop-k-smaller c = omega arith
 
-loop-again : tie.Need-loop-preserved invariant-loop decreases-loop
-loop-again c = (
+loop-k-preserved : tie.Need-loop-k-preserved invariant-loop-k decreases-loop-k
+loop-k-preserved c = (
   omega arith,
-  pass _ _ (loop-of-else2 c).loop.k
-      (loop-of-else2 c).loop.invariant.1 c.before.before.before.loop-test.true
-      (rw (← c.before.row-or-none.ensures, not-false c.before.row-or-none.result c.if2.false) refl),
+  pass _ _ c.loop-k.k
+      c.loop-k.invariant.1 c.loop-k-test.true
+      (rw (← c.row_or_none-fine.ensures, not-false c.row_or_none-fine.result c.if-not-fine.false) refl),
 )
 
-returns-3 : tie.Need-returns-3 invariant-loop decreases-loop
+returns : tie.Need-returns invariant-loop-k decreases-loop-k
 unfolding matching_fault
-returns-3 c = rw (le-leb _ _ c.before.before.if1.false) (done _ _ c.before.loop.k c.before.loop.invariant.1 c.loop-test.false)
+returns-then-matched-n c = rw (le-leb _ _ c.if-matched-n.false) (done _ _ c.loop-k.k c.loop-k.invariant.1 c.loop-k-test.false)
 
-pub matching-fault-spec : {M : Type 1} → statement M
-matching-fault-spec =
+pub matching_fault_spec : {M : Type 1} → statement M
+matching_fault_spec =
     tie.close
     (tie.spec
-    invariant-loop
-    decreases-loop
-    returns
-    loop-holds
-    mul-row-or-none
-    shared-slice-read-row-or-none
-    row-or-none-requires
-    returns-2
-    add-k
-    loop-less
-    loop-again
-    returns-3)
+    invariant-loop-k
+    decreases-loop-k
+    returns-then-matched-n
+    loop-k-init
+    offset_bounds-perm-k
+    bounds-perm-k
+    row_or_none-fine-requires
+    returns-then-not-fine
+    overflow_step-k
+    loop-k-smaller
+    loop-k-preserved
+    returns)

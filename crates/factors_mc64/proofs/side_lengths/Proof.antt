@@ -8,5 +8,8 @@ returns : tie.Need-returns
 unfolding side_lengths
 returns c = refl
 
-pub side-lengths-spec : {M : Type 1} → statement M
-side-lengths-spec = tie.close (tie.spec returns)
+pub side_lengths_spec : {M : Type 1} → statement M
+side_lengths_spec =
+    tie.close
+    (tie.spec
+    returns)

@@ -9,110 +9,106 @@ use Rattle.factors_mc64.proofs.Loops.{fill_goes_on, fill_ends}
 use Rattle.factors_mc64.proofs.write_sides.Statement.{statement}
 use Rattle.factors_mc64.proofs.write_sides.Tie as tie
 
-abbrev invariant-loop : tie.invariant-loop
-invariant-loop n u v cmax rows₀ columns₀ i₀ rows columns i = (i ≤ n) × (length rows ≡ n) × (length columns ≡ n) ×
+abbrev invariant-loop-i : tie.invariant-loop-i
+invariant-loop-i n u v cmax rows₀ columns₀ i₀ rows columns i = (i ≤ n) × (length rows ≡ n) × (length columns ≡ n) ×
     (take i rows ≡ doubles_of (λ j. held (get_or u j nan)) i) × (take i columns ≡ doubles_of
     (λ j. held (sub binary64 (get_or v j nan) (get_or cmax j nan))) i)
 
-abbrev decreases-loop : tie.decreases-loop
-decreases-loop n u v cmax rows₀ columns₀ i₀ rows columns i = n - i
+abbrev decreases-loop-i : tie.decreases-loop-i
+decreases-loop-i n u v cmax rows₀ columns₀ i₀ rows columns i = n - i
 
--- places of the proof, each from a later one
-abbrev loop-of-hold2 : tie.After-hold2 invariant-loop decreases-loop → tie.At-loop invariant-loop decreases-loop
-loop-of-hold2 c = c.before.before.before.before.before.before
-
-loop-holds : tie.Need-loop-init invariant-loop decreases-loop
+loop-i-init : tie.Need-loop-i-init invariant-loop-i decreases-loop-i
 unfolding doubles_of
-loop-holds c = (omega arith, omega arith, omega arith, refl, refl)
+loop-i-init c = (omega arith, omega arith, omega arith, refl, refl)
 
-mul-hold : tie.Need-overflow-mul-hold invariant-loop decreases-loop
-mul-hold c = omega arith
+offset_bounds-u-i : tie.Need-offset_bounds-u-i invariant-loop-i decreases-loop-i
+offset_bounds-u-i c = omega arith
 
-shared-slice-read-hold : tie.Need-shared-slice-read-hold invariant-loop decreases-loop
-shared-slice-read-hold c = omega arith
+bounds-u-i : tie.Need-bounds-u-i invariant-loop-i decreases-loop-i
+bounds-u-i c = omega arith
 
-hold-requires : tie.Need-hold-requires invariant-loop decreases-loop
+hold-requires : tie.Need-hold-requires invariant-loop-i decreases-loop-i
 hold-requires c κs = tt
 
-mul-rows : tie.Need-overflow-mul-rows invariant-loop decreases-loop
-mul-rows c = omega arith
+offset_bounds-rows-i : tie.Need-offset_bounds-rows-i invariant-loop-i decreases-loop-i
+offset_bounds-rows-i c = omega arith
 
-slice-write-rows : tie.Need-slice-write-rows invariant-loop decreases-loop
-slice-write-rows c = omega arith
+bounds-rows-i : tie.Need-bounds-rows-i invariant-loop-i decreases-loop-i
+bounds-rows-i c = omega arith
 
-mul-hold-2 : tie.Need-overflow-mul-hold-2 invariant-loop decreases-loop
-mul-hold-2 c = omega arith
+offset_bounds-v-i : tie.Need-offset_bounds-v-i invariant-loop-i decreases-loop-i
+offset_bounds-v-i c = omega arith
 
-shared-slice-read-hold-2 : tie.Need-shared-slice-read-hold-2 invariant-loop decreases-loop
-shared-slice-read-hold-2 c = omega arith
+bounds-v-i : tie.Need-bounds-v-i invariant-loop-i decreases-loop-i
+bounds-v-i c = omega arith
 
-mul-hold-3 : tie.Need-overflow-mul-hold-3 invariant-loop decreases-loop
-mul-hold-3 c = omega arith
+offset_bounds-cmax-i : tie.Need-offset_bounds-cmax-i invariant-loop-i decreases-loop-i
+offset_bounds-cmax-i c = omega arith
 
-shared-slice-read-hold-3 : tie.Need-shared-slice-read-hold-3 invariant-loop decreases-loop
-shared-slice-read-hold-3 c = omega arith
+bounds-cmax-i : tie.Need-bounds-cmax-i invariant-loop-i decreases-loop-i
+bounds-cmax-i c = omega arith
 
-hold-requires-2 : tie.Need-hold-requires-2 invariant-loop decreases-loop
-hold-requires-2 c κs = tt
+hold-requires-in-loop-i : tie.Need-hold-requires-in-loop-i invariant-loop-i decreases-loop-i
+hold-requires-in-loop-i c κs = tt
 
-mul-columns : tie.Need-overflow-mul-columns invariant-loop decreases-loop
-mul-columns c = omega arith
+offset_bounds-columns-i : tie.Need-offset_bounds-columns-i invariant-loop-i decreases-loop-i
+offset_bounds-columns-i c = omega arith
 
-slice-write-columns : tie.Need-slice-write-columns invariant-loop decreases-loop
-slice-write-columns c = omega arith
+bounds-columns-i : tie.Need-bounds-columns-i invariant-loop-i decreases-loop-i
+bounds-columns-i c = omega arith
 
-add-i : tie.Need-overflow-add-i invariant-loop decreases-loop
-add-i c = omega arith
+overflow_step-i : tie.Need-overflow_step-i invariant-loop-i decreases-loop-i
+overflow_step-i c = omega arith
 
-loop-less : tie.Need-loop-smaller invariant-loop decreases-loop
-loop-less c = omega arith
+loop-i-smaller : tie.Need-loop-i-smaller invariant-loop-i decreases-loop-i
+loop-i-smaller c = omega arith
 
-loop-again : tie.Need-loop-preserved invariant-loop decreases-loop
-loop-again c =
-    let loop = loop-of-hold2 c in (
+loop-i-preserved : tie.Need-loop-i-preserved invariant-loop-i decreases-loop-i
+loop-i-preserved c =
+    (
       omega arith,
-      simp length-set loop.loop.inv.1,
-      simp length-set loop.loop.inv.2,
-      fill_goes_on _ _ loop.loop.i _
-          (omega arith) c.before.before.before.hold.ensures loop.loop.inv.3,
-      fill_goes_on _ _ loop.loop.i _
-          (omega arith) c.hold2.ensures loop.loop.inv.4,
+      simp length-set c.loop-i.inv.1,
+      simp length-set c.loop-i.inv.2,
+      fill_goes_on _ _ c.loop-i.i _
+          (omega arith) c.hold.ensures c.loop-i.inv.3,
+      fill_goes_on _ _ c.loop-i.i _
+          (omega arith) c.hold-in-loop-i.ensures c.loop-i.inv.4,
     )
 
-same_length_lem : tie.Need-same-length invariant-loop decreases-loop
-same_length_lem c = omega arith
+shape_of-rows : tie.Need-shape_of-rows invariant-loop-i decreases-loop-i
+shape_of-rows c = omega arith
 
-same-length-2 : tie.Need-same-length-2 invariant-loop decreases-loop
-same-length-2 c = omega arith
+shape_of-columns : tie.Need-shape_of-columns invariant-loop-i decreases-loop-i
+shape_of-columns c = omega arith
 
-returns : tie.Need-returns invariant-loop decreases-loop
+returns : tie.Need-returns invariant-loop-i decreases-loop-i
 returns c = (
-  fill_ends _ _ _ c.before.loop.i (omega arith) c.before.loop.invariant.1 c.before.loop.invariant.3,
-  fill_ends _ _ _ c.before.loop.i (omega arith) c.before.loop.invariant.2 c.before.loop.invariant.4,
+  fill_ends _ _ _ c.loop-i.i (omega arith) c.loop-i.invariant.1 c.loop-i.invariant.3,
+  fill_ends _ _ _ c.loop-i.i (omega arith) c.loop-i.invariant.2 c.loop-i.invariant.4,
 )
 
-pub write-sides-spec : {M : Type 1} → statement M
-write-sides-spec =
+pub write_sides_spec : {M : Type 1} → statement M
+write_sides_spec =
     tie.close
     (tie.spec
-    invariant-loop
-    decreases-loop
-    loop-holds
-    mul-hold
-    shared-slice-read-hold
+    invariant-loop-i
+    decreases-loop-i
+    loop-i-init
+    offset_bounds-u-i
+    bounds-u-i
     hold-requires
-    mul-rows
-    slice-write-rows
-    mul-hold-2
-    shared-slice-read-hold-2
-    mul-hold-3
-    shared-slice-read-hold-3
-    hold-requires-2
-    mul-columns
-    slice-write-columns
-    add-i
-    loop-less
-    loop-again
-    same_length_lem
-    same-length-2
+    offset_bounds-rows-i
+    bounds-rows-i
+    offset_bounds-v-i
+    bounds-v-i
+    offset_bounds-cmax-i
+    bounds-cmax-i
+    hold-requires-in-loop-i
+    offset_bounds-columns-i
+    bounds-columns-i
+    overflow_step-i
+    loop-i-smaller
+    loop-i-preserved
+    shape_of-rows
+    shape_of-columns
     returns)

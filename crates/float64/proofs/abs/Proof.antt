@@ -1,4 +1,5 @@
 -- `float64::abs` meets its contract: the turned number is the size, but for a zero.
+use Rattle.std.proofs.Common.{rules}
 use mathlib.Core.Path.{sym, subst, ◌∙◌}
 use borrow.Author.Rules.{rules}
 use lib.Dec.{T}
@@ -7,14 +8,19 @@ use Rattle.float64.proofs.Functions.{size-zero, size_other}
 use Rattle.float64.proofs.abs.Statement.{statement}
 use Rattle.float64.proofs.abs.Tie as tie
 
-size-of-requires : tie.Need-size-of-requires
-size-of-requires c κs = search rules
+size_of-size-requires : tie.Need-size_of-size-requires
+size_of-size-requires c κs = search rules
 
-returns : tie.Need-returns
-returns c = size-zero c.before.before.args.x (subst T (sym c.before.before.well-formed.0.1) tt) (rw c.before.size_of.ensures at c.if1.true)
+returns-then-size : tie.Need-returns-then-size
+returns-then-size c = size-zero c.args.x (subst T (sym c.well_formed.0.1) tt) (rw c.size_of-size.ensures at c.if-size.true)
 
-returns-2 : tie.Need-returns-2
-returns-2 c = c.before.size_of.ensures ∙ size_other c.before.before.args.x (rw c.before.size_of.ensures at c.if1.false)
+returns-else-size : tie.Need-returns-else-size
+returns-else-size c = c.size_of-size.ensures ∙ size_other c.args.x (rw c.size_of-size.ensures at c.if-size.false)
 
-pub abs-spec : {M : Type 1} → statement M
-abs-spec = tie.close (tie.spec size-of-requires returns returns-2)
+pub abs_spec : {M : Type 1} → statement M
+abs_spec =
+    tie.close
+    (tie.spec
+    size_of-size-requires
+    returns-then-size
+    returns-else-size)

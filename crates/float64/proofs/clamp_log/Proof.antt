@@ -5,17 +5,22 @@ use Rattle.float64.specs.Functions.{clamp_log}
 use Rattle.float64.proofs.clamp_log.Statement.{statement}
 use Rattle.float64.proofs.clamp_log.Tie as tie
 
-returns : tie.Need-returns
+returns-then-x : tie.Need-returns-then-x
 unfolding clamp_log of_bits neg
-returns c = rw c.if1.true refl
+returns-then-x c = rw c.if-x.true refl
 
-returns-2 : tie.Need-returns-2
+returns-then-x-2 : tie.Need-returns-then-x-2
 unfolding clamp_log of_bits neg
-returns-2 c = rw (c.before.if1.false, c.if2.true) refl
+returns-then-x-2 c = rw (c.if-x.false, c.if-x-2.true) refl
 
-returns-3 : tie.Need-returns-3
+returns-else-x-2 : tie.Need-returns-else-x-2
 unfolding clamp_log of_bits neg
-returns-3 c = rw (c.before.if1.false, c.if2.false) refl
+returns-else-x-2 c = rw (c.if-x.false, c.if-x-2.false) refl
 
-pub clamp-log-spec : {M : Type 1} → statement M
-clamp-log-spec = tie.close (tie.spec returns returns-2 returns-3)
+pub clamp_log_spec : {M : Type 1} → statement M
+clamp_log_spec =
+    tie.close
+    (tie.spec
+    returns-then-x
+    returns-then-x-2
+    returns-else-x-2)

@@ -1,4 +1,5 @@
 -- `scaled` meets its contract, by the laws of a normal and of a subnormal pattern.
+use Rattle.std.proofs.Common.{rules}
 use borrow.Author.Rules.{rules}
 use mathlib.Core.Path.{sym, subst}
 use Prim.Native.Nat.{ℕ, ◌-◌, ◌*◌}
@@ -10,35 +11,45 @@ use Rattle.float64.proofs.Normalised.{normal_scaling, subnormal_scaling, Lifted,
 use Rattle.float64.proofs.full_digits.Statement.{statement}
 use Rattle.float64.proofs.full_digits.Tie as tie
 
-here : (c : tie.Then1) → Lifted c.before.args.bits
-here c = lifted c.before.args.bits c.before.requires.0 c.if1.true
+here : (c : tie.Then-bits-lt4503599627370496) → Lifted c.args.bits
+here c = lifted c.args.bits c.requires.0 c.if-bits-lt4503599627370496.true
 
-sub-up : tie.Need-overflow-sub-up
-sub-up c = omega (arith, here c)
+overflow_sub-up : tie.Need-overflow_sub-up
+overflow_sub-up c = omega (arith, here c)
 
-cast-up : tie.Need-overflow-cast-up
-cast-up c = omega (arith, here c)
+overflow_cast-up : tie.Need-overflow_cast-up
+overflow_cast-up c = omega (arith, here c)
 
-shl-t6 : tie.Need-overflow-shl-t6
-shl-t6 c = omega (arith, here c)
+overflow_shl-result : tie.Need-overflow_shl-result
+overflow_shl-result c = omega (arith, here c)
 
-sub-t7 : tie.Need-overflow-sub-t7
-sub-t7 c = omega (arith, here c)
+overflow_sub-result : tie.Need-overflow_sub-result
+overflow_sub-result c = omega (arith, here c)
+
+returns-then-bits-lt4503599627370496 : tie.Need-returns-then-bits-lt4503599627370496
+returns-then-bits-lt4503599627370496 c =
+    let b = c.args.bits in
+    subst (λ (m : ℕ). Scaling (magnitude (of_bits binary64 b) * units_per_one) m (1074 - lift b)) (sym (lift_exact b (here c)))
+    (subnormal_scaling b c.if-bits-lt4503599627370496.true (here c))
+
+overflow_add-result : tie.Need-overflow_add-result
+overflow_add-result c = search rules
+
+overflow_add-result-2 : tie.Need-overflow_add-result-2
+overflow_add-result-2 c = search rules
 
 returns : tie.Need-returns
-returns c =
-    let b = c.before.args.bits in
-    subst (λ (m : ℕ). Scaling (magnitude (of_bits binary64 b) * units_per_one) m (1074 - lift b)) (sym (lift_exact b (here c)))
-    (subnormal_scaling b c.if1.true (here c))
+returns-then-bits-lt4503599627370496 c = normal_scaling c.args.bits c.if-bits-lt4503599627370496.false c.requires.1
 
-add-t9 : tie.Need-overflow-add-t9
-add-t9 c = search rules
-
-add-t11 : tie.Need-overflow-add-t11
-add-t11 c = search rules
-
-returns-2 : tie.Need-returns-2
-returns-2 c = normal_scaling c.before.args.bits c.if1.false c.before.requires.1
-
-pub full-digits-spec : {M : Type 1} → statement M
-full-digits-spec = tie.close (tie.spec sub-up cast-up shl-t6 sub-t7 returns add-t9 add-t11 returns-2)
+pub full_digits_spec : {M : Type 1} → statement M
+full_digits_spec =
+    tie.close
+    (tie.spec
+    overflow_sub-up
+    overflow_cast-up
+    overflow_shl-result
+    overflow_sub-result
+    returns-then-bits-lt4503599627370496
+    overflow_add-result
+    overflow_add-result-2
+    returns)

@@ -6,5 +6,8 @@ use Rattle.float64.proofs.is_finite.Tie as tie
 returns : tie.Need-returns
 returns c = self_difference c.args.x
 
-pub is-finite-spec : {M : Type 1} → statement M
-is-finite-spec = tie.close (tie.spec returns)
+pub is_finite_spec : {M : Type 1} → statement M
+is_finite_spec =
+    tie.close
+    (tie.spec
+    returns)

@@ -8,5 +8,8 @@ returns : tie.Need-returns
 unfolding of_bits neg div
 returns c = refl
 
-pub minus-infinity-spec : {M : Type 1} → statement M
-minus-infinity-spec = tie.close (tie.spec returns)
+pub minus_infinity_spec : {M : Type 1} → statement M
+minus_infinity_spec =
+    tie.close
+    (tie.spec
+    returns)

@@ -8,5 +8,8 @@ returns : tie.Need-returns
 unfolding of_bits div
 returns c = refl
 
-pub quiet-nan-spec : {M : Type 1} → statement M
-quiet-nan-spec = tie.close (tie.spec returns)
+pub quiet_nan_spec : {M : Type 1} → statement M
+quiet_nan_spec =
+    tie.close
+    (tie.spec
+    returns)

@@ -4,13 +4,17 @@ use Rattle.float64.specs.Functions.{size_of}
 use Rattle.float64.proofs.size_of.Statement.{statement}
 use Rattle.float64.proofs.size_of.Tie as tie
 
-returns : tie.Need-returns
+returns-then-x : tie.Need-returns-then-x
 unfolding size_of
-returns c = rw c.if1.true refl
+returns-then-x c = rw c.if-x.true refl
 
-returns-2 : tie.Need-returns-2
+returns-else-x : tie.Need-returns-else-x
 unfolding size_of
-returns-2 c = rw c.if1.false refl
+returns-else-x c = rw c.if-x.false refl
 
-pub size-of-spec : {M : Type 1} → statement M
-size-of-spec = tie.close (tie.spec returns returns-2)
+pub size_of_spec : {M : Type 1} → statement M
+size_of_spec =
+    tie.close
+    (tie.spec
+    returns-then-x
+    returns-else-x)

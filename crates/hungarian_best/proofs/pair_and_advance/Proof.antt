@@ -5,67 +5,67 @@ use Rattle.hungarian_best.proofs.Links.{linked}
 use Rattle.hungarian_best.proofs.pair_and_advance.Statement.{statement}
 use Rattle.hungarian_best.proofs.pair_and_advance.Tie as tie
 
-cast-work : tie.Need-overflow-cast-work
-cast-work c = omega arith
+overflow_cast-work : tie.Need-overflow_cast-work
+overflow_cast-work c = omega arith
 
-mul-work : tie.Need-overflow-mul-work
-mul-work c = omega arith
+offset_bounds-work-i : tie.Need-offset_bounds-work-i
+offset_bounds-work-i c = omega arith
 
-slice-write-work : tie.Need-slice-write-work
-slice-write-work c = omega arith
+bounds-work-i : tie.Need-bounds-work-i
+bounds-work-i c = omega arith
 
-cast-work-2 : tie.Need-overflow-cast-work-2
-cast-work-2 c = omega arith
+overflow_cast-work-2 : tie.Need-overflow_cast-work-2
+overflow_cast-work-2 c = omega arith
 
-add-work : tie.Need-overflow-add-work
-add-work c = omega arith
+overflow_add-work : tie.Need-overflow_add-work
+overflow_add-work c = omega arith
 
-mul-work-2 : tie.Need-overflow-mul-work-2
-mul-work-2 c = omega arith
+offset_bounds-work-n : tie.Need-offset_bounds-work-n
+offset_bounds-work-n c = omega arith
 
-slice-write-work-2 : tie.Need-slice-write-work-2
-slice-write-work-2 c = simp length-set (omega arith)
+bounds-work-n : tie.Need-bounds-work-n
+bounds-work-n c = simp length-set (omega arith)
 
-add-work-2 : tie.Need-overflow-add-work-2
-add-work-2 c = omega arith
+overflow_add-work-2 : tie.Need-overflow_add-work-2
+overflow_add-work-2 c = omega arith
 
-cast-work-3 : tie.Need-overflow-cast-work-3
-cast-work-3 c = omega arith
+overflow_cast-work-3 : tie.Need-overflow_cast-work-3
+overflow_cast-work-3 c = omega arith
 
-mul-work-3 : tie.Need-overflow-mul-work-3
-mul-work-3 c = omega arith
+overflow_mul-work : tie.Need-overflow_mul-work
+overflow_mul-work c = omega arith
 
-add-work-3 : tie.Need-overflow-add-work-3
-add-work-3 c = omega arith
+overflow_add-work-3 : tie.Need-overflow_add-work-3
+overflow_add-work-3 c = omega arith
 
-mul-work-4 : tie.Need-overflow-mul-work-4
-mul-work-4 c = omega arith
+offset_bounds-work-n-2 : tie.Need-offset_bounds-work-n-2
+offset_bounds-work-n-2 c = omega arith
 
-slice-write-work-3 : tie.Need-slice-write-work-3
-slice-write-work-3 c = simp length-set (omega arith)
+bounds-work-n-2 : tie.Need-bounds-work-n-2
+bounds-work-n-2 c = simp length-set (omega arith)
 
-same_length_lem : tie.Need-same-length
-same_length_lem c = simp length-set
+shape_of-work : tie.Need-shape_of-work
+shape_of-work c = simp length-set
 
 returns : tie.Need-returns
-returns c = linked _ _ _ _ _ c.requires.1.0 c.requires.1.1.0
+returns c = linked _ _ _ _ _ c.requires.fact_2 c.requires.fact_3
 
-pub pair-and-advance-spec : {M : Type 1} → statement M
-pair-and-advance-spec =
+pub pair_and_advance_spec : {M : Type 1} → statement M
+pair_and_advance_spec =
     tie.close
     (tie.spec
-    cast-work
-    mul-work
-    slice-write-work
-    cast-work-2
-    add-work
-    mul-work-2
-    slice-write-work-2
-    add-work-2
-    cast-work-3
-    mul-work-3
-    add-work-3
-    mul-work-4
-    slice-write-work-3
-    same_length_lem
+    overflow_cast-work
+    offset_bounds-work-i
+    bounds-work-i
+    overflow_cast-work-2
+    overflow_add-work
+    offset_bounds-work-n
+    bounds-work-n
+    overflow_add-work-2
+    overflow_cast-work-3
+    overflow_mul-work
+    overflow_add-work-3
+    offset_bounds-work-n-2
+    bounds-work-n-2
+    shape_of-work
     returns)

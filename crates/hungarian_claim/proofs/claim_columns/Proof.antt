@@ -5,48 +5,44 @@ use Rattle.hungarian_claim.proofs.Claims.{Claiming, claiming_start, claiming_tur
 use Rattle.hungarian_claim.proofs.claim_columns.Statement.{statement}
 use Rattle.hungarian_claim.proofs.claim_columns.Tie as tie
 
-abbrev invariant-loop : tie.invariant-loop
-invariant-loop n col_ptr work₀ num₀ i₀ work num i = Claiming n col_ptr work₀ work i num
+abbrev invariant-loop-i : tie.invariant-loop-i
+invariant-loop-i n col_ptr work₀ num₀ i₀ work num i = Claiming n col_ptr work₀ work i num
 
-abbrev decreases-loop : tie.decreases-loop
-decreases-loop n col_ptr work₀ num₀ i₀ work num i = n - i
+abbrev decreases-loop-i : tie.decreases-loop-i
+decreases-loop-i n col_ptr work₀ num₀ i₀ work num i = n - i
 
--- places of the proof, each from a later one
-abbrev in-loop-of-slice-known2 : tie.After-slice-known2 invariant-loop decreases-loop → tie.In-loop invariant-loop decreases-loop
-in-loop-of-slice-known2 c = c.before.before.before.before
+loop-i-init : tie.Need-loop-i-init invariant-loop-i decreases-loop-i
+loop-i-init c = claiming_start c.requires
 
-loop-holds : tie.Need-loop-init invariant-loop decreases-loop
-loop-holds c = claiming_start c.before.before.requires
+claim-num-requires : tie.Need-claim-num-requires invariant-loop-i decreases-loop-i
+claim-num-requires c κs = (c.loop-i.invariant.claimable, (c.loop-i-test.true, omega arith))
 
-claim-requires : tie.Need-claim-requires invariant-loop decreases-loop
-claim-requires c κs = (c.before.before.loop.invariant.claimable, (c.before.loop-test.true, omega arith))
+overflow_step-i : tie.Need-overflow_step-i invariant-loop-i decreases-loop-i
+overflow_step-i c = omega arith
 
-add-i : tie.Need-overflow-add-i invariant-loop decreases-loop
-add-i c = omega arith
+loop-i-smaller : tie.Need-loop-i-smaller invariant-loop-i decreases-loop-i
+loop-i-smaller c = omega arith
 
-loop-less : tie.Need-loop-smaller invariant-loop decreases-loop
-loop-less c = omega arith
+loop-i-preserved : tie.Need-loop-i-preserved invariant-loop-i decreases-loop-i
+loop-i-preserved c = claiming_turn c.loop-i.invariant c.loop-i-test.true
+    c.claim-num.auto.work c.claim-num.ensures
 
-loop-again : tie.Need-loop-preserved invariant-loop decreases-loop
-loop-again c = claiming_turn (in-loop-of-slice-known2 c).before.loop.invariant (in-loop-of-slice-known2 c).loop-test.true
-    c.before.before.claim.auto.1.1.0 c.before.before.claim.ensures
+shape_of-work : tie.Need-shape_of-work invariant-loop-i decreases-loop-i
+shape_of-work c = omega arith
 
-same_length_lem : tie.Need-same-length invariant-loop decreases-loop
-same_length_lem c = omega arith
+returns : tie.Need-returns invariant-loop-i decreases-loop-i
+returns c = claiming_end c.loop-i.invariant c.loop-i-test.false
 
-returns : tie.Need-returns invariant-loop decreases-loop
-returns c = claiming_end c.before.loop.invariant c.loop-test.false
-
-pub claim-columns-spec : {M : Type 1} → statement M
-claim-columns-spec =
+pub claim_columns_spec : {M : Type 1} → statement M
+claim_columns_spec =
     tie.close
     (tie.spec
-    invariant-loop
-    decreases-loop
-    loop-holds
-    claim-requires
-    add-i
-    loop-less
-    loop-again
-    same_length_lem
+    invariant-loop-i
+    decreases-loop-i
+    loop-i-init
+    claim-num-requires
+    overflow_step-i
+    loop-i-smaller
+    loop-i-preserved
+    shape_of-work
     returns)

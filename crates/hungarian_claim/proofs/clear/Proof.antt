@@ -6,87 +6,87 @@ use Rattle.hungarian_claim.proofs.Minima.{Clearing, clearing_start, clearing_tur
 use Rattle.hungarian_claim.proofs.clear.Statement.{statement}
 use Rattle.hungarian_claim.proofs.clear.Tie as tie
 
-abbrev invariant-loop : tie.invariant-loop
-invariant-loop n u₀ work₀ least i₀ u work i = Clearing n u work i
+abbrev invariant-loop-i : tie.invariant-loop-i
+invariant-loop-i n u₀ work₀ least i₀ u work i = Clearing n u work i
 
-abbrev decreases-loop : tie.decreases-loop
-decreases-loop n u₀ work₀ least i₀ u work i = n - i
+abbrev decreases-loop-i : tie.decreases-loop-i
+decreases-loop-i n u₀ work₀ least i₀ u work i = n - i
 
-mul-least : tie.Need-overflow-mul-least invariant-loop decreases-loop
-mul-least c = omega arith
+overflow_mul-least : tie.Need-overflow_mul-least invariant-loop-i decreases-loop-i
+overflow_mul-least c = omega arith
 
-loop-holds : tie.Need-loop-init invariant-loop decreases-loop
-loop-holds c = clearing_start _ _ _ c.requires.1 c.requires.0.words
+loop-i-init : tie.Need-loop-i-init invariant-loop-i decreases-loop-i
+loop-i-init c = clearing_start _ _ _ c.requires.fact_2 c.requires.fact_1.words
 
-mul-u : tie.Need-overflow-mul-u invariant-loop decreases-loop
-mul-u c = omega arith
+offset_bounds-u-i : tie.Need-offset_bounds-u-i invariant-loop-i decreases-loop-i
+offset_bounds-u-i c = omega arith
 
-slice-write-u : tie.Need-slice-write-u invariant-loop decreases-loop
-slice-write-u c = omega arith
+bounds-u-i : tie.Need-bounds-u-i invariant-loop-i decreases-loop-i
+bounds-u-i c = omega arith
 
-mul-work : tie.Need-overflow-mul-work invariant-loop decreases-loop
-mul-work c = omega arith
+offset_bounds-work-i : tie.Need-offset_bounds-work-i invariant-loop-i decreases-loop-i
+offset_bounds-work-i c = omega arith
 
-slice-write-work : tie.Need-slice-write-work invariant-loop decreases-loop
-slice-write-work c = omega arith
+bounds-work-i : tie.Need-bounds-work-i invariant-loop-i decreases-loop-i
+bounds-work-i c = omega arith
 
-add-work : tie.Need-overflow-add-work invariant-loop decreases-loop
-add-work c = omega arith
+overflow_add-work : tie.Need-overflow_add-work invariant-loop-i decreases-loop-i
+overflow_add-work c = omega arith
 
-mul-work-2 : tie.Need-overflow-mul-work-2 invariant-loop decreases-loop
-mul-work-2 c = omega arith
+offset_bounds-work-n : tie.Need-offset_bounds-work-n invariant-loop-i decreases-loop-i
+offset_bounds-work-n c = omega arith
 
-slice-write-work-2 : tie.Need-slice-write-work-2 invariant-loop decreases-loop
-slice-write-work-2 c = simp length-set (omega arith)
+bounds-work-n : tie.Need-bounds-work-n invariant-loop-i decreases-loop-i
+bounds-work-n c = simp length-set (omega arith)
 
-add-work-2 : tie.Need-overflow-add-work-2 invariant-loop decreases-loop
-add-work-2 c = omega arith
+overflow_add-work-in-loop-i : tie.Need-overflow_add-work-in-loop-i invariant-loop-i decreases-loop-i
+overflow_add-work-in-loop-i c = omega arith
 
-mul-work-3 : tie.Need-overflow-mul-work-3 invariant-loop decreases-loop
-mul-work-3 c = omega arith
+offset_bounds-work-least : tie.Need-offset_bounds-work-least invariant-loop-i decreases-loop-i
+offset_bounds-work-least c = omega arith
 
-slice-write-work-3 : tie.Need-slice-write-work-3 invariant-loop decreases-loop
-slice-write-work-3 c = simp length-set (omega arith)
+bounds-work-least : tie.Need-bounds-work-least invariant-loop-i decreases-loop-i
+bounds-work-least c = simp length-set (omega arith)
 
-add-i : tie.Need-overflow-add-i invariant-loop decreases-loop
-add-i c = omega arith
+overflow_step-i : tie.Need-overflow_step-i invariant-loop-i decreases-loop-i
+overflow_step-i c = omega arith
 
-loop-less : tie.Need-loop-smaller invariant-loop decreases-loop
-loop-less c = omega arith
+loop-i-smaller : tie.Need-loop-i-smaller invariant-loop-i decreases-loop-i
+loop-i-smaller c = omega arith
 
-loop-again : tie.Need-loop-preserved invariant-loop decreases-loop
-loop-again c = clearing_turn c.before.loop.invariant c.loop-test.true
+loop-i-preserved : tie.Need-loop-i-preserved invariant-loop-i decreases-loop-i
+loop-i-preserved c = clearing_turn c.loop-i.invariant c.loop-i-test.true
 
-same_length_lem : tie.Need-same-length invariant-loop decreases-loop
-same_length_lem c = omega arith
+shape_of-u : tie.Need-shape_of-u invariant-loop-i decreases-loop-i
+shape_of-u c = omega arith
 
-same-length-2 : tie.Need-same-length-2 invariant-loop decreases-loop
-same-length-2 c = omega arith
+shape_of-work : tie.Need-shape_of-work invariant-loop-i decreases-loop-i
+shape_of-work c = omega arith
 
-returns : tie.Need-returns invariant-loop decreases-loop
-returns c = clearing_end c.before.loop.invariant c.loop-test.false
+returns : tie.Need-returns invariant-loop-i decreases-loop-i
+returns c = clearing_end c.loop-i.invariant c.loop-i-test.false
 
 pub clear_spec : {M : Type 1} → statement M
 clear_spec =
     tie.close
     (tie.spec
-    invariant-loop
-    decreases-loop
-    mul-least
-    loop-holds
-    mul-u
-    slice-write-u
-    mul-work
-    slice-write-work
-    add-work
-    mul-work-2
-    slice-write-work-2
-    add-work-2
-    mul-work-3
-    slice-write-work-3
-    add-i
-    loop-less
-    loop-again
-    same_length_lem
-    same-length-2
+    invariant-loop-i
+    decreases-loop-i
+    overflow_mul-least
+    loop-i-init
+    offset_bounds-u-i
+    bounds-u-i
+    offset_bounds-work-i
+    bounds-work-i
+    overflow_add-work
+    offset_bounds-work-n
+    bounds-work-n
+    overflow_add-work-in-loop-i
+    offset_bounds-work-least
+    bounds-work-least
+    overflow_step-i
+    loop-i-smaller
+    loop-i-preserved
+    shape_of-u
+    shape_of-work
     returns)

@@ -3,11 +3,15 @@ use mathlib.Core.Path.{refl}
 use Rattle.hungarian_claim.proofs.lower.Statement.{statement}
 use Rattle.hungarian_claim.proofs.lower.Tie as tie
 
-returns : tie.Need-returns
-returns c = rw c.if1.true refl
+returns-then-x-y : tie.Need-returns-then-x-y
+returns-then-x-y c = rw c.if-x-y.true refl
 
-returns-2 : tie.Need-returns-2
-returns-2 c = rw c.if1.false refl
+returns-else-x-y : tie.Need-returns-else-x-y
+returns-else-x-y c = rw c.if-x-y.false refl
 
 pub lower_spec : {M : Type 1} → statement M
-lower_spec = tie.close (tie.spec returns returns-2)
+lower_spec =
+    tie.close
+    (tie.spec
+    returns-then-x-y
+    returns-else-x-y)

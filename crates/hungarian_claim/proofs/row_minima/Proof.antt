@@ -7,84 +7,68 @@ use Rattle.hungarian_claim.proofs.Minima.{Scanning, scanning_start, scanning_tur
 use Rattle.hungarian_claim.proofs.row_minima.Statement.{statement}
 use Rattle.hungarian_claim.proofs.row_minima.Tie as tie
 
-abbrev invariant-loop : tie.invariant-loop
-invariant-loop n col_ptr rows cost u₀ work₀ j₀ u work j = Scanning (graph_of n col_ptr rows cost) u work j
+abbrev invariant-loop-j : tie.invariant-loop-j
+invariant-loop-j n col_ptr rows cost u₀ work₀ j₀ u work j = Scanning (graph_of n col_ptr rows cost) u work j
 
-abbrev decreases-loop : tie.decreases-loop
-decreases-loop n col_ptr rows cost u₀ work₀ j₀ u work j = n - j
+abbrev decreases-loop-j : tie.decreases-loop-j
+decreases-loop-j n col_ptr rows cost u₀ work₀ j₀ u work j = n - j
 
--- places of the proof, each from a later one
-abbrev entry-of-clear-arg2 : tie.After-clear-arg2 invariant-loop decreases-loop → tie.Start invariant-loop decreases-loop
-entry-of-clear-arg2 c = c.before.before.before.before.before.before.before
-
-abbrev clear-of-slice-known4 : tie.After-slice-known4 invariant-loop decreases-loop → tie.After-clear invariant-loop decreases-loop
-clear-of-slice-known4 c = c.before.before.before.before
-
-abbrev entry-of-slice-known4 : tie.After-slice-known4 invariant-loop decreases-loop → tie.Start invariant-loop decreases-loop
-entry-of-slice-known4 c = entry-of-clear-arg2 c.before.before.before.before.before
-
-abbrev lower-column-of-slice-known6 : tie.After-slice-known6 invariant-loop decreases-loop → tie.After-lower-column invariant-loop decreases-loop
-lower-column-of-slice-known6 c = c.before.before.before.before
-
-abbrev in-loop-of-slice-known6 : tie.After-slice-known6 invariant-loop decreases-loop → tie.In-loop invariant-loop decreases-loop
-in-loop-of-slice-known6 c = (lower-column-of-slice-known6 c).before.before.before
-
-clear-requires : tie.Need-clear-requires invariant-loop decreases-loop
+clear-requires : tie.Need-clear-requires invariant-loop-j decreases-loop-j
 clear-requires c κs = (
   record {
-    words = (entry-of-clear-arg2 c).requires.words;
+    words = c.requires.words;
     small =
-        (entry-of-clear-arg2 c).requires.sound.few_columns;
+        c.requires.sound.few_columns;
   },
-  (entry-of-clear-arg2 c).requires.duals,
+  c.requires.duals,
 )
 
-loop-holds : tie.Need-loop-init invariant-loop decreases-loop
-loop-holds c = scanning_start (record {
-  sound = (entry-of-slice-known4 c).requires.sound;
-  duals = (clear-of-slice-known4 c).clear.auto.1.0 ∙
-      (entry-of-slice-known4 c).requires.duals;
+loop-j-init : tie.Need-loop-j-init invariant-loop-j decreases-loop-j
+loop-j-init c = scanning_start (record {
+  sound = c.requires.sound;
+  duals = c.clear.auto.u ∙
+      c.requires.duals;
   words =
-      (clear-of-slice-known4 c).clear.auto.1.1.0 ∙ (entry-of-slice-known4 c).requires.words;
+      c.clear.auto.work ∙ c.requires.words;
 }) c.before.before.before.before.clear.ensures
 
-lower-column-requires : tie.Need-lower-column-requires invariant-loop decreases-loop
-lower-column-requires c κs = (c.before.before.before.loop.invariant.ready, c.before.before.loop-test.true)
+lower_column-requires : tie.Need-lower_column-requires invariant-loop-j decreases-loop-j
+lower_column-requires c κs = (c.loop-j.invariant.ready, c.loop-j-test.true)
 
-add-j : tie.Need-overflow-add-j invariant-loop decreases-loop
-add-j c = omega arith
+overflow_step-j : tie.Need-overflow_step-j invariant-loop-j decreases-loop-j
+overflow_step-j c = omega arith
 
-loop-less : tie.Need-loop-smaller invariant-loop decreases-loop
-loop-less c = omega arith
+loop-j-smaller : tie.Need-loop-j-smaller invariant-loop-j decreases-loop-j
+loop-j-smaller c = omega arith
 
-loop-again : tie.Need-loop-preserved invariant-loop decreases-loop
-loop-again c = scanning_turn (in-loop-of-slice-known6 c).before.loop.invariant
-    (in-loop-of-slice-known6 c).loop-test.true
-    (lower-column-of-slice-known6 c).lower-column.auto.1.1.1.1.0
-    (lower-column-of-slice-known6 c).lower-column.auto.1.1.1.1.1.0
-    (lower-column-of-slice-known6 c).lower-column.ensures
+loop-j-preserved : tie.Need-loop-j-preserved invariant-loop-j decreases-loop-j
+loop-j-preserved c = scanning_turn c.loop-j.invariant
+    c.loop-j-test.true
+    c.lower_column.auto.u
+    c.lower_column.auto.work
+    c.lower_column.ensures
 
-same_length_lem : tie.Need-same-length invariant-loop decreases-loop
-same_length_lem c = omega arith
+shape_of-u : tie.Need-shape_of-u invariant-loop-j decreases-loop-j
+shape_of-u c = omega arith
 
-same-length-2 : tie.Need-same-length-2 invariant-loop decreases-loop
-same-length-2 c = omega arith
+shape_of-work : tie.Need-shape_of-work invariant-loop-j decreases-loop-j
+shape_of-work c = omega arith
 
-returns : tie.Need-returns invariant-loop decreases-loop
-returns c = scanning_end c.before.loop.invariant c.loop-test.false
+returns : tie.Need-returns invariant-loop-j decreases-loop-j
+returns c = scanning_end c.loop-j.invariant c.loop-j-test.false
 
-pub row-minima-spec : {M : Type 1} → statement M
-row-minima-spec =
+pub row_minima_spec : {M : Type 1} → statement M
+row_minima_spec =
     tie.close
     (tie.spec
-    invariant-loop
-    decreases-loop
+    invariant-loop-j
+    decreases-loop-j
     clear-requires
-    loop-holds
-    lower-column-requires
-    add-j
-    loop-less
-    loop-again
-    same_length_lem
-    same-length-2
+    loop-j-init
+    lower_column-requires
+    overflow_step-j
+    loop-j-smaller
+    loop-j-preserved
+    shape_of-u
+    shape_of-work
     returns)

@@ -15,384 +15,503 @@ use Rattle.hungarian_init.proofs.Improving.{inner_more, inner_swaps}
 use Rattle.hungarian_init.proofs.improve_assign.Statement.{statement}
 use Rattle.hungarian_init.proofs.improve_assign.Tie as tie
 
-abbrev invariant-loop2 : tie.invariant-loop2
-invariant-loop2 n col_ptr rows cost u work₀ fwork matched from num₀ stats₀ j₀ vj i0 k0 end k i jj jj-end search-from kk₀ work num stats j kk =
+abbrev invariant-loop-kk : tie.invariant-loop-kk
+invariant-loop-kk n col_ptr rows cost u work₀ fwork matched from num₀ stats₀ j₀ vj i0 k0 end k i jj jj-end search-from kk₀ work num stats j kk =
     (j ≡ j₀) × Inner (graph_of n col_ptr rows cost) u (improved (graph_of n col_ptr rows cost)) j vj k jj kk work fwork num stats
 
-abbrev decreases-loop2 : tie.decreases-loop2
-decreases-loop2 n col_ptr rows cost u work₀ fwork matched from num₀ stats₀ j₀ vj i0 k0 end k i jj jj-end search-from kk₀ work num stats j kk = jj-end - kk
+abbrev decreases-loop-kk : tie.decreases-loop-kk
+decreases-loop-kk n col_ptr rows cost u work₀ fwork matched from num₀ stats₀ j₀ vj i0 k0 end k i jj jj-end search-from kk₀ work num stats j kk = jj-end - kk
 
-abbrev invariant-loop : tie.invariant-loop
-invariant-loop n col_ptr rows cost u work₀ fwork matched from num₀ stats₀ j₀ vj i0 k0 end k₀ work num stats j k =
+abbrev invariant-loop-k : tie.invariant-loop-k
+invariant-loop-k n col_ptr rows cost u work₀ fwork matched from num₀ stats₀ j₀ vj i0 k0 end k₀ work num stats j k =
     (j ≡ j₀) × Middle (graph_of n col_ptr rows cost) u (improved (graph_of n col_ptr rows cost)) j vj k work fwork num stats
 
-abbrev decreases-loop : tie.decreases-loop
-decreases-loop n col_ptr rows cost u work₀ fwork matched from num₀ stats₀ j₀ vj i0 k0 end k₀ work num stats j k = end - k
+abbrev decreases-loop-k : tie.decreases-loop-k
+decreases-loop-k n col_ptr rows cost u work₀ fwork matched from num₀ stats₀ j₀ vj i0 k0 end k₀ work num stats j k = end - k
 
-abbrev invariant-improve-assign : tie.invariant-improve-assign
-invariant-improve-assign n col_ptr rows cost u work₀ fwork₀ matched from num₀ stats₀ j₀ work fwork num stats j =
+abbrev invariant-improve_assign : tie.invariant-improve_assign
+invariant-improve_assign n col_ptr rows cost u work₀ fwork₀ matched from num₀ stats₀ j₀ work fwork num stats j =
     Outer (graph_of n col_ptr rows cost) u (improved (graph_of n col_ptr rows cost)) j work fwork num stats
 
-abbrev decreases-improve-assign : tie.decreases-improve-assign
-decreases-improve-assign n col_ptr rows cost u work₀ fwork₀ matched from num₀ stats₀ j₀ work fwork num stats j = n - j
+abbrev decreases-improve_assign : tie.decreases-improve_assign
+decreases-improve_assign n col_ptr rows cost u work₀ fwork₀ matched from num₀ stats₀ j₀ work fwork num stats j = n - j
 
 -- a place or a need of this proof, at its invariants and measures
-abbrev At : (tie.invariant-loop2 → tie.decreases-loop2 → tie.invariant-loop → tie.decreases-loop → tie.invariant-improve-assign → tie.decreases-improve-assign → Type 0) → Type 0
-At P = P invariant-loop2 decreases-loop2 invariant-loop decreases-loop invariant-improve-assign decreases-improve-assign
-
--- places of the proof, each from a later one
-abbrev entry-of-slice-known2 : At tie.After-slice-known2 → At tie.Start
-entry-of-slice-known2 c = c.before.before.before.before.before.before
-
-abbrev entry-of-joined1 : At tie.Joined1 → At tie.Start
-entry-of-joined1 c = entry-of-slice-known2 c.before.before.before.before
-
-abbrev in-improve-assign-of-best-of-arg : At tie.After-best-of-arg → At tie.In-improve-assign
-in-improve-assign-of-best-of-arg c = c.before.before.before.before.before.before
-
-abbrev entry-of-best-of-arg : At tie.After-best-of-arg → At tie.Start
-entry-of-best-of-arg c = (in-improve-assign-of-best-of-arg c).before.before.before.before.before.before.before.before
-
-abbrev in-improve-assign-of-pair-and-advance-arg : At tie.After-pair-and-advance-arg → At tie.In-improve-assign
-in-improve-assign-of-pair-and-advance-arg c = in-improve-assign-of-best-of-arg c.before.before.before.before
-
-abbrev entry-of-pair-and-advance-arg : At tie.After-pair-and-advance-arg → At tie.Start
-entry-of-pair-and-advance-arg c = entry-of-best-of-arg c.before.before.before.before
-
-abbrev else1-of-shared-slice-known7 : At tie.After-shared-slice-known7 → At tie.Else1
-else1-of-shared-slice-known7 c = c.before.before.before.before.before.before.before.before
-
-abbrev improve-assign-of-shared-slice-known7 : At tie.After-shared-slice-known7 → At tie.At-improve-assign
-improve-assign-of-shared-slice-known7 c = (else1-of-shared-slice-known7 c).before.before.before
-
-abbrev entry-of-shared-slice-known7 : At tie.After-shared-slice-known7 → At tie.Start
-entry-of-shared-slice-known7 c = entry-of-best-of-arg c.before.before.before.before
-
-abbrev entry-of-in-loop : At tie.In-loop → At tie.Start
-entry-of-in-loop c = entry-of-shared-slice-known7 c.before.before
-
-abbrev best-of-of-slice-known5 : At tie.After-slice-known5 → At tie.After-best-of
-best-of-of-slice-known5 c = c.before.before.before.before.before.before
-
-abbrev else1-of-slice-known5 : At tie.After-slice-known5 → At tie.Else1
-else1-of-slice-known5 c = (best-of-of-slice-known5 c).before.before.before.before.before
-
-abbrev in-improve-assign-of-slice-known5 : At tie.After-slice-known5 → At tie.In-improve-assign
-in-improve-assign-of-slice-known5 c = (else1-of-slice-known5 c).before.before
-
-abbrev entry-of-slice-known5 : At tie.After-slice-known5 → At tie.Start
-entry-of-slice-known5 c = entry-of-pair-and-advance-arg c.before.before.before
-
-abbrev in-loop-of-joined4 : At tie.Joined4 → At tie.In-loop
-in-loop-of-joined4 c = c.before.before.before.before
-
-abbrev entry-of-joined4 : At tie.Joined4 → At tie.Start
-entry-of-joined4 c = entry-of-in-loop (in-loop-of-joined4 c)
-
-abbrev in-loop-of-else5 : At tie.Else5 → At tie.In-loop
-in-loop-of-else5 c = c.before.before.before.before.before.before
-
-abbrev entry-of-else5 : At tie.Else5 → At tie.Start
-entry-of-else5 c = entry-of-in-loop (in-loop-of-else5 c)
-
-abbrev in-loop-of-slice-known8 : At tie.After-slice-known8 → At tie.In-loop
-in-loop-of-slice-known8 c = in-loop-of-else5 c.before.before.before
-
-abbrev entry-of-slice-known8 : At tie.After-slice-known8 → At tie.Start
-entry-of-slice-known8 c = entry-of-in-loop (in-loop-of-slice-known8 c)
-
-abbrev entry-of-in-loop2 : At tie.In-loop2 → At tie.Start
-entry-of-in-loop2 c = entry-of-slice-known8 c.before.before
-
-abbrev in-loop2-of-joined6 : At tie.Joined6 → At tie.In-loop2
-in-loop2-of-joined6 c = c.before.before.before.before
-
-abbrev entry-of-joined6 : At tie.Joined6 → At tie.Start
-entry-of-joined6 c = entry-of-in-loop2 (in-loop2-of-joined6 c)
-
-abbrev in-loop2-of-shared-slice-known14 : At tie.After-shared-slice-known14 → At tie.In-loop2
-in-loop2-of-shared-slice-known14 c = c.before.before.before.before.before.before
-
-abbrev loop2-of-shared-slice-known14 : At tie.After-shared-slice-known14 → At tie.At-loop2
-loop2-of-shared-slice-known14 c = (in-loop2-of-shared-slice-known14 c).before
-
-abbrev entry-of-shared-slice-known14 : At tie.After-shared-slice-known14 → At tie.Start
-entry-of-shared-slice-known14 c = entry-of-in-loop2 (in-loop2-of-shared-slice-known14 c)
-
-abbrev entry-of-then7 : At tie.Then7 → At tie.Start
-entry-of-then7 c = entry-of-shared-slice-known14 c.before.before
-
-abbrev in-loop2-of-pair-and-advance-arg2 : At tie.After-pair-and-advance-arg2 → At tie.In-loop2
-in-loop2-of-pair-and-advance-arg2 c = in-loop2-of-shared-slice-known14 c.before.before.before
-
-abbrev loop2-of-pair-and-advance-arg3 : At tie.After-pair-and-advance-arg3 → At tie.At-loop2
-loop2-of-pair-and-advance-arg3 c = loop2-of-shared-slice-known14 c.before.before.before.before.before.before.before
-
-abbrev in-loop-of-pair-and-advance-arg3 : At tie.After-pair-and-advance-arg3 → At tie.In-loop
-in-loop-of-pair-and-advance-arg3 c = (loop2-of-pair-and-advance-arg3 c).before.before.before.before.before.before.before.before.before.before
-
-abbrev entry-of-pair-and-advance-arg3 : At tie.After-pair-and-advance-arg3 → At tie.Start
-entry-of-pair-and-advance-arg3 c = entry-of-in-loop (in-loop-of-pair-and-advance-arg3 c)
-
-abbrev pair-and-advance2-of-slice-known12 : At tie.After-slice-known12 → At tie.After-pair-and-advance2
-pair-and-advance2-of-slice-known12 c = c.before.before.before.before.before.before
-
-abbrev then6-of-slice-known12 : At tie.After-slice-known12 → At tie.Then6
-then6-of-slice-known12 c = (pair-and-advance2-of-slice-known12 c).before.before.before.before.before.before
-
-abbrev inner-step-of-slice-known12 : At tie.After-slice-known12 → At tie.After-inner-step
-inner-step-of-slice-known12 c = (then6-of-slice-known12 c).before.before.before
-
-abbrev loop2-of-slice-known12 : At tie.After-slice-known12 → At tie.At-loop2
-loop2-of-slice-known12 c = (inner-step-of-slice-known12 c).before.before
-
-abbrev loop-of-slice-known12 : At tie.After-slice-known12 → At tie.At-loop
-loop-of-slice-known12 c = (loop2-of-slice-known12 c).before.before.before.before.before.before.before.before.before.before.before
-
-abbrev entry-of-slice-known12 : At tie.After-slice-known12 → At tie.Start
-entry-of-slice-known12 c = entry-of-pair-and-advance-arg3 c.before.before.before
-
-best-in : (c : At tie.After-best-of) → (c.best_of.result.place < 262144) × (c.best_of.result.row < (entry-of-best-of-arg c.before).args.n)
-best-in c = let args = (entry-of-best-of-arg c.before).args in (
+best-in : (c : tie.After-best_of-best invariant-loop-kk decreases-loop-kk invariant-loop-k decreases-loop-k invariant-improve_assign decreases-improve_assign) → (c.best_of-best.result.place < 262144) × (c.best_of-best.result.row < c.args.n)
+best-in c = let args = c.args in (
   omega (
     arith,
-    small_stop (entry-of-best-of-arg c.before).pre.sound
-        (in-improve-assign-of-best-of-arg c.before).improve-assign-test.taken,
+    small_stop c.requires.sound
+        c.improve_assign-test.taken,
     stop_is (graph_of args.n args.col-ptr.now args.row-idx.now args.cost.now)
-        (in-improve-assign-of-best-of-arg c.before).before.improve-assign.j,
-    c.best_of.ensures.below,
+        c.improve_assign.j,
+    c.best_of-best.ensures.below,
   ),
-  c.best_of.ensures.row,
+  c.best_of-best.ensures.row,
 )
 
-place_in : (c : At tie.In-loop) → c.before.loop.k < get_or (entry-of-in-loop c).args.col-ptr.now (c.before.loop.j + 1) 0
-place_in c = rw c.before.loop.invariant.0 c.loop-test.true
+place_in : (c : tie.In-loop-k invariant-loop-kk decreases-loop-kk invariant-loop-k decreases-loop-k invariant-improve_assign decreases-improve_assign) → c.loop-k.k < get_or c.args.col-ptr.now (c.loop-k.j + 1) 0
+place_in c = rw c.loop-k.invariant.0 c.loop-k-test.true
 
-inside : (c : At tie.In-loop) → let a = (entry-of-in-loop c).args in
-    Readable (graph_of a.n a.col-ptr.now a.row-idx.now a.cost.now) a.u.now c.before.loop.k
-inside c = let pre = (entry-of-in-loop c).requires in readable _ _ _ _ pre.sound pre.dual_count c.before.loop.invariant.1.column (place_in c)
+inside : (c : tie.In-loop-k invariant-loop-kk decreases-loop-kk invariant-loop-k decreases-loop-k invariant-improve_assign decreases-improve_assign) → let a = c.args in
+    Readable (graph_of a.n a.col-ptr.now a.row-idx.now a.cost.now) a.u.now c.loop-k.k
+inside c = let pre = c.requires in readable _ _ _ _ pre.sound pre.dual_count c.loop-k.invariant.1.column (place_in c)
 
-other-in : (c : At tie.Else5) → let a = (entry-of-else5 c).args in let l = (in-loop-of-else5 c).before.loop in
+other-in : (c : tie.Else-work-i invariant-loop-kk decreases-loop-kk invariant-loop-k decreases-loop-k invariant-improve_assign decreases-improve_assign) → let a = c.args in let l = c.loop-k in
     get_or l.work (get_or a.row-idx.now l.k 0) 0 < a.n
-other-in c = other_range (entry-of-else5 c).requires.sound (in-loop-of-else5 c).before.loop.invariant.1 (place_in (in-loop-of-else5 c))
-    c.before.before.if4.false (eqb-false _ _ c.if5.false)
+other-in c = other_range c.requires.sound c.loop-k.invariant.1 (place_in c.before.before.before.before.before.before)
+    c.if-cost-k.false (eqb-false _ _ c.if-work-i.false)
 
-inside_other : (c : At tie.In-loop2) → let a = (entry-of-in-loop2 c).args in
-    Readable (graph_of a.n a.col-ptr.now a.row-idx.now a.cost.now) a.u.now c.before.loop2.kk
-inside_other c = let pre = (entry-of-in-loop2 c).requires in readable _ _ _ _ pre.sound pre.dual_count c.before.loop2.invariant.1.other c.loop2-test.true
+inside_other : (c : tie.In-loop-kk invariant-loop-kk decreases-loop-kk invariant-loop-k decreases-loop-k invariant-improve_assign decreases-improve_assign) → let a = c.args in
+    Readable (graph_of a.n a.col-ptr.now a.row-idx.now a.cost.now) a.u.now c.loop-kk.kk
+inside_other c = let pre = c.requires in readable _ _ _ _ pre.sound pre.dual_count c.loop-kk.invariant.1.other c.loop-kk-test.true
 
-improve-assign-holds : At tie.Need-improve-assign-init
-improve-assign-holds c = outer_start (entry-of-slice-known2 c).requires
+improve_assign-init : tie.Need-improve_assign-init invariant-loop-kk decreases-loop-kk invariant-loop-k decreases-loop-k invariant-improve_assign decreases-improve_assign
+improve_assign-init c = outer_start c.requires
 
-improve-assign-again : At tie.Need-improve-assign-preserved
-improve-assign-again c = outer_skip (entry-of-joined1 c).requires.sound c.before.before.before.improve-assign.invariant
-    c.before.before.improve-assign-test.true (⊎_elim (λ t. inl t.taken) (λ t. inr (t.0.left, leb-true _ _ t.3.taken)) c.if1.branch)
+improve_assign-preserved-then-work-n : tie.Need-improve_assign-preserved-then-work-n invariant-loop-kk decreases-loop-kk invariant-loop-k decreases-loop-k invariant-improve_assign decreases-improve_assign
+improve_assign-preserved-then-work-n c = outer_skip c.requires.sound c.improve_assign.invariant
+    c.improve_assign-test.true (⊎_elim (λ t. inl t.taken) (λ t. inr (t.0.left, leb-true _ _ t.3.taken)) c.then-work-n.branch)
 
-best-of-requires : At tie.Need-best-of-requires
-best-of-requires c κs = (
+best_of-best-requires : tie.Need-best_of-best-requires invariant-loop-kk decreases-loop-kk invariant-loop-k decreases-loop-k invariant-improve_assign decreases-improve_assign
+best_of-best-requires c κs = (
   record {
-    sound = (entry-of-best-of-arg c).requires.sound;
-    duals = (entry-of-best-of-arg c).requires.dual_count;
+    sound = c.requires.sound;
+    duals = c.requires.dual_count;
     words =
-        (in-improve-assign-of-best-of-arg c).before.improve-assign.invariant.memory.words;
+        c.improve_assign.invariant.memory.words;
   },
-  ((in-improve-assign-of-best-of-arg c).improve-assign-test.true, leb-false _ _ c.before.if2.false),
+  (c.improve_assign-test.true, leb-false _ _ c.if-col_ptr-j.false),
 )
 
-pair-and-advance-requires : At tie.Need-pair-and-advance-requires
-pair-and-advance-requires c κs = (
+pair_and_advance-requires : tie.Need-pair_and_advance-requires invariant-loop-kk decreases-loop-kk invariant-loop-k decreases-loop-k invariant-improve_assign decreases-improve_assign
+pair_and_advance-requires c κs = (
   record {
-    words = (in-improve-assign-of-pair-and-advance-arg c).before.improve-assign.invariant.memory.words;
+    words = c.improve_assign.invariant.memory.words;
     small =
-        (entry-of-pair-and-advance-arg c).requires.sound.few_columns;
+        c.requires.sound.few_columns;
   },
   (
     (best-in c.before.before.before).1,
-    ((in-improve-assign-of-pair-and-advance-arg c).improve-assign-test.true, (best-in c.before.before.before).0),
+    (c.improve_assign-test.true, (best-in c.before.before.before).0),
   ),
 )
 
-improve-assign-again-2 : At tie.Need-improve-assign-preserved-2
-improve-assign-again-2 c = outer_takes (entry-of-slice-known5 c).requires.sound (in-improve-assign-of-slice-known5 c).before.improve-assign.invariant
-    (in-improve-assign-of-slice-known5 c).improve-assign-test.true (best-of-of-slice-known5 c).best_of.ensures
-    (else1-of-slice-known5 c).if1.false (leb-false _ _ (best-of-of-slice-known5 c).before.before.if2.false)
-    c.before.before.before.before.if3.true c.before.before.pair-and-advance.auto.1.0 c.before.before.pair-and-advance.ensures
+improve_assign-preserved-then-work-i0 : tie.Need-improve_assign-preserved-then-work-i0 invariant-loop-kk decreases-loop-kk invariant-loop-k decreases-loop-k invariant-improve_assign decreases-improve_assign
+improve_assign-preserved-then-work-i0 c = outer_takes c.requires.sound c.improve_assign.invariant
+    c.improve_assign-test.true c.best_of-best.ensures
+    c.if-work-n.false (leb-false _ _ c.if-col_ptr-j.false)
+    c.if-work-i0.true c.pair_and_advance.auto.work c.pair_and_advance.ensures
 
-loop-holds : At tie.Need-loop-init
-loop-holds c = (
+loop-k-init : tie.Need-loop-k-init invariant-loop-kk decreases-loop-kk invariant-loop-k decreases-loop-k invariant-improve_assign decreases-improve_assign
+loop-k-init c = (
   refl,
-  outer_tries (entry-of-shared-slice-known7 c).requires.sound (improve-assign-of-shared-slice-known7 c).improve-assign.invariant
-      (else1-of-shared-slice-known7 c).before.before.improve-assign-test.true c.before.before.before.best_of.ensures
-      (else1-of-shared-slice-known7 c).if1.false (leb-false _ _ c.before.before.before.before.before.if2.false) c.before.if3.false,
+  outer_tries c.requires.sound c.improve_assign.invariant
+      c.improve_assign-test.true c.best_of-best.ensures
+      c.if-work-n.false (leb-false _ _ c.if-col_ptr-j.false) c.if-work-i0.false,
 )
 
-loop-again : At tie.Need-loop-preserved
-loop-again c = (
-  (in-loop-of-joined4 c).before.loop.invariant.0,
-  middle_skip (entry-of-joined4 c).requires.sound (in-loop-of-joined4 c).before.loop.invariant.1
-      (place_in (in-loop-of-joined4 c)) (⊎_elim (λ t. inl t.taken) (λ t. inr (t.0.left, eqb-true _ _ t.2.taken)) c.if4.branch),
+loop-k-preserved-then-cost-k : tie.Need-loop-k-preserved-then-cost-k invariant-loop-kk decreases-loop-kk invariant-loop-k decreases-loop-k invariant-improve_assign decreases-improve_assign
+loop-k-preserved-then-cost-k c = (
+  c.loop-k.invariant.0,
+  middle_skip c.requires.sound c.loop-k.invariant.1
+      (place_in c.before.before.before.before) (⊎_elim (λ t. inl t.taken) (λ t. inr (t.0.left, eqb-true _ _ t.2.taken)) c.then-cost-k.branch),
 )
 
-cast-search-from : At tie.Need-overflow-cast-search-from
-cast-search-from c = omega (
+overflow_cast-search_from : tie.Need-overflow_cast-search_from invariant-loop-kk decreases-loop-kk invariant-loop-k decreases-loop-k invariant-improve_assign decreases-improve_assign
+overflow_cast-search_from c = omega (
   arith,
-  c.slice-known8.given
-      (3 * (entry-of-slice-known8 c).args.n + get_or (in-loop-of-slice-known8 c).before.loop.work
-      (get_or (entry-of-slice-known8 c).args.row-idx.now (in-loop-of-slice-known8 c).before.loop.k 0) 0),
+  c.slice_known-in-loop-k-2-1.given
+      (3 * c.args.n + get_or c.loop-k.work
+      (get_or c.args.row-idx.now c.loop-k.k 0) 0),
 )
 
-loop2-holds : At tie.Need-loop2-init
-loop2-holds c = (
+loop-kk-init : tie.Need-loop-kk-init invariant-loop-kk decreases-loop-kk invariant-loop-k decreases-loop-k invariant-improve_assign decreases-improve_assign
+loop-kk-init c = (
   refl,
-  middle_seeks (entry-of-slice-known8 c).requires.sound (in-loop-of-slice-known8 c).before.loop.invariant.1
-      (place_in (in-loop-of-slice-known8 c)) c.before.before.before.before.before.if4.false (eqb-false _ _ c.before.before.before.if5.false),
+  middle_seeks c.requires.sound c.loop-k.invariant.1
+      (place_in c.before.before.before.before.before.before.before.before.before) c.if-cost-k.false (eqb-false _ _ c.if-work-i.false),
 )
 
-inner-step-requires : At tie.Need-inner-step-requires
-inner-step-requires c κs =
-    omega (arith, c.before.loop2.invariant.1.steps, c.before.loop2.invariant.1.column, inside (in-loop-of-slice-known8 c.before.before))
+inner_step-stats-requires : tie.Need-inner_step-stats-requires invariant-loop-kk decreases-loop-kk invariant-loop-k decreases-loop-k invariant-improve_assign decreases-improve_assign
+inner_step-stats-requires c κs =
+    omega (arith, c.loop-kk.invariant.1.steps, c.loop-kk.invariant.1.column, inside c.before.before.before.before.before.before.before.before.before.before.before)
 
-slice-read-if7 : At tie.Need-slice-read-if7
-slice-read-if7 c = omega
-    (arith, (loop2-of-shared-slice-known14 c.before).loop2.inv.1.other, (loop2-of-shared-slice-known14 c.before).loop2.inv.1.memory.values)
+bounds-fwork-n-then-work-ii : tie.Need-bounds-fwork-n-then-work-ii invariant-loop-kk decreases-loop-kk invariant-loop-k decreases-loop-k invariant-improve_assign decreases-improve_assign
+bounds-fwork-n-then-work-ii c = omega
+    (arith, c.loop-kk.inv.1.other, c.loop-kk.inv.1.memory.values)
 
-add-num-2 : At tie.Need-overflow-add-num-2
-add-num-2 c = omega (
+overflow_add-num-then-cost-kk : tie.Need-overflow_add-num-then-cost-kk invariant-loop-kk decreases-loop-kk invariant-loop-k decreases-loop-k invariant-improve_assign decreases-improve_assign
+overflow_add-num-then-cost-kk c = omega (
   arith,
-  (loop2-of-shared-slice-known14 c.before.before).loop2.inv.1.few,
+  c.loop-kk.inv.1.few,
   (loop2-of-shared-slice-known14
       c.before.before).loop2.invariant.1.column,
-  (entry-of-then7 c).requires.sound.few_columns,
+  c.requires.sound.few_columns,
 )
 
-pair-and-advance-requires-2 : At tie.Need-pair-and-advance-requires-2
-pair-and-advance-requires-2 c κs = (
+pair_and_advance-requires-then-cost-kk : tie.Need-pair_and_advance-requires-then-cost-kk invariant-loop-kk decreases-loop-kk invariant-loop-k decreases-loop-k invariant-improve_assign decreases-improve_assign
+pair_and_advance-requires-then-cost-kk c κs = (
   record {
-    words = (in-loop2-of-pair-and-advance-arg2 c).before.loop2.invariant.1.memory.words;
+    words = c.loop-kk.invariant.1.memory.words;
     small =
-        (entry-of-then7 c.before).pre.sound.few_columns;
+        c.requires.sound.few_columns;
   },
   (
-    (inside_other (in-loop2-of-pair-and-advance-arg2 c)).row,
-    ((in-loop2-of-pair-and-advance-arg2 c).before.loop2.invariant.1.other, (inside_other (in-loop2-of-pair-and-advance-arg2 c)).small),
+    (inside_other c.before.before.before.before.before.before.before.before.before).row,
+    (c.loop-kk.invariant.1.other, (inside_other c.before.before.before.before.before.before.before.before.before).small),
   ),
 )
 
-pair-and-advance-requires-3 : At tie.Need-pair-and-advance-requires-3
-pair-and-advance-requires-3 c κs = (
+pair_and_advance-requires-then-cost-kk-2 : tie.Need-pair_and_advance-requires-then-cost-kk-2 invariant-loop-kk decreases-loop-kk invariant-loop-k decreases-loop-k invariant-improve_assign decreases-improve_assign
+pair_and_advance-requires-then-cost-kk-2 c κs = (
   record {
-    words = c.before.before.before.pair-and-advance2.auto.1.0 ∙ (loop2-of-pair-and-advance-arg3 c).loop2.invariant.1.memory.words;
-    small = (entry-of-pair-and-advance-arg3 c).requires.sound.few_columns;
+    words = c.pair_and_advance-then-cost-kk.auto.work ∙ c.loop-kk.invariant.1.memory.words;
+    small = c.requires.sound.few_columns;
   },
   (
-    (inside (in-loop-of-pair-and-advance-arg3 c)).row,
+    (inside c.before.before.before.before.before.before.before.before.before.before.before.before.before.before.before.before.before.before.before.before.before.before.before.before).row,
     (
-      omega (arith, (loop2-of-pair-and-advance-arg3 c).loop2.invariant.1.column, (loop2-of-pair-and-advance-arg3 c).loop2.invariant.1.other),
-      (inside (in-loop-of-pair-and-advance-arg3 c)).small,
+      omega (arith, c.loop-kk.invariant.1.column, c.loop-kk.invariant.1.other),
+      (inside c.before.before.before.before.before.before.before.before.before.before.before.before.before.before.before.before.before.before.before.before.before.before.before.before).small,
     ),
   ),
 )
 
-improve-assign-less-3 : At tie.Need-improve-assign-smaller-3
-improve-assign-less-3 c =
-    omega (arith, (loop2-of-slice-known12 c).loop2.invariant.1.column, (loop2-of-slice-known12 c).loop2.invariant.0, (loop-of-slice-known12 c).loop.invariant.0)
+improve_assign-smaller-then-cost-kk : tie.Need-improve_assign-smaller-then-cost-kk invariant-loop-kk decreases-loop-kk invariant-loop-k decreases-loop-k invariant-improve_assign decreases-improve_assign
+improve_assign-smaller-then-cost-kk c =
+    omega (arith, c.loop-kk.invariant.1.column, c.loop-kk.invariant.0, c.loop-k.invariant.0)
 
-improve-assign-again-3 : At tie.Need-improve-assign-preserved-3
-improve-assign-again-3 c =
-    rw (inner-step-of-slice-known12 c).inner-step.ensures
-    (inner_swaps (entry-of-slice-known12 c).requires.sound (loop2-of-slice-known12 c).loop2.invariant.1
-    (inner-step-of-slice-known12 c).before.loop2-test.true (then6-of-slice-known12 c).if6.true
-    (pair-and-advance2-of-slice-known12 c).before.before.if7.true
-    (pair-and-advance2-of-slice-known12 c).pair-and-advance2.auto.1.0
-    (pair-and-advance2-of-slice-known12 c).pair-and-advance2.ensures c.before.before.pair-and-advance3.auto.1.0
-    c.before.before.pair-and-advance3.ensures)
+improve_assign-preserved-then-cost-kk : tie.Need-improve_assign-preserved-then-cost-kk invariant-loop-kk decreases-loop-kk invariant-loop-k decreases-loop-k invariant-improve_assign decreases-improve_assign
+improve_assign-preserved-then-cost-kk c =
+    rw c.inner_step-stats.ensures
+    (inner_swaps c.requires.sound c.loop-kk.invariant.1
+    c.loop-kk-test.true c.if-work-ii.true
+    c.if-cost-kk.true
+    c.pair_and_advance-then-cost-kk.auto.work
+    c.pair_and_advance-then-cost-kk.ensures c.pair_and_advance-then-cost-kk-2.auto.work
+    c.pair_and_advance-then-cost-kk-2.ensures)
 
-loop2-again : At tie.Need-loop2-preserved
-loop2-again c = (
-  (in-loop2-of-joined6 c).before.loop2.invariant.0,
-  rw c.before.before.before.inner-step.ensures
-      (inner_more (entry-of-joined6 c).requires.sound (in-loop2-of-joined6 c).before.loop2.invariant.1 (in-loop2-of-joined6 c).loop2-test.true
-      (⊎_elim (λ t. inr (t.0.taken, t.4.left)) (λ t. inl t.left) c.if6.branch)),
+loop-kk-preserved : tie.Need-loop-kk-preserved invariant-loop-kk decreases-loop-kk invariant-loop-k decreases-loop-k invariant-improve_assign decreases-improve_assign
+loop-kk-preserved c = (
+  c.loop-kk.invariant.0,
+  rw c.inner_step-stats.ensures
+      (inner_more c.requires.sound c.loop-kk.invariant.1 c.loop-kk-test.true
+      (⊎_elim (λ t. inr (t.0.taken, t.4.left)) (λ t. inl t.left) c.else-work-ii.branch)),
 )
 
-loop-again-2 : At tie.Need-loop-preserved-2
-loop-again-2 c = (
-  c.before.loop2.invariant.0 ∙ (in-loop-of-slice-known8 c.before.before).before.loop.inv.0,
-  inner_misses (entry-of-slice-known8 c.before.before).pre.sound c.before.loop2.invariant.1 c.loop2-test.false,
+loop-k-preserved : tie.Need-loop-k-preserved invariant-loop-kk decreases-loop-kk invariant-loop-k decreases-loop-k invariant-improve_assign decreases-improve_assign
+loop-k-preserved c = (
+  c.loop-kk.invariant.0 ∙ c.loop-k.inv.0,
+  inner_misses c.requires.sound c.loop-kk.invariant.1 c.loop-kk-test.false,
 )
 
-improve-assign-again-4 : At tie.Need-improve-assign-preserved-4
-improve-assign-again-4 c = middle_end (entry-of-shared-slice-known7 c.before.before).pre.sound c.before.loop.invariant.1
-    (rw c.before.loop.invariant.0 c.loop-test.false)
+improve_assign-preserved : tie.Need-improve_assign-preserved invariant-loop-kk decreases-loop-kk invariant-loop-k decreases-loop-k invariant-improve_assign decreases-improve_assign
+improve_assign-preserved c = middle_end c.requires.sound c.loop-k.invariant.1
+    (rw c.loop-k.invariant.0 c.loop-k-test.false)
 
-returns : At tie.Need-returns
-returns c = outer_end c.before.improve-assign.invariant c.improve-assign-test.false
+returns : tie.Need-returns invariant-loop-kk decreases-loop-kk invariant-loop-k decreases-loop-k invariant-improve_assign decreases-improve_assign
+returns c = outer_end c.improve_assign.invariant c.improve_assign-test.false
 
-pub improve-assign-spec : {M : Type 1} → statement M
-improve-assign-spec =
+overflow_mul-from : tie.Need-overflow_mul-from invariant-loop-kk decreases-loop-kk invariant-loop-k decreases-loop-k invariant-improve_assign decreases-improve_assign
+overflow_mul-from c = omega arith
+
+overflow_add-n : tie.Need-overflow_add-n invariant-loop-kk decreases-loop-kk invariant-loop-k decreases-loop-k invariant-improve_assign decreases-improve_assign
+overflow_add-n c = omega arith
+
+offset_bounds-work-n : tie.Need-offset_bounds-work-n invariant-loop-kk decreases-loop-kk invariant-loop-k decreases-loop-k invariant-improve_assign decreases-improve_assign
+offset_bounds-work-n c = omega arith
+
+bounds-work-n : tie.Need-bounds-work-n invariant-loop-kk decreases-loop-kk invariant-loop-k decreases-loop-k invariant-improve_assign decreases-improve_assign
+bounds-work-n c = omega arith
+
+offset_bounds-col_ptr-j : tie.Need-offset_bounds-col_ptr-j invariant-loop-kk decreases-loop-kk invariant-loop-k decreases-loop-k invariant-improve_assign decreases-improve_assign
+offset_bounds-col_ptr-j c = omega arith
+
+bounds-col_ptr-j : tie.Need-bounds-col_ptr-j invariant-loop-kk decreases-loop-kk invariant-loop-k decreases-loop-k invariant-improve_assign decreases-improve_assign
+bounds-col_ptr-j c = omega arith
+
+overflow_add-j : tie.Need-overflow_add-j invariant-loop-kk decreases-loop-kk invariant-loop-k decreases-loop-k invariant-improve_assign decreases-improve_assign
+overflow_add-j c = omega arith
+
+offset_bounds-col_ptr-j-else-work-n : tie.Need-offset_bounds-col_ptr-j-else-work-n invariant-loop-kk decreases-loop-kk invariant-loop-k decreases-loop-k invariant-improve_assign decreases-improve_assign
+offset_bounds-col_ptr-j-else-work-n c = omega arith
+
+bounds-col_ptr-j-else-work-n : tie.Need-bounds-col_ptr-j-else-work-n invariant-loop-kk decreases-loop-kk invariant-loop-k decreases-loop-k invariant-improve_assign decreases-improve_assign
+bounds-col_ptr-j-else-work-n c = omega arith
+
+overflow_step-j : tie.Need-overflow_step-j invariant-loop-kk decreases-loop-kk invariant-loop-k decreases-loop-k invariant-improve_assign decreases-improve_assign
+overflow_step-j c = omega arith
+
+improve_assign-smaller-then-work-n : tie.Need-improve_assign-smaller-then-work-n invariant-loop-kk decreases-loop-kk invariant-loop-k decreases-loop-k invariant-improve_assign decreases-improve_assign
+improve_assign-smaller-then-work-n c = omega arith
+
+overflow_add-fwork : tie.Need-overflow_add-fwork invariant-loop-kk decreases-loop-kk invariant-loop-k decreases-loop-k invariant-improve_assign decreases-improve_assign
+overflow_add-fwork c = omega arith
+
+offset_bounds-fwork-n : tie.Need-offset_bounds-fwork-n invariant-loop-kk decreases-loop-kk invariant-loop-k decreases-loop-k invariant-improve_assign decreases-improve_assign
+offset_bounds-fwork-n c = omega arith
+
+bounds-fwork-n : tie.Need-bounds-fwork-n invariant-loop-kk decreases-loop-kk invariant-loop-k decreases-loop-k invariant-improve_assign decreases-improve_assign
+bounds-fwork-n c = omega arith
+
+offset_bounds-work-i0 : tie.Need-offset_bounds-work-i0 invariant-loop-kk decreases-loop-kk invariant-loop-k decreases-loop-k invariant-improve_assign decreases-improve_assign
+offset_bounds-work-i0 c = omega (arith, best-in c)
+
+bounds-work-i0 : tie.Need-bounds-work-i0 invariant-loop-kk decreases-loop-kk invariant-loop-k decreases-loop-k invariant-improve_assign decreases-improve_assign
+bounds-work-i0 c = omega (arith, best-in c.before)
+
+overflow_add-num : tie.Need-overflow_add-num invariant-loop-kk decreases-loop-kk invariant-loop-k decreases-loop-k invariant-improve_assign decreases-improve_assign
+overflow_add-num c = omega arith
+
+overflow_step-j-then-work-i0 : tie.Need-overflow_step-j-then-work-i0 invariant-loop-kk decreases-loop-kk invariant-loop-k decreases-loop-k invariant-improve_assign decreases-improve_assign
+overflow_step-j-then-work-i0 c = omega arith
+
+improve_assign-smaller-then-work-i0 : tie.Need-improve_assign-smaller-then-work-i0 invariant-loop-kk decreases-loop-kk invariant-loop-k decreases-loop-k invariant-improve_assign decreases-improve_assign
+improve_assign-smaller-then-work-i0 c = omega arith
+
+overflow_add-end : tie.Need-overflow_add-end invariant-loop-kk decreases-loop-kk invariant-loop-k decreases-loop-k invariant-improve_assign decreases-improve_assign
+overflow_add-end c = omega arith
+
+offset_bounds-col_ptr-j-in-improve_assign : tie.Need-offset_bounds-col_ptr-j-in-improve_assign invariant-loop-kk decreases-loop-kk invariant-loop-k decreases-loop-k invariant-improve_assign decreases-improve_assign
+offset_bounds-col_ptr-j-in-improve_assign c = omega arith
+
+bounds-col_ptr-j-in-improve_assign : tie.Need-bounds-col_ptr-j-in-improve_assign invariant-loop-kk decreases-loop-kk invariant-loop-k decreases-loop-k invariant-improve_assign decreases-improve_assign
+bounds-col_ptr-j-in-improve_assign c = omega arith
+
+overflow_cast-end : tie.Need-overflow_cast-end invariant-loop-kk decreases-loop-kk invariant-loop-k decreases-loop-k invariant-improve_assign decreases-improve_assign
+overflow_cast-end c = omega (arith, c.shared_slice_known-in-improve_assign-1.given (c.improve_assign.j + 1))
+
+offset_bounds-row_idx-k : tie.Need-offset_bounds-row_idx-k invariant-loop-kk decreases-loop-kk invariant-loop-k decreases-loop-k invariant-improve_assign decreases-improve_assign
+offset_bounds-row_idx-k c = omega (arith, inside c)
+
+bounds-row_idx-k : tie.Need-bounds-row_idx-k invariant-loop-kk decreases-loop-kk invariant-loop-k decreases-loop-k invariant-improve_assign decreases-improve_assign
+bounds-row_idx-k c = omega (arith, inside c.before)
+
+overflow_cast-i : tie.Need-overflow_cast-i invariant-loop-kk decreases-loop-kk invariant-loop-k decreases-loop-k invariant-improve_assign decreases-improve_assign
+overflow_cast-i c = omega (arith, inside c.before)
+
+offset_bounds-cost-k : tie.Need-offset_bounds-cost-k invariant-loop-kk decreases-loop-kk invariant-loop-k decreases-loop-k invariant-improve_assign decreases-improve_assign
+offset_bounds-cost-k c = omega (arith, inside c.before)
+
+bounds-cost-k : tie.Need-bounds-cost-k invariant-loop-kk decreases-loop-kk invariant-loop-k decreases-loop-k invariant-improve_assign decreases-improve_assign
+bounds-cost-k c = omega (arith, inside c.before.before)
+
+offset_bounds-u-i : tie.Need-offset_bounds-u-i invariant-loop-kk decreases-loop-kk invariant-loop-k decreases-loop-k invariant-improve_assign decreases-improve_assign
+offset_bounds-u-i c = omega (arith, inside c.before.before)
+
+bounds-u-i : tie.Need-bounds-u-i invariant-loop-kk decreases-loop-kk invariant-loop-k decreases-loop-k invariant-improve_assign decreases-improve_assign
+bounds-u-i c = omega (arith, inside c.before.before.before)
+
+offset_bounds-work-i : tie.Need-offset_bounds-work-i invariant-loop-kk decreases-loop-kk invariant-loop-k decreases-loop-k invariant-improve_assign decreases-improve_assign
+offset_bounds-work-i c = omega (arith, inside c.before.before.before.before)
+
+bounds-work-i : tie.Need-bounds-work-i invariant-loop-kk decreases-loop-kk invariant-loop-k decreases-loop-k invariant-improve_assign decreases-improve_assign
+bounds-work-i c = omega (arith, inside c.before.before.before.before.before)
+
+overflow_step-k : tie.Need-overflow_step-k invariant-loop-kk decreases-loop-kk invariant-loop-k decreases-loop-k invariant-improve_assign decreases-improve_assign
+overflow_step-k c = omega (arith, inside c.before.before.before.before)
+
+loop-k-smaller-then-cost-k : tie.Need-loop-k-smaller-then-cost-k invariant-loop-kk decreases-loop-kk invariant-loop-k decreases-loop-k invariant-improve_assign decreases-improve_assign
+loop-k-smaller-then-cost-k c = omega arith
+
+offset_bounds-work-i-in-loop-k : tie.Need-offset_bounds-work-i-in-loop-k invariant-loop-kk decreases-loop-kk invariant-loop-k decreases-loop-k invariant-improve_assign decreases-improve_assign
+offset_bounds-work-i-in-loop-k c = omega (arith, inside c.before.before.before.before.before.before)
+
+bounds-work-i-in-loop-k : tie.Need-bounds-work-i-in-loop-k invariant-loop-kk decreases-loop-kk invariant-loop-k decreases-loop-k invariant-improve_assign decreases-improve_assign
+bounds-work-i-in-loop-k c = omega (arith, inside c.before.before.before.before.before.before.before)
+
+overflow_cast-jj : tie.Need-overflow_cast-jj invariant-loop-kk decreases-loop-kk invariant-loop-k decreases-loop-k invariant-improve_assign decreases-improve_assign
+overflow_cast-jj c = omega (arith, other-in c.before)
+
+overflow_add-jj_end : tie.Need-overflow_add-jj_end invariant-loop-kk decreases-loop-kk invariant-loop-k decreases-loop-k invariant-improve_assign decreases-improve_assign
+overflow_add-jj_end c = omega (arith, other-in c.before)
+
+offset_bounds-col_ptr-jj : tie.Need-offset_bounds-col_ptr-jj invariant-loop-kk decreases-loop-kk invariant-loop-k decreases-loop-k invariant-improve_assign decreases-improve_assign
+offset_bounds-col_ptr-jj c = omega (arith, other-in c.before)
+
+bounds-col_ptr-jj : tie.Need-bounds-col_ptr-jj invariant-loop-kk decreases-loop-kk invariant-loop-k decreases-loop-k invariant-improve_assign decreases-improve_assign
+bounds-col_ptr-jj c = omega (arith, other-in c.before.before)
+
+overflow_cast-jj_end : tie.Need-overflow_cast-jj_end invariant-loop-kk decreases-loop-kk invariant-loop-k decreases-loop-k invariant-improve_assign decreases-improve_assign
+overflow_cast-jj_end c = omega (arith, small_stop c.requires.sound (other-in c.before.before))
+
+overflow_add-search_from : tie.Need-overflow_add-search_from invariant-loop-kk decreases-loop-kk invariant-loop-k decreases-loop-k invariant-improve_assign decreases-improve_assign
+overflow_add-search_from c = omega (arith, other-in c.before.before)
+
+offset_bounds-work-from : tie.Need-offset_bounds-work-from invariant-loop-kk decreases-loop-kk invariant-loop-k decreases-loop-k invariant-improve_assign decreases-improve_assign
+offset_bounds-work-from c = omega (arith, other-in c.before.before)
+
+bounds-work-from : tie.Need-bounds-work-from invariant-loop-kk decreases-loop-kk invariant-loop-k decreases-loop-k invariant-improve_assign decreases-improve_assign
+bounds-work-from c = omega (arith, other-in c.before.before.before)
+
+offset_bounds-row_idx-kk : tie.Need-offset_bounds-row_idx-kk invariant-loop-kk decreases-loop-kk invariant-loop-k decreases-loop-k invariant-improve_assign decreases-improve_assign
+offset_bounds-row_idx-kk c = omega (arith, inside_other c.before)
+
+bounds-row_idx-kk : tie.Need-bounds-row_idx-kk invariant-loop-kk decreases-loop-kk invariant-loop-k decreases-loop-k invariant-improve_assign decreases-improve_assign
+bounds-row_idx-kk c = omega (arith, inside_other c.before.before)
+
+overflow_cast-ii : tie.Need-overflow_cast-ii invariant-loop-kk decreases-loop-kk invariant-loop-k decreases-loop-k invariant-improve_assign decreases-improve_assign
+overflow_cast-ii c = omega (arith, inside_other c.before.before)
+
+offset_bounds-work-ii : tie.Need-offset_bounds-work-ii invariant-loop-kk decreases-loop-kk invariant-loop-k decreases-loop-k invariant-improve_assign decreases-improve_assign
+offset_bounds-work-ii c = omega (arith, inside_other c.before.before)
+
+bounds-work-ii : tie.Need-bounds-work-ii invariant-loop-kk decreases-loop-kk invariant-loop-k decreases-loop-k invariant-improve_assign decreases-improve_assign
+bounds-work-ii c = omega (arith, inside_other c.before.before.before)
+
+offset_bounds-cost-kk : tie.Need-offset_bounds-cost-kk invariant-loop-kk decreases-loop-kk invariant-loop-k decreases-loop-k invariant-improve_assign decreases-improve_assign
+offset_bounds-cost-kk c = omega (arith, inside_other c.before.before.before.before)
+
+bounds-cost-kk : tie.Need-bounds-cost-kk invariant-loop-kk decreases-loop-kk invariant-loop-k decreases-loop-k invariant-improve_assign decreases-improve_assign
+bounds-cost-kk c = omega (arith, inside_other c.before.before.before.before.before)
+
+offset_bounds-u-ii : tie.Need-offset_bounds-u-ii invariant-loop-kk decreases-loop-kk invariant-loop-k decreases-loop-k invariant-improve_assign decreases-improve_assign
+offset_bounds-u-ii c = omega (arith, inside_other c.before.before.before.before.before)
+
+bounds-u-ii : tie.Need-bounds-u-ii invariant-loop-kk decreases-loop-kk invariant-loop-k decreases-loop-k invariant-improve_assign decreases-improve_assign
+bounds-u-ii c = omega (arith, inside_other c.before.before.before.before.before.before)
+
+overflow_add-n-then-work-ii : tie.Need-overflow_add-n-then-work-ii invariant-loop-kk decreases-loop-kk invariant-loop-k decreases-loop-k invariant-improve_assign decreases-improve_assign
+overflow_add-n-then-work-ii c = omega (arith, c.loop-kk.invariant.1.other, c.requires.sound.few_columns)
+
+offset_bounds-fwork-n-then-work-ii : tie.Need-offset_bounds-fwork-n-then-work-ii invariant-loop-kk decreases-loop-kk invariant-loop-k decreases-loop-k invariant-improve_assign decreases-improve_assign
+offset_bounds-fwork-n-then-work-ii c = omega (arith, c.loop-kk.invariant.1.other, c.requires.sound.few_columns)
+
+overflow_step-j-then-cost-kk : tie.Need-overflow_step-j-then-cost-kk invariant-loop-kk decreases-loop-kk invariant-loop-k decreases-loop-k invariant-improve_assign decreases-improve_assign
+overflow_step-j-then-cost-kk c = omega (arith, c.loop-kk.invariant.1.column, c.requires.sound.few_columns)
+
+overflow_step-kk : tie.Need-overflow_step-kk invariant-loop-kk decreases-loop-kk invariant-loop-k decreases-loop-k invariant-improve_assign decreases-improve_assign
+overflow_step-kk c = omega (arith, inside_other c.before.before.before.before)
+
+loop-kk-smaller : tie.Need-loop-kk-smaller invariant-loop-kk decreases-loop-kk invariant-loop-k decreases-loop-k invariant-improve_assign decreases-improve_assign
+loop-kk-smaller c = omega arith
+
+overflow_cast-work : tie.Need-overflow_cast-work invariant-loop-kk decreases-loop-kk invariant-loop-k decreases-loop-k invariant-improve_assign decreases-improve_assign
+overflow_cast-work c = omega (arith, small_stop c.requires.sound c.loop-kk.invariant.1.other)
+
+overflow_add-work : tie.Need-overflow_add-work invariant-loop-kk decreases-loop-kk invariant-loop-k decreases-loop-k invariant-improve_assign decreases-improve_assign
+overflow_add-work c = omega (arith, c.loop-kk.invariant.1.other)
+
+offset_bounds-work-from-in-loop-k : tie.Need-offset_bounds-work-from-in-loop-k invariant-loop-kk decreases-loop-kk invariant-loop-k decreases-loop-k invariant-improve_assign decreases-improve_assign
+offset_bounds-work-from-in-loop-k c = omega (arith, c.loop-kk.invariant.1.other)
+
+bounds-work-from-in-loop-k : tie.Need-bounds-work-from-in-loop-k invariant-loop-kk decreases-loop-kk invariant-loop-k decreases-loop-k invariant-improve_assign decreases-improve_assign
+bounds-work-from-in-loop-k c = omega (arith, c.loop-kk.invariant.1.other, c.loop-kk.invariant.1.memory.words)
+
+overflow_step-k-in-loop-k : tie.Need-overflow_step-k-in-loop-k invariant-loop-kk decreases-loop-kk invariant-loop-k decreases-loop-k invariant-improve_assign decreases-improve_assign
+overflow_step-k-in-loop-k c = omega (arith, inside c.before.before.before.before.before.before.before.before.before.before.before)
+
+loop-k-smaller : tie.Need-loop-k-smaller invariant-loop-kk decreases-loop-kk invariant-loop-k decreases-loop-k invariant-improve_assign decreases-improve_assign
+loop-k-smaller c = omega arith
+
+overflow_step-j-in-improve_assign : tie.Need-overflow_step-j-in-improve_assign invariant-loop-kk decreases-loop-kk invariant-loop-k decreases-loop-k invariant-improve_assign decreases-improve_assign
+overflow_step-j-in-improve_assign c = omega (arith, c.loop-k.invariant.1.column, c.requires.sound.few_columns)
+
+improve_assign-smaller : tie.Need-improve_assign-smaller invariant-loop-kk decreases-loop-kk invariant-loop-k decreases-loop-k invariant-improve_assign decreases-improve_assign
+improve_assign-smaller c = omega (arith, c.loop-k.invariant.1.column, c.loop-k.invariant.0)
+
+shape_of-work : tie.Need-shape_of-work invariant-loop-kk decreases-loop-kk invariant-loop-k decreases-loop-k invariant-improve_assign decreases-improve_assign
+shape_of-work c = omega (arith, c.improve_assign.invariant.memory.words, c.requires.words)
+
+shape_of-fwork : tie.Need-shape_of-fwork invariant-loop-kk decreases-loop-kk invariant-loop-k decreases-loop-k invariant-improve_assign decreases-improve_assign
+shape_of-fwork c = omega (arith, c.improve_assign.invariant.memory.values, c.requires.values)
+
+pub improve_assign_spec : {M : Type 1} → statement M
+improve_assign_spec =
     tie.close
     (tie.spec
-    invariant-loop2 decreases-loop2 invariant-loop decreases-loop invariant-improve-assign decreases-improve-assign
-    (λ c. omega arith)  -- mul-from
-    improve-assign-holds
-    (λ c. omega arith) (λ c. omega arith) (λ c. omega arith) (λ c. omega arith)  -- add-if1, mul-if1, slice-read-if1, mul-if2
-    (λ c. omega arith) (λ c. omega arith) (λ c. omega arith) (λ c. omega arith)  -- shared-slice-read-if2, add-if2, mul-if2-2, shared-slice-read-if2-2
-    (λ c. omega arith) (λ c. omega arith)  -- add-j, improve-assign-less
-    improve-assign-again best-of-requires
-    (λ c. omega arith) (λ c. omega arith) (λ c. omega arith)  -- add-fwork, mul-fwork, slice-write-fwork
-    (λ c. omega (arith, best-in c))  -- mul-if3
-    (λ c. omega (arith, best-in c.before))  -- slice-read-if3
-    (λ c. omega arith)  -- add-num
-    pair-and-advance-requires
-    (λ c. omega arith) (λ c. omega arith)  -- add-j-2, improve-assign-less-2
-    improve-assign-again-2
-    (λ c. omega arith) (λ c. omega arith) (λ c. omega arith)  -- add-end, mul-end, shared-slice-read-end
-    (λ c. omega (arith, c.shared-slice-known7.given ((improve-assign-of-shared-slice-known7 c).improve-assign.j + 1)))  -- cast-end
-    loop-holds
-    (λ c. omega (arith, inside c))  -- mul-i
-    (λ c. omega (arith, inside c.before)) (λ c. omega (arith, inside c.before))  -- shared-slice-read-i, cast-i
-    (λ c. omega (arith, inside c.before))  -- mul-if4
-    (λ c. omega (arith, inside c.before.before)) (λ c. omega (arith, inside c.before.before))  -- shared-slice-read-if4, mul-if4-2
-    (λ c. omega (arith, inside c.before.before.before))  -- shared-slice-read-if4-2
-    (λ c. omega (arith, inside c.before.before.before.before))  -- mul-if5
-    (λ c. omega (arith, inside c.before.before.before.before.before))  -- slice-read-if5
-    (λ c. omega (arith, inside (in-loop-of-joined4 c)))  -- add-k
-    (λ c. omega arith)  -- loop-less
-    loop-again
-    (λ c. omega (arith, inside (in-loop-of-else5 c)))  -- mul-jj
-    (λ c. omega (arith, inside (in-loop-of-else5 c.before)))  -- slice-read-jj
-    (λ c. omega (arith, other-in c.before)) (λ c. omega (arith, other-in c.before))  -- cast-jj, add-jj-end
-    (λ c. omega (arith, other-in c.before))  -- mul-jj-end
-    (λ c. omega (arith, other-in c.before.before))  -- shared-slice-read-jj-end
-    (λ c. omega (arith, small_stop (entry-of-else5 c.before.before).pre.sound (other-in c.before.before)))  -- cast-jj-end
-    (λ c. omega (arith, other-in c.before.before)) (λ c. omega (arith, other-in c.before.before))  -- add-search-from, mul-search-from
-    (λ c. omega (arith, other-in c.before.before.before))  -- slice-read-search-from
-    cast-search-from loop2-holds inner-step-requires
-    (λ c. omega (arith, inside_other c.before))  -- mul-ii
-    (λ c. omega (arith, inside_other c.before.before)) (λ c. omega (arith, inside_other c.before.before))  -- shared-slice-read-ii, cast-ii
-    (λ c. omega (arith, inside_other c.before.before))  -- mul-if6
-    (λ c. omega (arith, inside_other c.before.before.before))  -- slice-read-if6
-    (λ c. omega (arith, inside_other c.before.before.before.before))  -- mul-if7
-    (λ c. omega (arith, inside_other c.before.before.before.before.before))  -- shared-slice-read-if7
-    (λ c. omega (arith, inside_other c.before.before.before.before.before))  -- mul-if7-2
-    (λ c. omega (arith, inside_other (in-loop2-of-shared-slice-known14 c)))  -- shared-slice-read-if7-2
-    (λ c. omega (arith, (loop2-of-shared-slice-known14 c).loop2.invariant.1.other, (entry-of-shared-slice-known14 c).requires.sound.few_columns))  -- add-if7
-    (λ c. omega (arith, (loop2-of-shared-slice-known14 c).loop2.invariant.1.other, (entry-of-shared-slice-known14 c).requires.sound.few_columns))  -- mul-if7-3
-    slice-read-if7 add-num-2 pair-and-advance-requires-2 pair-and-advance-requires-3
-    (λ c. omega (arith, (loop2-of-slice-known12 c).loop2.invariant.1.column, (entry-of-slice-known12 c).requires.sound.few_columns))  -- add-j-3
-    improve-assign-less-3 improve-assign-again-3
-    (λ c. omega (arith, inside_other (in-loop2-of-joined6 c)))  -- add-kk
-    (λ c. omega arith)  -- loop2-less
-    loop2-again
-    (λ c. omega (arith, small_stop (entry-of-slice-known8 c.before.before).pre.sound c.before.loop2.invariant.1.other))  -- cast-work
-    (λ c. omega (arith, c.before.loop2.invariant.1.other)) (λ c. omega (arith, c.before.loop2.invariant.1.other))  -- add-work, mul-work
-    (λ c. omega (arith, c.before.loop2.invariant.1.other, c.before.loop2.invariant.1.memory.words))  -- slice-write-work
-    (λ c. omega (arith, inside (in-loop-of-slice-known8 c.before.before)))  -- add-k-2
-    (λ c. omega arith)  -- loop-less-2
-    loop-again-2
-    (λ c. omega (arith, c.before.loop.invariant.1.column, (entry-of-shared-slice-known7 c.before.before).pre.sound.few_columns))  -- add-j-4
-    (λ c. omega (arith, c.before.loop.invariant.1.column, c.before.loop.invariant.0))  -- improve-assign-less-4
-    improve-assign-again-4
-    (λ c. omega (arith, c.before.improve-assign.invariant.memory.words, (entry-of-slice-known2 c.before.before).pre.words))  -- same-length
-    (λ c. omega (arith, c.before.improve-assign.invariant.memory.values, (entry-of-slice-known2 c.before.before).pre.values))  -- same-length-2
+    invariant-loop-kk
+    decreases-loop-kk
+    invariant-loop-k
+    decreases-loop-k
+    invariant-improve_assign
+    decreases-improve_assign
+    overflow_mul-from
+    improve_assign-init
+    overflow_add-n
+    offset_bounds-work-n
+    bounds-work-n
+    offset_bounds-col_ptr-j
+    bounds-col_ptr-j
+    overflow_add-j
+    offset_bounds-col_ptr-j-else-work-n
+    bounds-col_ptr-j-else-work-n
+    overflow_step-j
+    improve_assign-smaller-then-work-n
+    improve_assign-preserved-then-work-n
+    best_of-best-requires
+    overflow_add-fwork
+    offset_bounds-fwork-n
+    bounds-fwork-n
+    offset_bounds-work-i0
+    bounds-work-i0
+    overflow_add-num
+    pair_and_advance-requires
+    overflow_step-j-then-work-i0
+    improve_assign-smaller-then-work-i0
+    improve_assign-preserved-then-work-i0
+    overflow_add-end
+    offset_bounds-col_ptr-j-in-improve_assign
+    bounds-col_ptr-j-in-improve_assign
+    overflow_cast-end
+    loop-k-init
+    offset_bounds-row_idx-k
+    bounds-row_idx-k
+    overflow_cast-i
+    offset_bounds-cost-k
+    bounds-cost-k
+    offset_bounds-u-i
+    bounds-u-i
+    offset_bounds-work-i
+    bounds-work-i
+    overflow_step-k
+    loop-k-smaller-then-cost-k
+    loop-k-preserved-then-cost-k
+    offset_bounds-work-i-in-loop-k
+    bounds-work-i-in-loop-k
+    overflow_cast-jj
+    overflow_add-jj_end
+    offset_bounds-col_ptr-jj
+    bounds-col_ptr-jj
+    overflow_cast-jj_end
+    overflow_add-search_from
+    offset_bounds-work-from
+    bounds-work-from
+    overflow_cast-search_from
+    loop-kk-init
+    inner_step-stats-requires
+    offset_bounds-row_idx-kk
+    bounds-row_idx-kk
+    overflow_cast-ii
+    offset_bounds-work-ii
+    bounds-work-ii
+    offset_bounds-cost-kk
+    bounds-cost-kk
+    offset_bounds-u-ii
+    bounds-u-ii
+    overflow_add-n-then-work-ii
+    offset_bounds-fwork-n-then-work-ii
+    bounds-fwork-n-then-work-ii
+    overflow_add-num-then-cost-kk
+    pair_and_advance-requires-then-cost-kk
+    pair_and_advance-requires-then-cost-kk-2
+    overflow_step-j-then-cost-kk
+    improve_assign-smaller-then-cost-kk
+    improve_assign-preserved-then-cost-kk
+    overflow_step-kk
+    loop-kk-smaller
+    loop-kk-preserved
+    overflow_cast-work
+    overflow_add-work
+    offset_bounds-work-from-in-loop-k
+    bounds-work-from-in-loop-k
+    overflow_step-k-in-loop-k
+    loop-k-smaller
+    loop-k-preserved
+    overflow_step-j-in-improve_assign
+    improve_assign-smaller
+    improve_assign-preserved
+    shape_of-work
+    shape_of-fwork
     returns)

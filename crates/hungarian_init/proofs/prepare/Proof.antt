@@ -5,79 +5,79 @@ use Rattle.hungarian_init.proofs.Preparing.{Preparing, preparing_start, preparin
 use Rattle.hungarian_init.proofs.prepare.Statement.{statement}
 use Rattle.hungarian_init.proofs.prepare.Tie as tie
 
-abbrev invariant-loop : tie.invariant-loop
-invariant-loop n col_ptr work₀ fwork₀ from j₀ work fwork j = Preparing n col_ptr work₀ work fwork j
+abbrev invariant-loop-j : tie.invariant-loop-j
+invariant-loop-j n col_ptr work₀ fwork₀ from j₀ work fwork j = Preparing n col_ptr work₀ work fwork j
 
-abbrev decreases-loop : tie.decreases-loop
-decreases-loop n col_ptr work₀ fwork₀ from j₀ work fwork j = n - j
+abbrev decreases-loop-j : tie.decreases-loop-j
+decreases-loop-j n col_ptr work₀ fwork₀ from j₀ work fwork j = n - j
 
-mul-from : tie.Need-overflow-mul-from invariant-loop decreases-loop
-mul-from c = omega arith
+overflow_mul-from : tie.Need-overflow_mul-from invariant-loop-j decreases-loop-j
+overflow_mul-from c = omega arith
 
-loop-holds : tie.Need-loop-init invariant-loop decreases-loop
-loop-holds c = preparing_start _ _ _ _ c.requires.0.words c.requires.1.0 c.requires.1.1
+loop-j-init : tie.Need-loop-j-init invariant-loop-j decreases-loop-j
+loop-j-init c = preparing_start _ _ _ _ c.requires.fact_1.words c.requires.fact_2 c.requires.fact_3
 
-mul-work : tie.Need-overflow-mul-work invariant-loop decreases-loop
-mul-work c = omega arith
+offset_bounds-col_ptr-j : tie.Need-offset_bounds-col_ptr-j invariant-loop-j decreases-loop-j
+offset_bounds-col_ptr-j c = omega arith
 
-shared-slice-read-work : tie.Need-shared-slice-read-work invariant-loop decreases-loop
-shared-slice-read-work c = omega arith
+bounds-col_ptr-j : tie.Need-bounds-col_ptr-j invariant-loop-j decreases-loop-j
+bounds-col_ptr-j c = omega arith
 
-add-work : tie.Need-overflow-add-work invariant-loop decreases-loop
-add-work c = omega arith
+overflow_add-work : tie.Need-overflow_add-work invariant-loop-j decreases-loop-j
+overflow_add-work c = omega arith
 
-mul-work-2 : tie.Need-overflow-mul-work-2 invariant-loop decreases-loop
-mul-work-2 c = omega arith
+offset_bounds-work-from : tie.Need-offset_bounds-work-from invariant-loop-j decreases-loop-j
+offset_bounds-work-from c = omega arith
 
-slice-write-work : tie.Need-slice-write-work invariant-loop decreases-loop
-slice-write-work c = omega arith
+bounds-work-from : tie.Need-bounds-work-from invariant-loop-j decreases-loop-j
+bounds-work-from c = omega arith
 
-add-fwork : tie.Need-overflow-add-fwork invariant-loop decreases-loop
-add-fwork c = omega arith
+overflow_add-fwork : tie.Need-overflow_add-fwork invariant-loop-j decreases-loop-j
+overflow_add-fwork c = omega arith
 
-mul-fwork : tie.Need-overflow-mul-fwork invariant-loop decreases-loop
-mul-fwork c = omega arith
+offset_bounds-fwork-n : tie.Need-offset_bounds-fwork-n invariant-loop-j decreases-loop-j
+offset_bounds-fwork-n c = omega arith
 
-slice-write-fwork : tie.Need-slice-write-fwork invariant-loop decreases-loop
-slice-write-fwork c = omega arith
+bounds-fwork-n : tie.Need-bounds-fwork-n invariant-loop-j decreases-loop-j
+bounds-fwork-n c = omega arith
 
-add-j : tie.Need-overflow-add-j invariant-loop decreases-loop
-add-j c = omega arith
+overflow_step-j : tie.Need-overflow_step-j invariant-loop-j decreases-loop-j
+overflow_step-j c = omega arith
 
-loop-less : tie.Need-loop-smaller invariant-loop decreases-loop
-loop-less c = omega arith
+loop-j-smaller : tie.Need-loop-j-smaller invariant-loop-j decreases-loop-j
+loop-j-smaller c = omega arith
 
-loop-again : tie.Need-loop-preserved invariant-loop decreases-loop
-loop-again c = preparing_turn c.before.before.loop.invariant c.before.loop-test.true
+loop-j-preserved : tie.Need-loop-j-preserved invariant-loop-j decreases-loop-j
+loop-j-preserved c = preparing_turn c.loop-j.invariant c.loop-j-test.true
 
-same_length_lem : tie.Need-same-length invariant-loop decreases-loop
-same_length_lem c = omega arith
+shape_of-work : tie.Need-shape_of-work invariant-loop-j decreases-loop-j
+shape_of-work c = omega arith
 
-same-length-2 : tie.Need-same-length-2 invariant-loop decreases-loop
-same-length-2 c = omega arith
+shape_of-fwork : tie.Need-shape_of-fwork invariant-loop-j decreases-loop-j
+shape_of-fwork c = omega arith
 
-returns : tie.Need-returns invariant-loop decreases-loop
-returns c = preparing_end c.before.loop.invariant c.loop-test.false
+returns : tie.Need-returns invariant-loop-j decreases-loop-j
+returns c = preparing_end c.loop-j.invariant c.loop-j-test.false
 
-pub prepare-spec : {M : Type 1} → statement M
-prepare-spec =
+pub prepare_spec : {M : Type 1} → statement M
+prepare_spec =
     tie.close
     (tie.spec
-    invariant-loop
-    decreases-loop
-    mul-from
-    loop-holds
-    mul-work
-    shared-slice-read-work
-    add-work
-    mul-work-2
-    slice-write-work
-    add-fwork
-    mul-fwork
-    slice-write-fwork
-    add-j
-    loop-less
-    loop-again
-    same_length_lem
-    same-length-2
+    invariant-loop-j
+    decreases-loop-j
+    overflow_mul-from
+    loop-j-init
+    offset_bounds-col_ptr-j
+    bounds-col_ptr-j
+    overflow_add-work
+    offset_bounds-work-from
+    bounds-work-from
+    overflow_add-fwork
+    offset_bounds-fwork-n
+    bounds-fwork-n
+    overflow_step-j
+    loop-j-smaller
+    loop-j-preserved
+    shape_of-work
+    shape_of-fwork
     returns)

@@ -9,43 +9,39 @@ use Rattle.hungarian_init.proofs.Preparing.{zeroed_to, zeroed_low, zeroed_high, 
 use Rattle.hungarian_init.proofs.zero_empty_rows.Statement.{statement}
 use Rattle.hungarian_init.proofs.zero_empty_rows.Tie as tie
 
-abbrev invariant-loop : tie.invariant-loop
-invariant-loop u₀ i₀ i-end u i = (length u ≡ length u₀) × (i ≤ length u) × (zeroed_to i u ≡ empty_rows_zeroed u₀)
+abbrev invariant-loop-i : tie.invariant-loop-i
+invariant-loop-i u₀ i₀ i-end u i = (length u ≡ length u₀) × (i ≤ length u) × (zeroed_to i u ≡ empty_rows_zeroed u₀)
 
-abbrev decreases-loop : tie.decreases-loop
-decreases-loop u₀ i₀ i-end u i = i-end - i
+abbrev decreases-loop-i : tie.decreases-loop-i
+decreases-loop-i u₀ i₀ i-end u i = i-end - i
 
--- places of the proof, each from a later one
-abbrev loop-of-joined1 : tie.Joined1 invariant-loop decreases-loop → tie.At-loop invariant-loop decreases-loop
-loop-of-joined1 c = c.before.before.before
+loop-i-init : tie.Need-loop-i-init invariant-loop-i decreases-loop-i
+loop-i-init c = (refl, omega arith, refl)
 
-loop-holds : tie.Need-loop-init invariant-loop decreases-loop
-loop-holds c = (refl, omega arith, refl)
+offset_bounds-u-i : tie.Need-offset_bounds-u-i invariant-loop-i decreases-loop-i
+offset_bounds-u-i c = omega arith
 
-mul-if1 : tie.Need-overflow-mul-if1 invariant-loop decreases-loop
-mul-if1 c = omega arith
+bounds-u-i : tie.Need-bounds-u-i invariant-loop-i decreases-loop-i
+bounds-u-i c = omega arith
 
-slice-read-if1 : tie.Need-slice-read-if1 invariant-loop decreases-loop
-slice-read-if1 c = omega arith
+offset_bounds-u-i-then-u-i : tie.Need-offset_bounds-u-i-then-u-i invariant-loop-i decreases-loop-i
+offset_bounds-u-i-then-u-i c = omega arith
 
-mul-u : tie.Need-overflow-mul-u invariant-loop decreases-loop
-mul-u c = omega arith
+bounds-u-i-then-u-i : tie.Need-bounds-u-i-then-u-i invariant-loop-i decreases-loop-i
+bounds-u-i-then-u-i c = omega arith
 
-slice-write-u : tie.Need-slice-write-u invariant-loop decreases-loop
-slice-write-u c = omega arith
+overflow_step-i : tie.Need-overflow_step-i invariant-loop-i decreases-loop-i
+overflow_step-i c = omega arith
 
-add-i : tie.Need-overflow-add-i invariant-loop decreases-loop
-add-i c = omega arith
+loop-i-smaller : tie.Need-loop-i-smaller invariant-loop-i decreases-loop-i
+loop-i-smaller c = omega arith
 
-loop-less : tie.Need-loop-smaller invariant-loop decreases-loop
-loop-less c = omega arith
-
-loop-again : tie.Need-loop-preserved invariant-loop decreases-loop
-loop-again c = ⊎_elim (λ t. rw t.1 (
-  simp length-set (loop-of-joined1 c).loop.invariant.0,
+loop-i-preserved : tie.Need-loop-i-preserved invariant-loop-i decreases-loop-i
+loop-i-preserved c = ⊎_elim (λ t. rw t.1 (
+  simp length-set c.loop-i.invariant.0,
   simp length-set (omega arith),
-  zeroed_high (loop-of-joined1 c).loop.i (loop-of-joined1 c).loop.u (omega arith) t.0.taken ∙
-      (loop-of-joined1 c).loop.invariant.2,
+  zeroed_high c.loop-i.i c.loop-i.u (omega arith) t.0.taken ∙
+      c.loop-i.invariant.2,
 )) (λ t. rw t.1 (
   c.before.before.before.loop.invariant.0,
   omega arith,
@@ -54,25 +50,25 @@ loop-again c = ⊎_elim (λ t. rw t.1 (
       c.before.before.before.loop.invariant.2,
 )) c.if1.branch
 
-same_length_lem : tie.Need-same-length invariant-loop decreases-loop
-same_length_lem c = omega arith
+shape_of-u : tie.Need-shape_of-u invariant-loop-i decreases-loop-i
+shape_of-u c = omega arith
 
-returns : tie.Need-returns invariant-loop decreases-loop
-returns c = sym (zeroed_done c.before.loop.i c.before.loop.u (omega arith)) ∙ c.before.loop.invariant.2
+returns : tie.Need-returns invariant-loop-i decreases-loop-i
+returns c = sym (zeroed_done c.loop-i.i c.loop-i.u (omega arith)) ∙ c.loop-i.invariant.2
 
-pub zero-empty-rows-spec : {M : Type 1} → statement M
-zero-empty-rows-spec =
+pub zero_empty_rows_spec : {M : Type 1} → statement M
+zero_empty_rows_spec =
     tie.close
     (tie.spec
-    invariant-loop
-    decreases-loop
-    loop-holds
-    mul-if1
-    slice-read-if1
-    mul-u
-    slice-write-u
-    add-i
-    loop-less
-    loop-again
-    same_length_lem
+    invariant-loop-i
+    decreases-loop-i
+    loop-i-init
+    offset_bounds-u-i
+    bounds-u-i
+    offset_bounds-u-i-then-u-i
+    bounds-u-i-then-u-i
+    overflow_step-i
+    loop-i-smaller
+    loop-i-preserved
+    shape_of-u
     returns)

@@ -1,4 +1,5 @@
 -- `hungarian_match` meets its contract: a fault is refused with nothing changed, an accepted graph is solved.
+use Rattle.std.proofs.Common.{rules}
 use mathlib.Core.Path.{sym, ◌∙◌}
 use borrow.Author.Rules.{rules}
 use Rattle.hungarian_match.proofs.hungarian_match.Statement.{statement}
@@ -7,112 +8,66 @@ use Rattle.hungarian_match.proofs.Calls.{accepted_lengths}
 use Rattle.hungarian_match.proofs.Outcomes.{pointers_fit, fault_is, in_list, refuses, refuses_by, not_matched, finishes, answered, matches}
 use Rattle.hungarian_match.proofs.Outcomes.{promised, counted}
 
--- places of the proof, each from a later one
-abbrev shared-slice-known3-of-lengths-fit : tie.After-lengths-fit → tie.After-shared-slice-known3
-shared-slice-known3-of-lengths-fit c = c.before.before.before.before.before.before.before.before.before.before.before
+lengths_fit-lengths-requires : tie.Need-lengths_fit-lengths-requires
+lengths_fit-lengths-requires c κs = search rules
 
-abbrev lengths-fit-of-graph-fault : tie.After-graph-fault → tie.After-lengths-fit
-lengths-fit-of-graph-fault c = c.before
+graph_fault-fault-requires : tie.Need-graph_fault-fault-requires
+graph_fault-fault-requires c κs = λ t. pointers_fit _ _ (sym c.lengths_fit-lengths.ensures ∙ t)
 
-abbrev shared-slice-known3-of-graph-fault : tie.After-graph-fault → tie.After-shared-slice-known3
-shared-slice-known3-of-graph-fault c = shared-slice-known3-of-lengths-fit (lengths-fit-of-graph-fault c)
+shape_of-perm-then-fault-ne-ACCEPTED : tie.Need-shape_of-perm-then-fault-ne-ACCEPTED
+shape_of-perm-then-fault-ne-ACCEPTED c = search rules
 
-abbrev graph-fault-of-Else1 : tie.Else1 → tie.After-graph-fault
-graph-fault-of-Else1 c = c.before
+shape_of-u-then-fault-ne-ACCEPTED : tie.Need-shape_of-u-then-fault-ne-ACCEPTED
+shape_of-u-then-fault-ne-ACCEPTED c = search rules
 
-abbrev lengths-fit-of-Else1 : tie.Else1 → tie.After-lengths-fit
-lengths-fit-of-Else1 c = lengths-fit-of-graph-fault (graph-fault-of-Else1 c)
+shape_of-v-then-fault-ne-ACCEPTED : tie.Need-shape_of-v-then-fault-ne-ACCEPTED
+shape_of-v-then-fault-ne-ACCEPTED c = search rules
 
-abbrev shared-slice-known3-of-Else1 : tie.Else1 → tie.After-shared-slice-known3
-shared-slice-known3-of-Else1 c = shared-slice-known3-of-graph-fault (graph-fault-of-Else1 c)
+shape_of-work-then-fault-ne-ACCEPTED : tie.Need-shape_of-work-then-fault-ne-ACCEPTED
+shape_of-work-then-fault-ne-ACCEPTED c = search rules
 
-abbrev Else1-of-solve : tie.After-solve → tie.Else1
-Else1-of-solve c = c.before.before.before.before.before.before
+shape_of-fwork-then-fault-ne-ACCEPTED : tie.Need-shape_of-fwork-then-fault-ne-ACCEPTED
+shape_of-fwork-then-fault-ne-ACCEPTED c = search rules
 
-abbrev graph-fault-of-solve : tie.After-solve → tie.After-graph-fault
-graph-fault-of-solve c = graph-fault-of-Else1 (Else1-of-solve c)
-
-abbrev lengths-fit-of-solve : tie.After-solve → tie.After-lengths-fit
-lengths-fit-of-solve c = lengths-fit-of-Else1 (Else1-of-solve c)
-
-abbrev shared-slice-known3-of-solve : tie.After-solve → tie.After-shared-slice-known3
-shared-slice-known3-of-solve c = shared-slice-known3-of-Else1 (Else1-of-solve c)
-
-abbrev solve-of-slice-known10 : tie.After-slice-known10 → tie.After-solve
-solve-of-slice-known10 c = c.before.before.before.before.before.before.before.before.before.before
-
-abbrev Else1-of-slice-known10 : tie.After-slice-known10 → tie.Else1
-Else1-of-slice-known10 c = Else1-of-solve (solve-of-slice-known10 c)
-
-abbrev graph-fault-of-slice-known10 : tie.After-slice-known10 → tie.After-graph-fault
-graph-fault-of-slice-known10 c = graph-fault-of-solve (solve-of-slice-known10 c)
-
-abbrev lengths-fit-of-slice-known10 : tie.After-slice-known10 → tie.After-lengths-fit
-lengths-fit-of-slice-known10 c = lengths-fit-of-solve (solve-of-slice-known10 c)
-
-abbrev shared-slice-known3-of-slice-known10 : tie.After-slice-known10 → tie.After-shared-slice-known3
-shared-slice-known3-of-slice-known10 c = shared-slice-known3-of-solve (solve-of-slice-known10 c)
-
-lengths-fit-requires : tie.Need-lengths-fit-requires
-lengths-fit-requires c κs = search rules
-
-graph-fault-requires : tie.Need-graph-fault-requires
-graph-fault-requires c κs = λ t. pointers_fit _ _ (sym c.lengths_fit_lem.ensures ∙ t)
-
-same_length_lem : tie.Need-same-length
-same_length_lem c = search rules
-
-same-length-2 : tie.Need-same-length-2
-same-length-2 c = search rules
-
-same-length-3 : tie.Need-same-length-3
-same-length-3 c = search rules
-
-same-length-4 : tie.Need-same-length-4
-same-length-4 c = search rules
-
-same-length-5 : tie.Need-same-length-5
-same-length-5 c = search rules
-
-returns : tie.Need-returns
-returns c =
-    let e = fault_is _ _ c.before.graph-fault.ensures c.before.before.lengths_fit_lem.ensures in
+returns-then-fault-ne-ACCEPTED : tie.Need-returns-then-fault-ne-ACCEPTED
+returns-then-fault-ne-ACCEPTED c =
+    let e = fault_is _ _ c.graph_fault-fault.ensures c.lengths_fit-lengths.ensures in
     record {
-      outcome = refuses _ _ e c.if1.true;
-      answer = refuses_by _ _ e c.if1.true;
+      outcome = refuses _ _ e c.if-fault-ne-ACCEPTED.true;
+      answer = refuses_by _ _ e c.if-fault-ne-ACCEPTED.true;
       matching = λ m q. absurd (not_matched q);
       optimal = λ m q w. absurd (not_matched q);
       counts = λ m q. absurd (not_matched q);
       number = in_list _ _ e;
     }
 
-solve-requires : tie.Need-solve-requires
-solve-requires c κs = accepted_lengths _ _ (sym (fault_is _ _ (graph-fault-of-Else1
+solve-found-requires : tie.Need-solve-found-requires
+solve-found-requires c κs = accepted_lengths _ _ (sym (fault_is _ _ (graph-fault-of-Else1
     c.before.before.before.before.before).graph-fault.ensures
-    (lengths-fit-of-Else1 c.before.before.before.before.before).lengths_fit_lem.ensures) ∙
-    c.before.before.before.before.before.if1.false)
+    c.lengths_fit-lengths.ensures) ∙
+    c.if-fault-ne-ACCEPTED.false)
 
-same-length-6 : tie.Need-same-length-6
-same-length-6 c = search rules
+shape_of-perm : tie.Need-shape_of-perm
+shape_of-perm c = search rules
 
-same-length-7 : tie.Need-same-length-7
-same-length-7 c = search rules
+shape_of-u : tie.Need-shape_of-u
+shape_of-u c = search rules
 
-same-length-8 : tie.Need-same-length-8
-same-length-8 c = search rules
+shape_of-v : tie.Need-shape_of-v
+shape_of-v c = search rules
 
-same-length-9 : tie.Need-same-length-9
-same-length-9 c = search rules
+shape_of-work : tie.Need-shape_of-work
+shape_of-work c = search rules
 
-same-length-10 : tie.Need-same-length-10
-same-length-10 c = search rules
+shape_of-fwork : tie.Need-shape_of-fwork
+shape_of-fwork c = search rules
 
-returns-2 : tie.Need-returns-2
-returns-2 c =
-    let e = sym (fault_is _ _ (graph-fault-of-slice-known10 c).graph-fault.ensures (lengths-fit-of-slice-known10 c).lengths_fit_lem.ensures)
-    ∙ (Else1-of-slice-known10 c).if1.left in
-    let d = (shared-slice-known3-of-slice-known10 c).shared-slice-known3.given in
-    let S = (solve-of-slice-known10 c).solve.ensures in
+returns : tie.Need-returns
+returns-then-fault-ne-ACCEPTED c =
+    let e = sym (fault_is _ _ c.graph_fault-fault.ensures c.lengths_fit-lengths.ensures)
+    ∙ c.if-fault-ne-ACCEPTED.left in
+    let d = c.shared_slice_known-3-1.given in
+    let S = c.solve-found.ensures in
     record {
       outcome = finishes _ _ e (λ k h. d k) S;
       answer = answered _ _ e (λ k h. d k) S;
@@ -122,22 +77,22 @@ returns-2 c =
       number = in_list _ _ (sym e);
     }
 
-pub hungarian-match-spec : {M : Type 1} → statement M
-hungarian-match-spec =
+pub hungarian_match_spec : {M : Type 1} → statement M
+hungarian_match_spec =
     tie.close
     (tie.spec
-    lengths-fit-requires
-    graph-fault-requires
-    same_length_lem
-    same-length-2
-    same-length-3
-    same-length-4
-    same-length-5
-    returns
-    solve-requires
-    same-length-6
-    same-length-7
-    same-length-8
-    same-length-9
-    same-length-10
-    returns-2)
+    lengths_fit-lengths-requires
+    graph_fault-fault-requires
+    shape_of-perm-then-fault-ne-ACCEPTED
+    shape_of-u-then-fault-ne-ACCEPTED
+    shape_of-v-then-fault-ne-ACCEPTED
+    shape_of-work-then-fault-ne-ACCEPTED
+    shape_of-fwork-then-fault-ne-ACCEPTED
+    returns-then-fault-ne-ACCEPTED
+    solve-found-requires
+    shape_of-perm
+    shape_of-u
+    shape_of-v
+    shape_of-work
+    shape_of-fwork
+    returns)

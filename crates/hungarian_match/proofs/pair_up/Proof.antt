@@ -4,96 +4,62 @@ use Rattle.hungarian_match.proofs.pair_up.Statement.{statement}
 use Rattle.hungarian_match.proofs.pair_up.Tie as tie
 use Rattle.hungarian_match.proofs.Calls.{searchable, paired_early, paired_late}
 
--- places of the proof, each from a later one
-abbrev entry-of-start-arg3 : tie.After-start-arg3 → tie.Start
-entry-of-start-arg3 c = c.before.before.before.before.before.before.before.before.before.before.before
+start-started-requires : tie.Need-start-started-requires
+start-started-requires c κs = c.requires.fact_1
 
-abbrev entry-of-start : tie.After-start → tie.Start
-entry-of-start c = entry-of-start-arg3 c.before
+shape_of-u-then-num-n : tie.Need-shape_of-u-then-num-n
+shape_of-u-then-num-n c = c.start-started.auto.u
 
-abbrev start-of-then1 : tie.Then1 → tie.After-start
-start-of-then1 c = c.before.before.before.before.before.before.before.before
+shape_of-work-then-num-n : tie.Need-shape_of-work-then-num-n
+shape_of-work-then-num-n c = c.start-started.auto.work
 
-abbrev start-of-else1 : tie.Else1 → tie.After-start
-start-of-else1 c = c.before.before.before.before.before.before.before.before
+shape_of-fwork-then-num-n : tie.Need-shape_of-fwork-then-num-n
+shape_of-fwork-then-num-n c = c.start-started.auto.fwork
 
-abbrev else1-of-run-arg5 : tie.After-run-arg5 → tie.Else1
-else1-of-run-arg5 c = c.before.before.before.before.before
-
-abbrev start-of-run-arg5 : tie.After-run-arg5 → tie.After-start
-start-of-run-arg5 c = start-of-else1 (else1-of-run-arg5 c)
-
-abbrev entry-of-run-arg5 : tie.After-run-arg5 → tie.Start
-entry-of-run-arg5 c = entry-of-start (start-of-run-arg5 c)
-
-abbrev else1-of-run : tie.After-run → tie.Else1
-else1-of-run c = else1-of-run-arg5 c.before
-
-abbrev run-of-slice-known13 : tie.After-slice-known13 → tie.After-run
-run-of-slice-known13 c = c.before.before.before.before.before.before.before.before.before.before
-
-abbrev else1-of-slice-known13 : tie.After-slice-known13 → tie.Else1
-else1-of-slice-known13 c = else1-of-run (run-of-slice-known13 c)
-
-abbrev start-of-slice-known13 : tie.After-slice-known13 → tie.After-start
-start-of-slice-known13 c = start-of-else1 (else1-of-slice-known13 c)
-
-start-requires : tie.Need-start-requires
-start-requires c κs = (entry-of-start-arg3 c).requires.0
-
-same_length_lem : tie.Need-same-length
-same_length_lem c = (start-of-then1 c).start.auto.1.1.1.1.0
-
-same-length-2 : tie.Need-same-length-2
-same-length-2 c = (start-of-then1 c).start.auto.1.1.1.1.1.0
-
-same-length-3 : tie.Need-same-length-3
-same-length-3 c = (start-of-then1 c).start.auto.1.1.1.1.1.1.0
-
-returns : tie.Need-returns
-returns c = paired_early (start-of-then1 c).start.ensures c.if1.true
+returns-then-num-n : tie.Need-returns-then-num-n
+returns-then-num-n c = paired_early c.start-started.ensures c.if-num-n.true
 
 run-requires : tie.Need-run-requires
 run-requires c κs = (
-  searchable (entry-of-run-arg5 c).requires.0.accepted
-      ((start-of-run-arg5 c).start.auto.1.1.1.1.1.0 ∙ (entry-of-run-arg5 c).requires.0.words) (start-of-run-arg5 c).start.ensures,
+  searchable c.requires.fact_1.accepted
+      (c.start-started.auto.work ∙ c.requires.fact_1.words) c.start-started.ensures,
   (
-    (entry-of-run-arg5 c).requires.1.0,
-    ((entry-of-run-arg5 c).requires.1.1, (start-of-run-arg5 c).start.auto.1.1.1.1.1.1.0 ∙ (entry-of-run-arg5 c).requires.0.values),
+    c.requires.fact_2,
+    (c.requires.fact_3, c.start-started.auto.fwork ∙ c.requires.fact_1.values),
   ),
 )
 
-same-length-4 : tie.Need-same-length-4
-same-length-4 c = (run-of-slice-known13 c).run.auto.1.1.1.1.1.1.0
+shape_of-perm : tie.Need-shape_of-perm
+shape_of-perm c = c.run.auto.pos
 
-same-length-5 : tie.Need-same-length-5
-same-length-5 c = (run-of-slice-known13 c).run.auto.1.1.1.1.0 ∙ (start-of-slice-known13 c).start.auto.1.1.1.1.0
+shape_of-u : tie.Need-shape_of-u
+shape_of-u c = c.run.auto.u ∙ c.start-started.auto.u
 
-same-length-6 : tie.Need-same-length-6
-same-length-6 c = (run-of-slice-known13 c).run.auto.1.1.1.1.1.1.1.0
+shape_of-v : tie.Need-shape_of-v
+shape_of-v c = c.run.auto.keys
 
-same-length-7 : tie.Need-same-length-7
-same-length-7 c = (run-of-slice-known13 c).run.auto.1.1.1.1.1.0 ∙ (start-of-slice-known13 c).start.auto.1.1.1.1.1.0
+shape_of-work : tie.Need-shape_of-work
+shape_of-work c = c.run.auto.work ∙ c.start-started.auto.work
 
-same-length-8 : tie.Need-same-length-8
-same-length-8 c = (run-of-slice-known13 c).run.auto.1.1.1.1.1.1.1.1.0 ∙ (start-of-slice-known13 c).start.auto.1.1.1.1.1.1.0
+shape_of-fwork : tie.Need-shape_of-fwork
+shape_of-fwork c = c.run.auto.fwork ∙ c.start-started.auto.fwork
 
-returns-2 : tie.Need-returns-2
-returns-2 c = paired_late (λ e. (else1-of-slice-known13 c).if1.false ((start-of-slice-known13 c).start.ensures.num ∙ e)) (run-of-slice-known13 c).run.ensures
+returns : tie.Need-returns
+returns-then-num-n c = paired_late (λ e. c.if-num-n.false (c.start-started.ensures.num ∙ e)) c.run.ensures
 
-pub pair-up-spec : {M : Type 1} → statement M
-pair-up-spec =
+pub pair_up_spec : {M : Type 1} → statement M
+pair_up_spec =
     tie.close
     (tie.spec
-    start-requires
-    same_length_lem
-    same-length-2
-    same-length-3
-    returns
+    start-started-requires
+    shape_of-u-then-num-n
+    shape_of-work-then-num-n
+    shape_of-fwork-then-num-n
+    returns-then-num-n
     run-requires
-    same-length-4
-    same-length-5
-    same-length-6
-    same-length-7
-    same-length-8
-    returns-2)
+    shape_of-perm
+    shape_of-u
+    shape_of-v
+    shape_of-work
+    shape_of-fwork
+    returns)

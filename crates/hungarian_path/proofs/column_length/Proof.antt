@@ -7,43 +7,43 @@ use lib.ListN.{get_or}
 use Rattle.hungarian_path.proofs.column_length.Statement.{statement}
 use Rattle.hungarian_path.proofs.column_length.Tie as tie
 
-add-result : tie.Need-overflow-add-result
-add-result c = omega arith
+overflow_add-result : tie.Need-overflow_add-result
+overflow_add-result c = omega arith
 
-mul-result : tie.Need-overflow-mul-result
-mul-result c = omega arith
+offset_bounds-col_ptr-j : tie.Need-offset_bounds-col_ptr-j
+offset_bounds-col_ptr-j c = omega arith
 
-shared-slice-read-result : tie.Need-shared-slice-read-result
-shared-slice-read-result c = omega arith
+bounds-col_ptr-j : tie.Need-bounds-col_ptr-j
+bounds-col_ptr-j c = omega arith
 
-cast-result : tie.Need-overflow-cast-result
-cast-result c = omega (arith, c.shared-slice-known.given (c.before.args.j + 1))
+overflow_cast-result : tie.Need-overflow_cast-result
+overflow_cast-result c = omega (arith, c.shared_slice_known-1.given (c.args.j + 1))
 
-mul-result-2 : tie.Need-overflow-mul-result-2
-mul-result-2 c = omega arith
+offset_bounds-col_ptr-j-2 : tie.Need-offset_bounds-col_ptr-j-2
+offset_bounds-col_ptr-j-2 c = omega arith
 
-shared-slice-read-result-2 : tie.Need-shared-slice-read-result-2
-shared-slice-read-result-2 c = omega arith
+bounds-col_ptr-j-2 : tie.Need-bounds-col_ptr-j-2
+bounds-col_ptr-j-2 c = omega arith
 
-cast-result-2 : tie.Need-overflow-cast-result-2
-cast-result-2 c = omega (arith, c.shared-slice-known2.given c.before.before.args.j)
+overflow_cast-result-2 : tie.Need-overflow_cast-result-2
+overflow_cast-result-2 c = omega (arith, c.shared_slice_known-2-1.given c.args.j)
 
-sub-result : tie.Need-overflow-sub-result
-sub-result c = omega (arith, ap (λ (m : ℕ). get_or c.before.before.args.col-ptr.now m 0) (add-one c.before.before.args.j))
+overflow_sub-result : tie.Need-overflow_sub-result
+overflow_sub-result c = omega (arith, ap (λ (m : ℕ). get_or c.args.col-ptr.now m 0) (add-one c.args.j))
 
 returns : tie.Need-returns
-returns c = rw (add-one c.before.before.args.j)
+returns c = rw (add-one c.args.j)
 
-pub column-length-spec : {M : Type 1} → statement M
-column-length-spec =
+pub column_length_spec : {M : Type 1} → statement M
+column_length_spec =
     tie.close
     (tie.spec
-    add-result
-    mul-result
-    shared-slice-read-result
-    cast-result
-    mul-result-2
-    shared-slice-read-result-2
-    cast-result-2
-    sub-result
+    overflow_add-result
+    offset_bounds-col_ptr-j
+    bounds-col_ptr-j
+    overflow_cast-result
+    offset_bounds-col_ptr-j-2
+    bounds-col_ptr-j-2
+    overflow_cast-result-2
+    overflow_sub-result
     returns)

@@ -4,110 +4,80 @@ use Rattle.hungarian_path.proofs.Edges.{edge_far, edge_popped, edge_reach, edge_
 use Rattle.hungarian_path.proofs.edge.Statement.{statement}
 use Rattle.hungarian_path.proofs.edge.Tie as tie
 
--- places of the proof, each from a later one
-abbrev entry-of-slice-known4 : tie.After-slice-known4 → tie.Start
-entry-of-slice-known4 c = c.before.before.before.before
+offset_bounds-d-i : tie.Need-offset_bounds-d-i
+offset_bounds-d-i c = omega (arith, c.requires.row, c.requires.workspace.small)
 
-abbrev entry-of-slice-known5 : tie.After-slice-known5 → tie.Start
-entry-of-slice-known5 c = entry-of-slice-known4 c.before
+bounds-d-i : tie.Need-bounds-d-i
+bounds-d-i c = omega (arith, c.requires.row, c.requires.d_count)
 
-abbrev entry-of-else1 : tie.Else1 → tie.Start
-entry-of-else1 c = entry-of-slice-known5 c.before.before
+least-bound-requires : tie.Need-least-bound-requires
+least-bound-requires c κs = tt
 
-abbrev entry-of-else2 : tie.Else2 → tie.Start
-entry-of-else2 c = entry-of-else1 c.before.before
+returns-then-x-bound : tie.Need-returns-then-x-bound
+returns-then-x-bound c = edge_far _ _ _ _ _ _ _ _ _ _ c.requires (rw c.least-bound.ensures at c.if-x-bound.true)
 
-abbrev relax-of-slice-known11 : tie.After-slice-known11 → tie.After-relax
-relax-of-slice-known11 c = c.before.before.before.before.before.before.before.before
+offset_bounds-pos-i : tie.Need-offset_bounds-pos-i
+offset_bounds-pos-i c = omega (arith, c.requires.row, c.requires.workspace.small)
 
-mul-least : tie.Need-overflow-mul-least
-mul-least c = omega (arith, (entry-of-slice-known4 c).requires.row, (entry-of-slice-known4 c).requires.workspace.small)
+bounds-pos-i : tie.Need-bounds-pos-i
+bounds-pos-i c = omega (arith, c.requires.row, c.requires.places)
 
-slice-read-least : tie.Need-slice-read-least
-slice-read-least c = omega (arith, (entry-of-slice-known5 c).requires.row, (entry-of-slice-known5 c).requires.d_count)
+returns-then-pos-i : tie.Need-returns-then-pos-i
+returns-then-pos-i c = edge_popped _ _ _ _ _ _ _ _ _ _ c.requires
+    (rw c.least-bound.ensures at c.if-x-bound.false) c.if-pos-i.true
 
-least-requires : tie.Need-least-requires
-least-requires c κs = tt
+offset_bounds-work-i : tie.Need-offset_bounds-work-i
+offset_bounds-work-i c = omega (arith, c.requires.row, c.requires.workspace.small)
 
-returns : tie.Need-returns
-returns c = edge_far _ _ _ _ _ _ _ _ _ _ (entry-of-slice-known5 c.before.before).requires (rw c.before.least.ensures at c.if1.true)
+bounds-work-i : tie.Need-bounds-work-i
+bounds-work-i c = omega (arith, c.requires.row, c.requires.workspace.words)
 
-mul-if2 : tie.Need-overflow-mul-if2
-mul-if2 c = omega (arith, (entry-of-else1 c).requires.row, (entry-of-else1 c).requires.workspace.small)
-
-slice-read-if2 : tie.Need-slice-read-if2
-slice-read-if2 c = omega (arith, (entry-of-else1 c.before).requires.row, (entry-of-else1 c.before).requires.places)
-
-returns-2 : tie.Need-returns-2
-returns-2 c = edge_popped _ _ _ _ _ _ _ _ _ _ (entry-of-else1 c.before.before).requires
-    (rw c.before.before.before.least.ensures at c.before.before.if1.false) c.if2.true
-
-mul-if3 : tie.Need-overflow-mul-if3
-mul-if3 c = omega (arith, (entry-of-else2 c).requires.row, (entry-of-else2 c).requires.workspace.small)
-
-slice-read-if3 : tie.Need-slice-read-if3
-slice-read-if3 c = omega (arith, (entry-of-else2 c.before).requires.row, (entry-of-else2 c.before).requires.workspace.words)
-
-returns-3 : tie.Need-returns-3
-returns-3 c =
-    let else1 = c.before.before.before.before in
-    let least = else1.before in
-    let entry = least.before.before.before.before.before.before in
-    edge_reach _ _ _ _ _ _ _ _ _ _ entry.requires
-    (rw least.least.ensures at else1.if1.false) c.before.before.if2.false c.if3.true
+returns-then-work-i : tie.Need-returns-then-work-i
+returns-then-work-i c =
+    edge_reach _ _ _ _ _ _ _ _ _ _ c.requires
+    (rw c.least-bound.ensures at c.if-x-bound.false) c.if-pos-i.false c.if-work-i.true
 
 relax-requires : tie.Need-relax-requires
 relax-requires c κs =
-    let else3 = c.before.before.before.before in
-    let else2 = else3.before.before in
-    let else1 = else2.before.before in
-    let least = else1.before in
-    let entry = least.before.before.before.before.before.before in
-    entry.requires.matched else3.if3.false
-    (unpopped _ _ _ _ _ _ _ _ _ _ entry.requires
-    (rw least.least.ensures at else1.if1.false) else2.if2.false)
+    c.requires.matched c.if-work-i.false
+    (unpopped _ _ _ _ _ _ _ _ _ _ c.requires
+    (rw c.least-bound.ensures at c.if-x-bound.false) c.if-pos-i.false)
 
-same_length_lem : tie.Need-same-length
-same_length_lem c = (relax-of-slice-known11 c).relax.auto.1.0
+shape_of-work : tie.Need-shape_of-work
+shape_of-work c = c.relax.auto.work
 
-same-length-2 : tie.Need-same-length-2
-same-length-2 c = (relax-of-slice-known11 c).relax.auto.1.1.0
+shape_of-pos : tie.Need-shape_of-pos
+shape_of-pos c = c.relax.auto.pos
 
-same-length-3 : tie.Need-same-length-3
-same-length-3 c = (relax-of-slice-known11 c).relax.auto.1.1.1.0
+shape_of-keys : tie.Need-shape_of-keys
+shape_of-keys c = c.relax.auto.keys
 
-same-length-4 : tie.Need-same-length-4
-same-length-4 c = (relax-of-slice-known11 c).relax.auto.1.1.1.1.0
+shape_of-d : tie.Need-shape_of-d
+shape_of-d c = c.relax.auto.d
 
-returns-4 : tie.Need-returns-4
-returns-4 c =
-    let relax = c.before.before.before.before.before.before.before.before in
-    let else3 = relax.before.before.before.before.before in
-    let else2 = else3.before.before in
-    let else1 = else2.before.before in
-    let least = else1.before in
-    let entry = least.before.before.before.before.before.before in
-    edge_relax _ _ _ _ _ _ _ _ _ _ entry.requires
-    (rw least.least.ensures at else1.if1.false)
-    else2.if2.false else3.if3.false _ _ _ _ _ relax.relax.ensures
+returns : tie.Need-returns
+returns-then-x-bound c =
+    edge_relax _ _ _ _ _ _ _ _ _ _ c.requires
+    (rw c.least-bound.ensures at c.if-x-bound.false)
+    c.if-pos-i.false c.if-work-i.false _ _ _ _ _ c.relax.ensures
 
-pub edge-spec : {M : Type 1} → statement M
-edge-spec =
+pub edge_spec : {M : Type 1} → statement M
+edge_spec =
     tie.close
     (tie.spec
-    mul-least
-    slice-read-least
-    least-requires
-    returns
-    mul-if2
-    slice-read-if2
-    returns-2
-    mul-if3
-    slice-read-if3
-    returns-3
+    offset_bounds-d-i
+    bounds-d-i
+    least-bound-requires
+    returns-then-x-bound
+    offset_bounds-pos-i
+    bounds-pos-i
+    returns-then-pos-i
+    offset_bounds-work-i
+    bounds-work-i
+    returns-then-work-i
     relax-requires
-    same_length_lem
-    same-length-2
-    same-length-3
-    same-length-4
-    returns-4)
+    shape_of-work
+    shape_of-pos
+    shape_of-keys
+    shape_of-d
+    returns)

@@ -2,11 +2,15 @@
 use Rattle.hungarian_path.proofs.ended.Statement.{statement}
 use Rattle.hungarian_path.proofs.ended.Tie as tie
 
-returns : tie.Need-returns
-returns c = rw c.if1.true
+returns-then-frontier : tie.Need-returns-then-frontier
+returns-then-frontier c = rw c.if-frontier.true
 
-returns-2 : tie.Need-returns-2
-returns-2 c = rw c.if1.false
+returns-else-frontier : tie.Need-returns-else-frontier
+returns-else-frontier c = rw c.if-frontier.false
 
-pub ended-spec : {M : Type 1} → statement M
-ended-spec = tie.close (tie.spec returns returns-2)
+pub ended_spec : {M : Type 1} → statement M
+ended_spec =
+    tie.close
+    (tie.spec
+    returns-then-frontier
+    returns-else-frontier)

@@ -3,13 +3,17 @@ use Rattle.hungarian_path.specs.inner.Views.{entry_distance}
 use Rattle.hungarian_path.proofs.entry_distance.Statement.{statement}
 use Rattle.hungarian_path.proofs.entry_distance.Tie as tie
 
-returns : tie.Need-returns
+returns-then-root : tie.Need-returns-then-root
 unfolding entry_distance
-returns c = rw c.if1.true
+returns-then-root c = rw c.if-root.true
 
-returns-2 : tie.Need-returns-2
+returns-else-root : tie.Need-returns-else-root
 unfolding entry_distance
-returns-2 c = rw c.if1.false
+returns-else-root c = rw c.if-root.false
 
-pub entry-distance-spec : {M : Type 1} → statement M
-entry-distance-spec = tie.close (tie.spec returns returns-2)
+pub entry_distance_spec : {M : Type 1} → statement M
+entry_distance_spec =
+    tie.close
+    (tie.spec
+    returns-then-root
+    returns-else-root)

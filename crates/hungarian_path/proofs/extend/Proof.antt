@@ -7,233 +7,160 @@ use Rattle.hungarian_path.proofs.Growths.{first_row, pop_asks, code_ranges, code
 use Rattle.hungarian_path.proofs.extend.Statement.{statement}
 use Rattle.hungarian_path.proofs.extend.Tie as tie
 
--- places of the proof, each from a later one
-abbrev entry-of-stats : tie.After-stats → tie.Start
-entry-of-stats c = c.before.before.before.before.before.before.before.before.before.before
+overflow_mul-q : tie.Need-overflow_mul-q
+overflow_mul-q c = omega (arith, first_row _ _ _ _ _ _ _ _ c.requires)
 
-abbrev entry-of-pop-nearest-arg3 : tie.After-pop-nearest-arg3 → tie.Start
-entry-of-pop-nearest-arg3 c = entry-of-stats c.before.before.before.before
+overflow_add-q : tie.Need-overflow_add-q
+overflow_add-q c = omega (arith, first_row _ _ _ _ _ _ _ _ c.requires)
 
-abbrev pop-nearest-of-slice-known8 : tie.After-slice-known8 → tie.After-pop-nearest
-pop-nearest-of-slice-known8 c = c.before.before.before.before.before.before
+offset_bounds-work-n : tie.Need-offset_bounds-work-n
+offset_bounds-work-n c = omega (arith, first_row _ _ _ _ _ _ _ _ c.requires)
 
-abbrev pop-nearest-arg3-of-slice-known8 : tie.After-slice-known8 → tie.After-pop-nearest-arg3
-pop-nearest-arg3-of-slice-known8 c = (pop-nearest-of-slice-known8 c).before
+bounds-work-n : tie.Need-bounds-work-n
+bounds-work-n c = omega (arith, first_row _ _ _ _ _ _ _ _ c.requires)
 
-abbrev entry-of-slice-known8 : tie.After-slice-known8 → tie.Start
-entry-of-slice-known8 c = entry-of-pop-nearest-arg3 (pop-nearest-arg3-of-slice-known8 c)
+overflow_cast-q : tie.Need-overflow_cast-q
+overflow_cast-q c = omega (arith, first_row _ _ _ _ _ _ _ _ c.requires)
 
-abbrev pop-nearest-of-slice-known9 : tie.After-slice-known9 → tie.After-pop-nearest
-pop-nearest-of-slice-known9 c = pop-nearest-of-slice-known8 c.before
+pop_nearest-opened-requires : tie.Need-pop_nearest-opened-requires
+pop_nearest-opened-requires c κs = pop_asks _ _ _ _ _ _ _ _ c.requires
 
-abbrev entry-of-slice-known9 : tie.After-slice-known9 → tie.Start
-entry-of-slice-known9 c = entry-of-slice-known8 c.before
+offset_bounds-work-q : tie.Need-offset_bounds-work-q
+offset_bounds-work-q c = omega (arith, first_row _ _ _ _ _ _ _ _ c.requires)
 
-abbrev pop-nearest-of-slice-known10 : tie.After-slice-known10 → tie.After-pop-nearest
-pop-nearest-of-slice-known10 c = pop-nearest-of-slice-known9 c.before
+bounds-work-q : tie.Need-bounds-work-q
+bounds-work-q c = omega (arith, first_row _ _ _ _ _ _ _ _ c.requires, c.pop_nearest-opened.auto.work)
 
-abbrev entry-of-slice-known10 : tie.After-slice-known10 → tie.Start
-entry-of-slice-known10 c = entry-of-slice-known9 c.before
-
-abbrev pop-nearest-of-offset-arg : tie.After-offset-arg → tie.After-pop-nearest
-pop-nearest-of-offset-arg c = pop-nearest-of-slice-known10 c.before
-
-abbrev pop-nearest-of-offset : tie.After-offset → tie.After-pop-nearest
-pop-nearest-of-offset c = pop-nearest-of-offset-arg c.before
-
-abbrev entry-of-offset : tie.After-offset → tie.Start
-entry-of-offset c = entry-of-slice-known10 c.before.before
-
-abbrev pop-nearest-of-column-length : tie.After-column-length → tie.After-pop-nearest
-pop-nearest-of-column-length c = pop-nearest-of-offset c.before
-
-abbrev entry-of-column-length : tie.After-column-length → tie.Start
-entry-of-column-length c = entry-of-offset c.before
-
-abbrev column-scanned-of-scan-arg4 : tie.After-scan-arg4 → tie.After-column-scanned
-column-scanned-of-scan-arg4 c = c.before.before.before.before
-
-abbrev offset-of-scan-arg4 : tie.After-scan-arg4 → tie.After-offset
-offset-of-scan-arg4 c = (column-scanned-of-scan-arg4 c).before.before
-
-abbrev pop-nearest-of-scan-arg4 : tie.After-scan-arg4 → tie.After-pop-nearest
-pop-nearest-of-scan-arg4 c = pop-nearest-of-offset (offset-of-scan-arg4 c)
-
-abbrev entry-of-scan-arg4 : tie.After-scan-arg4 → tie.Start
-entry-of-scan-arg4 c = entry-of-offset (offset-of-scan-arg4 c)
-
-abbrev column-scanned-of-scan : tie.After-scan → tie.After-column-scanned
-column-scanned-of-scan c = column-scanned-of-scan-arg4 c.before
-
-abbrev scan-of-slice-known14 : tie.After-slice-known14 → tie.After-scan
-scan-of-slice-known14 c = c.before.before.before.before.before.before.before.before
-
-abbrev column-scanned-of-slice-known14 : tie.After-slice-known14 → tie.After-column-scanned
-column-scanned-of-slice-known14 c = column-scanned-of-scan (scan-of-slice-known14 c)
-
-abbrev column-length-of-slice-known14 : tie.After-slice-known14 → tie.After-column-length
-column-length-of-slice-known14 c = (column-scanned-of-slice-known14 c).before
-
-abbrev pop-nearest-of-slice-known14 : tie.After-slice-known14 → tie.After-pop-nearest
-pop-nearest-of-slice-known14 c = pop-nearest-of-column-length (column-length-of-slice-known14 c)
-
-abbrev entry-of-slice-known14 : tie.After-slice-known14 → tie.Start
-entry-of-slice-known14 c = entry-of-column-length (column-length-of-slice-known14 c)
-
-mul-q : tie.Need-overflow-mul-q
-mul-q c = omega (arith, first_row _ _ _ _ _ _ _ _ (entry-of-stats c).requires)
-
-add-q : tie.Need-overflow-add-q
-add-q c = omega (arith, first_row _ _ _ _ _ _ _ _ (entry-of-stats c).requires)
-
-mul-q-2 : tie.Need-overflow-mul-q-2
-mul-q-2 c = omega (arith, first_row _ _ _ _ _ _ _ _ (entry-of-stats c).requires)
-
-slice-read-q : tie.Need-slice-read-q
-slice-read-q c = omega (arith, first_row _ _ _ _ _ _ _ _ (entry-of-stats c.before).requires)
-
-cast-q : tie.Need-overflow-cast-q
-cast-q c = omega (arith, first_row _ _ _ _ _ _ _ _ (entry-of-stats c.before).requires)
-
-pop-nearest-requires : tie.Need-pop-nearest-requires
-pop-nearest-requires c κs = pop_asks _ _ _ _ _ _ _ _ (entry-of-pop-nearest-arg3 c).requires
-
-mul-j : tie.Need-overflow-mul-j
-mul-j c = omega (arith, first_row _ _ _ _ _ _ _ _ (entry-of-slice-known8 c).requires)
-
-slice-read-j : tie.Need-slice-read-j
-slice-read-j c = omega (arith, first_row _ _ _ _ _ _ _ _ (entry-of-slice-known9 c).requires, (pop-nearest-of-slice-known9 c).pop-nearest.auto.1.0)
-
-cast-j : tie.Need-overflow-cast-j
-cast-j c = omega (
+overflow_cast-j : tie.Need-overflow_cast-j
+overflow_cast-j c = omega (
   arith,
-  code_ranges _ _ _ _ _ _ _ _ (entry-of-slice-known9 c).requires _ _ _ _
-      ((pop-nearest-of-slice-known9 c).pop-nearest.ensures _ (entry-of-slice-known9 c).requires.growing.keyed)
-      (pop-nearest-of-slice-known9 c).pop-nearest.auto.1.0
-      ((pop-nearest-of-slice-known9 c).pop-nearest.auto.1.1.0, (pop-nearest-of-slice-known9 c).pop-nearest.auto.1.1.1.0) _ _ _ refl refl
+  code_ranges _ _ _ _ _ _ _ _ c.requires _ _ _ _
+      (c.pop_nearest-opened.ensures _ c.requires.growing.keyed)
+      c.pop_nearest-opened.auto.work
+      (c.pop_nearest-opened.auto.pos, c.pop_nearest-opened.auto.keys) _ _ _ refl refl
       refl,
-  first_row _ _ _ _ _ _ _ _ (entry-of-slice-known9 c).requires,
+  first_row _ _ _ _ _ _ _ _ c.requires,
 )
 
-add-own : tie.Need-overflow-add-own
-add-own c = omega (
+overflow_add-own : tie.Need-overflow_add-own
+overflow_add-own c = omega (
   arith,
-  code_ranges _ _ _ _ _ _ _ _ (entry-of-slice-known9 c).requires _ _ _ _
-      ((pop-nearest-of-slice-known9 c).pop-nearest.ensures _ (entry-of-slice-known9 c).requires.growing.keyed)
-      (pop-nearest-of-slice-known9 c).pop-nearest.auto.1.0
-      ((pop-nearest-of-slice-known9 c).pop-nearest.auto.1.1.0, (pop-nearest-of-slice-known9 c).pop-nearest.auto.1.1.1.0) _ _ _ refl refl
+  code_ranges _ _ _ _ _ _ _ _ c.requires _ _ _ _
+      (c.pop_nearest-opened.ensures _ c.requires.growing.keyed)
+      c.pop_nearest-opened.auto.work
+      (c.pop_nearest-opened.auto.pos, c.pop_nearest-opened.auto.keys) _ _ _ refl refl
       refl,
-  first_row _ _ _ _ _ _ _ _ (entry-of-slice-known9 c).requires,
+  first_row _ _ _ _ _ _ _ _ c.requires,
 )
 
-mul-own : tie.Need-overflow-mul-own
-mul-own c = omega (
+offset_bounds-work-n-2 : tie.Need-offset_bounds-work-n-2
+offset_bounds-work-n-2 c = omega (
   arith,
-  code_ranges _ _ _ _ _ _ _ _ (entry-of-slice-known9 c).requires _ _ _ _
-      ((pop-nearest-of-slice-known9 c).pop-nearest.ensures _ (entry-of-slice-known9 c).requires.growing.keyed)
-      (pop-nearest-of-slice-known9 c).pop-nearest.auto.1.0
-      ((pop-nearest-of-slice-known9 c).pop-nearest.auto.1.1.0, (pop-nearest-of-slice-known9 c).pop-nearest.auto.1.1.1.0) _ _ _ refl refl
+  code_ranges _ _ _ _ _ _ _ _ c.requires _ _ _ _
+      (c.pop_nearest-opened.ensures _ c.requires.growing.keyed)
+      c.pop_nearest-opened.auto.work
+      (c.pop_nearest-opened.auto.pos, c.pop_nearest-opened.auto.keys) _ _ _ refl refl
       refl,
-  first_row _ _ _ _ _ _ _ _ (entry-of-slice-known9 c).requires,
+  first_row _ _ _ _ _ _ _ _ c.requires,
 )
 
-slice-read-own : tie.Need-slice-read-own
-slice-read-own c = omega (
+bounds-work-n-2 : tie.Need-bounds-work-n-2
+bounds-work-n-2 c = omega (
   arith,
-  code_ranges _ _ _ _ _ _ _ _ (entry-of-slice-known10 c).requires _ _ _ _
-      ((pop-nearest-of-slice-known10 c).pop-nearest.ensures _ (entry-of-slice-known10 c).requires.growing.keyed)
-      (pop-nearest-of-slice-known10 c).pop-nearest.auto.1.0
-      ((pop-nearest-of-slice-known10 c).pop-nearest.auto.1.1.0, (pop-nearest-of-slice-known10 c).pop-nearest.auto.1.1.1.0) _ _ _ refl
+  code_ranges _ _ _ _ _ _ _ _ c.requires _ _ _ _
+      (c.pop_nearest-opened.ensures _ c.requires.growing.keyed)
+      c.pop_nearest-opened.auto.work
+      (c.pop_nearest-opened.auto.pos, c.pop_nearest-opened.auto.keys) _ _ _ refl
       refl refl,
-  first_row _ _ _ _ _ _ _ _ (entry-of-slice-known10 c).requires,
-  (pop-nearest-of-slice-known10 c).pop-nearest.auto.1.0,
+  first_row _ _ _ _ _ _ _ _ c.requires,
+  c.pop_nearest-opened.auto.work,
 )
 
-cast-own : tie.Need-overflow-cast-own
-cast-own c = let args = (entry-of-slice-known10 c).args in
+overflow_cast-own : tie.Need-overflow_cast-own
+overflow_cast-own c = let args = c.args in
     omega (
       arith,
-      c.slice-known10.given
-          (args.n + get_or (pop-nearest-of-slice-known10 c).pop-nearest.new.1.0 (get_or args.work.now (11 * args.n + 1) 0) 0),
+      c.slice_known-10-1.given
+          (args.n + get_or c.pop_nearest-opened.new.work (get_or args.work.now (11 * args.n + 1) 0) 0),
     )
 
-offset-requires : tie.Need-offset-requires
-offset-requires c κs = let r =
-    code_ranges _ _ _ _ _ _ _ _ (entry-of-slice-known10 c.before).requires _ _ _ _
-    ((pop-nearest-of-offset-arg c).pop-nearest.ensures _ (entry-of-slice-known10 c.before).requires.growing.keyed)
-    (pop-nearest-of-offset-arg c).pop-nearest.auto.1.0
-    ((pop-nearest-of-offset-arg c).pop-nearest.auto.1.1.0, (pop-nearest-of-offset-arg c).pop-nearest.auto.1.1.1.0) _ _ _ refl refl
+offset-v-requires : tie.Need-offset-v-requires
+offset-v-requires c κs = let r =
+    code_ranges _ _ _ _ _ _ _ _ c.requires _ _ _ _
+    (c.pop_nearest-opened.ensures _ c.requires.growing.keyed)
+    c.pop_nearest-opened.auto.work
+    (c.pop_nearest-opened.auto.pos, c.pop_nearest-opened.auto.keys) _ _ _ refl refl
     refl in (omega arith, (omega arith, r.2))
 
-column-length-requires : tie.Need-column-length-requires
-column-length-requires c κs = let r =
-    code_ranges _ _ _ _ _ _ _ _ (entry-of-offset c).requires _ _ _ _
-    ((pop-nearest-of-offset c).pop-nearest.ensures _ (entry-of-offset c).requires.growing.keyed) (pop-nearest-of-offset c).pop-nearest.auto.1.0
-    ((pop-nearest-of-offset c).pop-nearest.auto.1.1.0, (pop-nearest-of-offset c).pop-nearest.auto.1.1.1.0) _ _ _ refl refl refl in
+column_length-requires : tie.Need-column_length-requires
+column_length-requires c κs = let r =
+    code_ranges _ _ _ _ _ _ _ _ c.requires _ _ _ _
+    (c.pop_nearest-opened.ensures _ c.requires.growing.keyed) c.pop_nearest-opened.auto.work
+    (c.pop_nearest-opened.auto.pos, c.pop_nearest-opened.auto.keys) _ _ _ refl refl refl in
     (omega arith, r.5)
 
-column-scanned-requires : tie.Need-column-scanned-requires
-column-scanned-requires c κs =
+column_scanned-counted-requires : tie.Need-column_scanned-counted-requires
+column_scanned-counted-requires c κs =
     omega (
       arith,
-      code_ranges _ _ _ _ _ _ _ _ (entry-of-column-length c).requires _ _ _ _
-          ((pop-nearest-of-column-length c).pop-nearest.ensures _ (entry-of-column-length c).requires.growing.keyed)
-          (pop-nearest-of-column-length c).pop-nearest.auto.1.0
-          ((pop-nearest-of-column-length c).pop-nearest.auto.1.1.0, (pop-nearest-of-column-length c).pop-nearest.auto.1.1.1.0) _ _ _ refl
+      code_ranges _ _ _ _ _ _ _ _ c.requires _ _ _ _
+          (c.pop_nearest-opened.ensures _ c.requires.growing.keyed)
+          c.pop_nearest-opened.auto.work
+          (c.pop_nearest-opened.auto.pos, c.pop_nearest-opened.auto.keys) _ _ _ refl
           refl refl,
-      c.column_length_lem.ensures,
+      c.column_length.ensures,
     )
 
-scan-requires : tie.Need-scan-requires
-scan-requires c κs = code_asks _ _ _ _ _ _ _ _ (entry-of-scan-arg4 c).requires _ _ _ _
-    ((pop-nearest-of-scan-arg4 c).pop-nearest.ensures _ (entry-of-scan-arg4 c).requires.growing.keyed)
-    (pop-nearest-of-scan-arg4 c).pop-nearest.auto.1.0
-    ((pop-nearest-of-scan-arg4 c).pop-nearest.auto.1.1.0, (pop-nearest-of-scan-arg4 c).pop-nearest.auto.1.1.1.0) _ _ _ refl refl refl _
-    (offset-of-scan-arg4 c).offset.ensures
+scan-scanned-requires : tie.Need-scan-scanned-requires
+scan-scanned-requires c κs = code_asks _ _ _ _ _ _ _ _ c.requires _ _ _ _
+    (c.pop_nearest-opened.ensures _ c.requires.growing.keyed)
+    c.pop_nearest-opened.auto.work
+    (c.pop_nearest-opened.auto.pos, c.pop_nearest-opened.auto.keys) _ _ _ refl refl refl _
+    c.offset-v.ensures
 
-same_length_lem : tie.Need-same-length
-same_length_lem c = (scan-of-slice-known14 c).scan.auto.1.1.1.1.1.0 ∙ (pop-nearest-of-slice-known14 c).pop-nearest.auto.1.0
+shape_of-work : tie.Need-shape_of-work
+shape_of-work c = c.scan-scanned.auto.work ∙ c.pop_nearest-opened.auto.work
 
-same-length-2 : tie.Need-same-length-2
-same-length-2 c = (scan-of-slice-known14 c).scan.auto.1.1.1.1.1.1.0 ∙ (pop-nearest-of-slice-known14 c).pop-nearest.auto.1.1.0
+shape_of-pos : tie.Need-shape_of-pos
+shape_of-pos c = c.scan-scanned.auto.pos ∙ c.pop_nearest-opened.auto.pos
 
-same-length-3 : tie.Need-same-length-3
-same-length-3 c = (scan-of-slice-known14 c).scan.auto.1.1.1.1.1.1.1.0 ∙ (pop-nearest-of-slice-known14 c).pop-nearest.auto.1.1.1.0
+shape_of-keys : tie.Need-shape_of-keys
+shape_of-keys c = c.scan-scanned.auto.keys ∙ c.pop_nearest-opened.auto.keys
 
-same-length-4 : tie.Need-same-length-4
-same-length-4 c = (scan-of-slice-known14 c).scan.auto.1.1.1.1.1.1.1.1.0
+shape_of-d : tie.Need-shape_of-d
+shape_of-d c = c.scan-scanned.auto.d
 
 returns : tie.Need-returns
-returns c = code_done _ _ _ _ _ _ _ _ (entry-of-slice-known14 c).requires _ _ _ _
-    ((pop-nearest-of-slice-known14 c).pop-nearest.ensures _ (entry-of-slice-known14 c).requires.growing.keyed)
-    (pop-nearest-of-slice-known14 c).pop-nearest.auto.1.0
-    ((pop-nearest-of-slice-known14 c).pop-nearest.auto.1.1.0, (pop-nearest-of-slice-known14 c).pop-nearest.auto.1.1.1.0) _ _ _ refl refl
-    refl _ (column-length-of-slice-known14 c).before.offset.ensures _ (column-length-of-slice-known14 c).column_length_lem.ensures _
-    (column-scanned-of-slice-known14 c).column-scanned.ensures _ _ _ _ _ (scan-of-slice-known14 c).scan.ensures
+returns c = code_done _ _ _ _ _ _ _ _ c.requires _ _ _ _
+    (c.pop_nearest-opened.ensures _ c.requires.growing.keyed)
+    c.pop_nearest-opened.auto.work
+    (c.pop_nearest-opened.auto.pos, c.pop_nearest-opened.auto.keys) _ _ _ refl refl
+    refl _ c.offset-v.ensures _ c.column_length.ensures _
+    c.column_scanned-counted.ensures _ _ _ _ _ c.scan-scanned.ensures
 
-pub extend-spec : {M : Type 1} → statement M
-extend-spec =
+pub extend_spec : {M : Type 1} → statement M
+extend_spec =
     tie.close
     (tie.spec
-    mul-q
-    add-q
-    mul-q-2
-    slice-read-q
-    cast-q
-    pop-nearest-requires
-    mul-j
-    slice-read-j
-    cast-j
-    add-own
-    mul-own
-    slice-read-own
-    cast-own
-    offset-requires
-    column-length-requires
-    column-scanned-requires
-    scan-requires
-    same_length_lem
-    same-length-2
-    same-length-3
-    same-length-4
+    overflow_mul-q
+    overflow_add-q
+    offset_bounds-work-n
+    bounds-work-n
+    overflow_cast-q
+    pop_nearest-opened-requires
+    offset_bounds-work-q
+    bounds-work-q
+    overflow_cast-j
+    overflow_add-own
+    offset_bounds-work-n-2
+    bounds-work-n-2
+    overflow_cast-own
+    offset-v-requires
+    column_length-requires
+    column_scanned-counted-requires
+    scan-scanned-requires
+    shape_of-work
+    shape_of-pos
+    shape_of-keys
+    shape_of-d
     returns)

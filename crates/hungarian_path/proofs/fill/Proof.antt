@@ -5,47 +5,47 @@ use Rattle.hungarian_path.proofs.Prepares.{FillAt, fill_start, fill_turn, fill_e
 use Rattle.hungarian_path.proofs.fill.Statement.{statement}
 use Rattle.hungarian_path.proofs.fill.Tie as tie
 
-abbrev invariant-loop : tie.invariant-loop
-invariant-loop w₀ from to value p₀ w p = FillAt 0 value from w₀ w p × (p ≤ to)
+abbrev invariant-loop-p : tie.invariant-loop-p
+invariant-loop-p w₀ from to value p₀ w p = FillAt 0 value from w₀ w p × (p ≤ to)
 
-abbrev decreases-loop : tie.decreases-loop
-decreases-loop w₀ from to value p₀ w p = to - p
+abbrev decreases-loop-p : tie.decreases-loop-p
+decreases-loop-p w₀ from to value p₀ w p = to - p
 
-loop-holds : tie.Need-loop-init invariant-loop decreases-loop
-loop-holds c = (fill_start _ _ _ _, c.requires.0)
+loop-p-init : tie.Need-loop-p-init invariant-loop-p decreases-loop-p
+loop-p-init c = (fill_start _ _ _ _, c.requires.fact_1)
 
-mul-w : tie.Need-overflow-mul-w invariant-loop decreases-loop
-mul-w c = omega (arith, c.before.loop.invariant.0.long)
+offset_bounds-w-p : tie.Need-offset_bounds-w-p invariant-loop-p decreases-loop-p
+offset_bounds-w-p c = omega (arith, c.loop-p.invariant.0.long)
 
-slice-write-w : tie.Need-slice-write-w invariant-loop decreases-loop
-slice-write-w c = omega (arith, c.before.loop.invariant.0.long)
+bounds-w-p : tie.Need-bounds-w-p invariant-loop-p decreases-loop-p
+bounds-w-p c = omega (arith, c.loop-p.invariant.0.long)
 
-add-p : tie.Need-overflow-add-p invariant-loop decreases-loop
-add-p c = omega arith
+overflow_add-p : tie.Need-overflow_add-p invariant-loop-p decreases-loop-p
+overflow_add-p c = omega arith
 
-loop-less : tie.Need-loop-smaller invariant-loop decreases-loop
-loop-less c = omega arith
+loop-p-smaller : tie.Need-loop-p-smaller invariant-loop-p decreases-loop-p
+loop-p-smaller c = omega arith
 
-loop-again : tie.Need-loop-preserved invariant-loop decreases-loop
-loop-again c = (fill_turn _ _ _ _ _ _ c.before.loop.invariant.0 (omega (arith, c.before.loop.invariant.0.long)), omega arith)
+loop-p-preserved : tie.Need-loop-p-preserved invariant-loop-p decreases-loop-p
+loop-p-preserved c = (fill_turn _ _ _ _ _ _ c.loop-p.invariant.0 (omega (arith, c.loop-p.invariant.0.long)), omega arith)
 
-same_length_lem : tie.Need-same-length invariant-loop decreases-loop
-same_length_lem c = c.before.loop.invariant.0.long
+shape_of-w : tie.Need-shape_of-w invariant-loop-p decreases-loop-p
+shape_of-w c = c.loop-p.invariant.0.long
 
-returns : tie.Need-returns invariant-loop decreases-loop
-returns c = fill_end _ _ _ _ _ _ c.before.loop.invariant.0 (omega arith)
+returns : tie.Need-returns invariant-loop-p decreases-loop-p
+returns c = fill_end _ _ _ _ _ _ c.loop-p.invariant.0 (omega arith)
 
 pub fill_spec : {M : Type 1} → statement M
 fill_spec =
     tie.close
     (tie.spec
-    invariant-loop
-    decreases-loop
-    loop-holds
-    mul-w
-    slice-write-w
-    add-p
-    loop-less
-    loop-again
-    same_length_lem
+    invariant-loop-p
+    decreases-loop-p
+    loop-p-init
+    offset_bounds-w-p
+    bounds-w-p
+    overflow_add-p
+    loop-p-smaller
+    loop-p-preserved
+    shape_of-w
     returns)

@@ -6,111 +6,104 @@ use Rattle.hungarian_path.proofs.Flips.{flip_ranges, linked_ready, flip_done}
 use Rattle.hungarian_path.proofs.flip.Statement.{statement}
 use Rattle.hungarian_path.proofs.flip.Tie as tie
 
--- places of the proof, each from a later one
-abbrev entry-of-shared-slice-known2 : tie.After-shared-slice-known2 → tie.Start
-entry-of-shared-slice-known2 c = c.before.before.before
+offset_bounds-row_idx-k : tie.Need-offset_bounds-row_idx-k
+offset_bounds-row_idx-k c = omega (arith, flip_ranges _ _ _ _ _ c.args.num c.requires.fact_1 c.requires.fact_2)
 
-abbrev entry-of-slice-known2 : tie.After-slice-known2 → tie.Start
-entry-of-slice-known2 c = entry-of-shared-slice-known2 c.before.before.before.before
-
-mul-last : tie.Need-overflow-mul-last
-mul-last c = omega (arith, flip_ranges _ _ _ _ _ c.before.before.args.num c.before.before.requires.0 c.before.before.requires.1.0)
-
-shared-slice-read-last : tie.Need-shared-slice-read-last
-shared-slice-read-last c =
+bounds-row_idx-k : tie.Need-bounds-row_idx-k
+bounds-row_idx-k c =
     omega (
       arith,
-      flip_ranges _ _ _ _ _ (entry-of-shared-slice-known2 c).args.num (entry-of-shared-slice-known2 c).requires.0
-          (entry-of-shared-slice-known2 c).requires.1.0,
+      flip_ranges _ _ _ _ _ c.args.num c.requires.fact_1
+          c.requires.fact_2,
     )
 
-cast-last : tie.Need-overflow-cast-last
-cast-last c = omega (
+overflow_cast-last : tie.Need-overflow_cast-last
+overflow_cast-last c = omega (
   arith,
-  flip_ranges _ _ _ _ _ (entry-of-shared-slice-known2 c).args.num (entry-of-shared-slice-known2 c).requires.0
-      (entry-of-shared-slice-known2 c).requires.1.0,
+  flip_ranges _ _ _ _ _ c.args.num c.requires.fact_1
+      c.requires.fact_2,
 )
 
-cast-work : tie.Need-overflow-cast-work
-cast-work c = omega (
+overflow_cast-work : tie.Need-overflow_cast-work
+overflow_cast-work c = omega (
   arith,
-  flip_ranges _ _ _ _ _ (entry-of-shared-slice-known2 c).args.num (entry-of-shared-slice-known2 c).requires.0
-      (entry-of-shared-slice-known2 c).requires.1.0,
+  flip_ranges _ _ _ _ _ c.args.num c.requires.fact_1
+      c.requires.fact_2,
 )
 
-mul-work : tie.Need-overflow-mul-work
-mul-work c = omega (
+offset_bounds-work-last : tie.Need-offset_bounds-work-last
+offset_bounds-work-last c = omega (
   arith,
-  flip_ranges _ _ _ _ _ (entry-of-shared-slice-known2 c).args.num (entry-of-shared-slice-known2 c).requires.0
-      (entry-of-shared-slice-known2 c).requires.1.0,
+  flip_ranges _ _ _ _ _ c.args.num c.requires.fact_1
+      c.requires.fact_2,
 )
 
-slice-write-work : tie.Need-slice-write-work
-slice-write-work c = omega (
+bounds-work-last : tie.Need-bounds-work-last
+bounds-work-last c = omega (
   arith,
-  flip_ranges _ _ _ _ _ (entry-of-shared-slice-known2 c).args.num (entry-of-shared-slice-known2 c).requires.0
-      (entry-of-shared-slice-known2 c).requires.1.0,
+  flip_ranges _ _ _ _ _ c.args.num c.requires.fact_1
+      c.requires.fact_2,
 )
 
-cast-work-2 : tie.Need-overflow-cast-work-2
-cast-work-2 c = omega (
+overflow_cast-work-2 : tie.Need-overflow_cast-work-2
+overflow_cast-work-2 c = omega (
   arith,
-  flip_ranges _ _ _ _ _ (entry-of-shared-slice-known2 c).args.num (entry-of-shared-slice-known2 c).requires.0
-      (entry-of-shared-slice-known2 c).requires.1.0,
+  flip_ranges _ _ _ _ _ c.args.num c.requires.fact_1
+      c.requires.fact_2,
 )
 
-add-work : tie.Need-overflow-add-work
-add-work c = omega (
+overflow_add-work : tie.Need-overflow_add-work
+overflow_add-work c = omega (
   arith,
-  flip_ranges _ _ _ _ _ (entry-of-shared-slice-known2 c).args.num (entry-of-shared-slice-known2 c).requires.0
-      (entry-of-shared-slice-known2 c).requires.1.0,
+  flip_ranges _ _ _ _ _ c.args.num c.requires.fact_1
+      c.requires.fact_2,
 )
 
-mul-work-2 : tie.Need-overflow-mul-work-2
-mul-work-2 c = omega (
+offset_bounds-work-n : tie.Need-offset_bounds-work-n
+offset_bounds-work-n c = omega (
   arith,
-  flip_ranges _ _ _ _ _ (entry-of-shared-slice-known2 c).args.num (entry-of-shared-slice-known2 c).requires.0
-      (entry-of-shared-slice-known2 c).requires.1.0,
+  flip_ranges _ _ _ _ _ c.args.num c.requires.fact_1
+      c.requires.fact_2,
 )
 
-slice-write-work-2 : tie.Need-slice-write-work-2
-slice-write-work-2 c = simp length-set
+bounds-work-n : tie.Need-bounds-work-n
+bounds-work-n c = simp length-set
     (omega (
       arith,
-      flip_ranges _ _ _ _ _ (entry-of-shared-slice-known2 c).args.num (entry-of-shared-slice-known2 c).requires.0
-          (entry-of-shared-slice-known2 c).requires.1.0,
+      flip_ranges _ _ _ _ _ c.args.num c.requires.fact_1
+          c.requires.fact_2,
     ))
 
-add-walk : tie.Need-overflow-add-walk
-add-walk c = omega arith
+overflow_add-num : tie.Need-overflow_add-num
+overflow_add-num c = omega arith
 
 walk-requires : tie.Need-walk-requires
-walk-requires c κs = linked_ready _ _ _ _ _ (entry-of-shared-slice-known2 c.before).args.num (entry-of-shared-slice-known2 c.before).requires.0
-    (entry-of-shared-slice-known2 c.before).requires.1.0
+walk-requires c κs = linked_ready _ _ _ _ _ c.args.num c.requires.fact_1
+    c.requires.fact_2
 
-same_length_lem : tie.Need-same-length
-same_length_lem c = c.before.before.walk.auto.1.1.0 ∙ simp length-set
+shape_of-work : tie.Need-shape_of-work
+shape_of-work c = c.walk.auto.work ∙ simp length-set
 
 returns : tie.Need-returns
 returns c =
-    let pre = (entry-of-slice-known2 c).requires in
-    flip_done _ _ _ _ _ (entry-of-slice-known2 c).args.num pre.0 pre.1.0 _ c.before.before.walk.ensures
+    let pre = c.requires in
+    flip_done _ _ _ _ _ c.args.num pre.fact_1 pre.fact_2 _ c.walk.ensures
 
-pub flip-spec : {M : Type 1} → statement M
-flip-spec =
+pub flip_spec : {M : Type 1} → statement M
+flip_spec =
     tie.close
     (tie.spec
-    mul-last
-    shared-slice-read-last
-    cast-last
-    cast-work
-    mul-work
-    slice-write-work
-    cast-work-2
-    add-work
-    mul-work-2
-    slice-write-work-2
-    add-walk
+    offset_bounds-row_idx-k
+    bounds-row_idx-k
+    overflow_cast-last
+    overflow_cast-work
+    offset_bounds-work-last
+    bounds-work-last
+    overflow_cast-work-2
+    overflow_add-work
+    offset_bounds-work-n
+    bounds-work-n
+    overflow_add-num
     walk-requires
-    same_length_lem
+    shape_of-work
     returns)

@@ -7,90 +7,65 @@ use Rattle.hungarian_path.proofs.Growths.{GrowAt, test_asks, test_taken, grow_st
 use Rattle.hungarian_path.proofs.grow.Statement.{statement}
 use Rattle.hungarian_path.proofs.grow.Tie as tie
 
-abbrev invariant-loop : tie.invariant-loop
-invariant-loop n col_ptr rows cost u work₀ pos₀ keys₀ d₀ search₀ work pos keys d search =
+abbrev invariant-loop-work : tie.invariant-loop-work
+invariant-loop-work n col_ptr rows cost u work₀ pos₀ keys₀ d₀ search₀ work pos keys d search =
     GrowAt (graph_of n col_ptr rows cost) u work₀ pos₀ keys₀ d₀ search₀.frontier search₀.stats work pos keys d search.frontier search.stats
 
-abbrev decreases-loop : tie.decreases-loop
-decreases-loop n col_ptr rows cost u work₀ pos₀ keys₀ d₀ search₀ work pos keys d search = n - search.frontier.popped
+abbrev decreases-loop-work : tie.decreases-loop-work
+decreases-loop-work n col_ptr rows cost u work₀ pos₀ keys₀ d₀ search₀ work pos keys d search = n - search.frontier.popped
 
--- places of the proof, each from a later one
-abbrev entry-of-slice-known4 : tie.After-slice-known4 invariant-loop decreases-loop → tie.Start invariant-loop decreases-loop
-entry-of-slice-known4 c = c.before.before.before.before.before.before.before.before
+loop-work-init : tie.Need-loop-work-init invariant-loop-work decreases-loop-work
+loop-work-init c = grow_start _ _ _ _ _ _ _ _ c.requires.fact_1 c.requires.fact_2
 
-abbrev loop-of-else1 : tie.Else1 invariant-loop decreases-loop → tie.At-loop invariant-loop decreases-loop
-loop-of-else1 c = c.before.before.before
+has_nearer_row-requires : tie.Need-has_nearer_row-requires invariant-loop-work decreases-loop-work
+has_nearer_row-requires c κs = test_asks _ _ _ _ _ _ _ _ c.loop-work.invariant.growing
 
-abbrev then1-of-extend-arg4 : tie.After-extend-arg4 invariant-loop decreases-loop → tie.Then1 invariant-loop decreases-loop
-then1-of-extend-arg4 c = c.before.before.before.before
+extend-search-requires : tie.Need-extend-search-requires invariant-loop-work decreases-loop-work
+extend-search-requires c κs = test_taken _ _ _ _ _ _ _ _ c.loop-work.invariant.growing
+    (sym c.has_nearer_row.ensures ∙ c.loop-work-test.true)
 
-abbrev has-nearer-row-of-extend-arg4 : tie.After-extend-arg4 invariant-loop decreases-loop → tie.After-has-nearer-row invariant-loop decreases-loop
-has-nearer-row-of-extend-arg4 c = (then1-of-extend-arg4 c).before
+loop-work-smaller : tie.Need-loop-work-smaller invariant-loop-work decreases-loop-work
+loop-work-smaller c = let r = grow_next _ _ _ _ _ _ _ _ _ _ _ _ _ _ c.loop-work.invariant
+    (sym c.has_nearer_row.ensures ∙ c.loop-work-test.true) _ _ _ _ _ _
+    c.extend-search.auto.work c.extend-search.auto.pos
+    c.extend-search.auto.keys c.extend-search.auto.d
+    c.extend-search.ensures in omega (arith, r.1, r.2)
 
-abbrev then1-of-extend : tie.After-extend invariant-loop decreases-loop → tie.Then1 invariant-loop decreases-loop
-then1-of-extend c = then1-of-extend-arg4 c.before
+loop-work-preserved : tie.Need-loop-work-preserved invariant-loop-work decreases-loop-work
+loop-work-preserved c = (grow_next _ _ _ _ _ _ _ _ _ _ _ _ _ _ c.loop-work.invariant
+    (sym c.has_nearer_row.ensures ∙ c.loop-work-test.true) _ _ _ _ _ _
+    c.extend-search.auto.work c.extend-search.auto.pos
+    c.extend-search.auto.keys c.extend-search.auto.d
+    c.extend-search.ensures).0
 
-abbrev extend-of-slice-known8 : tie.After-slice-known8 invariant-loop decreases-loop → tie.After-extend invariant-loop decreases-loop
-extend-of-slice-known8 c = c.before.before.before.before.before.before.before.before
+shape_of-work : tie.Need-shape_of-work invariant-loop-work decreases-loop-work
+shape_of-work c = c.loop-work.invariant.size
 
-abbrev then1-of-slice-known8 : tie.After-slice-known8 invariant-loop decreases-loop → tie.Then1 invariant-loop decreases-loop
-then1-of-slice-known8 c = then1-of-extend (extend-of-slice-known8 c)
+shape_of-pos : tie.Need-shape_of-pos invariant-loop-work decreases-loop-work
+shape_of-pos c = c.loop-work.invariant.places
 
-abbrev has-nearer-row-of-slice-known8 : tie.After-slice-known8 invariant-loop decreases-loop → tie.After-has-nearer-row invariant-loop decreases-loop
-has-nearer-row-of-slice-known8 c = (then1-of-slice-known8 c).before
+shape_of-keys : tie.Need-shape_of-keys invariant-loop-work decreases-loop-work
+shape_of-keys c = c.loop-work.invariant.key_count
 
-loop-holds : tie.Need-loop-init invariant-loop decreases-loop
-loop-holds c = grow_start _ _ _ _ _ _ _ _ (entry-of-slice-known4 c).requires.0 (entry-of-slice-known4 c).requires.1
+shape_of-d : tie.Need-shape_of-d invariant-loop-work decreases-loop-work
+shape_of-d c = c.loop-work.invariant.d_count
 
-has-nearer-row-requires : tie.Need-has-nearer-row-requires invariant-loop decreases-loop
-has-nearer-row-requires c κs = test_asks _ _ _ _ _ _ _ _ c.before.loop.invariant.growing
-
-extend-requires : tie.Need-extend-requires invariant-loop decreases-loop
-extend-requires c κs = test_taken _ _ _ _ _ _ _ _ (has-nearer-row-of-extend-arg4 c).before.before.loop.invariant.growing
-    (sym (has-nearer-row-of-extend-arg4 c).has-nearer-row.ensures ∙ (then1-of-extend-arg4 c).if1.true)
-
-loop-less : tie.Need-loop-smaller invariant-loop decreases-loop
-loop-less c = let r = grow_next _ _ _ _ _ _ _ _ _ _ _ _ _ _ (has-nearer-row-of-slice-known8 c).before.before.loop.invariant
-    (sym (has-nearer-row-of-slice-known8 c).has-nearer-row.ensures ∙ (then1-of-slice-known8 c).if1.true) _ _ _ _ _ _
-    (extend-of-slice-known8 c).extend.auto.1.1.1.1.1.0 (extend-of-slice-known8 c).extend.auto.1.1.1.1.1.1.0
-    (extend-of-slice-known8 c).extend.auto.1.1.1.1.1.1.1.0 (extend-of-slice-known8 c).extend.auto.1.1.1.1.1.1.1.1.0
-    (extend-of-slice-known8 c).extend.ensures in omega (arith, r.1, r.2)
-
-loop-again : tie.Need-loop-preserved invariant-loop decreases-loop
-loop-again c = (grow_next _ _ _ _ _ _ _ _ _ _ _ _ _ _ (has-nearer-row-of-slice-known8 c).before.before.loop.invariant
-    (sym (has-nearer-row-of-slice-known8 c).has-nearer-row.ensures ∙ (then1-of-slice-known8 c).if1.true) _ _ _ _ _ _
-    (extend-of-slice-known8 c).extend.auto.1.1.1.1.1.0 (extend-of-slice-known8 c).extend.auto.1.1.1.1.1.1.0
-    (extend-of-slice-known8 c).extend.auto.1.1.1.1.1.1.1.0 (extend-of-slice-known8 c).extend.auto.1.1.1.1.1.1.1.1.0
-    (extend-of-slice-known8 c).extend.ensures).0
-
-same_length_lem : tie.Need-same-length invariant-loop decreases-loop
-same_length_lem c = (loop-of-else1 c).loop.invariant.size
-
-same-length-2 : tie.Need-same-length-2 invariant-loop decreases-loop
-same-length-2 c = (loop-of-else1 c).loop.invariant.places
-
-same-length-3 : tie.Need-same-length-3 invariant-loop decreases-loop
-same-length-3 c = (loop-of-else1 c).loop.invariant.key_count
-
-same-length-4 : tie.Need-same-length-4 invariant-loop decreases-loop
-same-length-4 c = (loop-of-else1 c).loop.invariant.d_count
-
-returns : tie.Need-returns invariant-loop decreases-loop
-returns c = grow_done _ _ _ _ _ _ _ _ _ _ _ _ _ _ (loop-of-else1 c).loop.invariant (sym c.before.has-nearer-row.ensures ∙ c.if1.false)
+returns : tie.Need-returns invariant-loop-work decreases-loop-work
+returns c = grow_done _ _ _ _ _ _ _ _ _ _ _ _ _ _ c.loop-work.invariant (sym c.has_nearer_row.ensures ∙ c.loop-work-test.false)
 
 pub grow_spec : {M : Type 1} → statement M
 grow_spec =
     tie.close
     (tie.spec
-    invariant-loop
-    decreases-loop
-    loop-holds
-    has-nearer-row-requires
-    extend-requires
-    loop-less
-    loop-again
-    same_length_lem
-    same-length-2
-    same-length-3
-    same-length-4
+    invariant-loop-work
+    decreases-loop-work
+    loop-work-init
+    has_nearer_row-requires
+    extend-search-requires
+    loop-work-smaller
+    loop-work-preserved
+    shape_of-work
+    shape_of-pos
+    shape_of-keys
+    shape_of-d
     returns)

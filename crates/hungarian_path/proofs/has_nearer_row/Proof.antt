@@ -11,16 +11,21 @@ positive : (m : ℕ) → (m ≡ 0 → ⊥) → 0 < m
 positive zero o = absurd (o refl)
 positive (suc m) o = omega arith
 
+returns-then-frontier-eq0 : tie.Need-returns-then-frontier-eq0
+unfolding has_nearer_row
+returns-then-frontier-eq0 c = rw (eq-eqb _ 0 c.if-frontier-eq0.true)
+
+bounds-keys-0 : tie.Need-bounds-keys-0
+bounds-keys-0 c = c.requires (positive c.args.frontier.len c.if-frontier-eq0.false)
+
 returns : tie.Need-returns
 unfolding has_nearer_row
-returns c = rw (eq-eqb _ 0 c.if1.true)
+returns-then-frontier-eq0 c = rw (ne_eqb _ 0 c.if-frontier-eq0.false)
 
-shared-slice-read-result : tie.Need-shared-slice-read-result
-shared-slice-read-result c = c.before.before.before.requires (positive c.before.before.before.args.frontier.len c.before.if1.false)
-
-returns-2 : tie.Need-returns-2
-unfolding has_nearer_row
-returns-2 c = rw (ne_eqb _ 0 c.before.before.if1.false)
-
-pub has-nearer-row-spec : {M : Type 1} → statement M
-has-nearer-row-spec = tie.close (tie.spec returns shared-slice-read-result returns-2)
+pub has_nearer_row_spec : {M : Type 1} → statement M
+has_nearer_row_spec =
+    tie.close
+    (tie.spec
+    returns-then-frontier-eq0
+    bounds-keys-0
+    returns)

@@ -2,11 +2,15 @@
 use Rattle.hungarian_path.proofs.least.Statement.{statement}
 use Rattle.hungarian_path.proofs.least.Tie as tie
 
-returns : tie.Need-returns
-returns c = rw c.if1.true
+returns-then-a-b : tie.Need-returns-then-a-b
+returns-then-a-b c = rw c.if-a-b.true
 
-returns-2 : tie.Need-returns-2
-returns-2 c = rw c.if1.false
+returns-else-a-b : tie.Need-returns-else-a-b
+returns-else-a-b c = rw c.if-a-b.false
 
-pub least-spec : {M : Type 1} → statement M
-least-spec = tie.close (tie.spec returns returns-2)
+pub least_spec : {M : Type 1} → statement M
+least_spec =
+    tie.close
+    (tie.spec
+    returns-then-a-b
+    returns-else-a-b)

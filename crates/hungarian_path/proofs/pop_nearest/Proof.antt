@@ -1,4 +1,5 @@
 -- `hungarian_path::pop_nearest` meets its contract: what the heap's `pop` promises and two stores, by Popping.
+use Rattle.std.proofs.Common.{rules}
 use borrow.Author.Rules.{rules}
 use Prim.Native.Nat.{◌<◌}
 use native.Mathlib.Omega.{arith}
@@ -7,105 +8,86 @@ use Rattle.hungarian_path.proofs.Popping.{code_asks, code_row, code_popped}
 use Rattle.hungarian_path.proofs.pop_nearest.Statement.{statement}
 use Rattle.hungarian_path.proofs.pop_nearest.Tie as tie
 
--- places of the proof, each from a later one
-abbrev entry-of-slice-known3 : tie.After-slice-known3 → tie.Start
-entry-of-slice-known3 c = c.before.before.before
+row : (c : tie.After-pop-q) → c.pop-q.result < c.args.n
+row c = code_row _ _ _ _ _ c.requires _ _ _ _ c.pop-q.ensures
 
-abbrev entry-of-pop-arg3 : tie.After-pop-arg3 → tie.Start
-entry-of-pop-arg3 c = entry-of-slice-known3 c.before.before.before
+overflow_mul-at : tie.Need-overflow_mul-at
+overflow_mul-at c = omega (arith, c.requires.workspace.small)
 
-abbrev entry-of-pop : tie.After-pop → tie.Start
-entry-of-pop c = entry-of-pop-arg3 c.before
+offset_bounds-work-at : tie.Need-offset_bounds-work-at
+offset_bounds-work-at c = omega (arith, c.requires.workspace.small)
 
-abbrev work-of-slice-known6 : tie.After-slice-known6 → tie.After-work
-work-of-slice-known6 c = c.before.before.before.before.before
+slice_bounds-pop-count : tie.Need-slice_bounds-pop-count
+slice_bounds-pop-count c = omega (arith, c.requires.workspace.words)
 
-abbrev pop-of-slice-known6 : tie.After-slice-known6 → tie.After-pop
-pop-of-slice-known6 c = (work-of-slice-known6 c).before
+slice_bounds-pop-start : tie.Need-slice_bounds-pop-start
+slice_bounds-pop-start c = omega (arith, c.requires.workspace.words)
 
-abbrev entry-of-slice-known6 : tie.After-slice-known6 → tie.Start
-entry-of-slice-known6 c = entry-of-pop (pop-of-slice-known6 c)
+slice_bounds-pop-end : tie.Need-slice_bounds-pop-end
+slice_bounds-pop-end c = search rules
 
-row : (c : tie.After-pop) → c.pop.result < (entry-of-pop c).args.n
-row c = code_row _ _ _ _ _ (entry-of-pop c).requires _ _ _ _ c.pop.ensures
+pop-q-requires : tie.Need-pop-q-requires
+pop-q-requires c κs = let r = code_asks _ _ _ _ _ c.requires in (r.0, (r.1, r.2))
 
-mul_at : tie.Need-overflow-mul-at
-mul_at c = omega (arith, (entry-of-slice-known3 c).requires.workspace.small)
+overflow_cast-work : tie.Need-overflow_cast-work
+overflow_cast-work c = omega (arith, row c.before.before.before.before.before.before, c.requires.workspace.small)
 
-mul-pop : tie.Need-overflow-mul-pop
-mul-pop c = omega (arith, (entry-of-slice-known3 c).requires.workspace.small)
+overflow_mul-work : tie.Need-overflow_mul-work
+overflow_mul-work c = omega (arith, c.requires.workspace.small)
 
-sub-pop : tie.Need-overflow-sub-pop
-sub-pop c = omega (arith, (entry-of-slice-known3 c).requires.workspace.words)
+overflow_add-work : tie.Need-overflow_add-work
+overflow_add-work c = omega (arith, c.requires.workspace.small, c.requires.room)
 
-part-pop-start : tie.Need-slice-bounds-pop-start
-part-pop-start c = omega (arith, (entry-of-slice-known3 c).requires.workspace.words)
+offset_bounds-work-n : tie.Need-offset_bounds-work-n
+offset_bounds-work-n c = omega (arith, c.requires.workspace.small, c.requires.room)
 
-part-pop-end : tie.Need-slice-bounds-pop-end
-part-pop-end c = search rules
+bounds-work-n : tie.Need-bounds-work-n
+bounds-work-n c = omega (arith, c.work-1.given.1, c.requires.room, c.requires.workspace.words)
 
-pop-requires : tie.Need-pop-requires
-pop-requires c κs = let r = code_asks _ _ _ _ _ (entry-of-pop-arg3 c).requires in (r.0, (r.1, r.2))
+offset_bounds-pos-q : tie.Need-offset_bounds-pos-q
+offset_bounds-pos-q c = omega (arith, row c.before.before.before.before.before.before, c.requires.workspace.small)
 
-cast-work : tie.Need-overflow-cast-work
-cast-work c = omega (arith, row (pop-of-slice-known6 c), (entry-of-slice-known6 c).requires.workspace.small)
+bounds-pos-q : tie.Need-bounds-pos-q
+bounds-pos-q c = omega (arith, row c.before.before.before.before.before.before, c.pop-q.auto.pos, c.requires.places)
 
-mul-work : tie.Need-overflow-mul-work
-mul-work c = omega (arith, (entry-of-slice-known6 c).requires.workspace.small)
+overflow_sub-result : tie.Need-overflow_sub-result
+overflow_sub-result c = omega (arith, c.requires.some)
 
-add-work : tie.Need-overflow-add-work
-add-work c = omega (arith, (entry-of-slice-known6 c).requires.workspace.small, (entry-of-slice-known6 c).requires.room)
+overflow_add-result : tie.Need-overflow_add-result
+overflow_add-result c = omega (arith, c.requires.workspace.small, c.requires.room)
 
-mul-work-2 : tie.Need-overflow-mul-work-2
-mul-work-2 c = omega (arith, (entry-of-slice-known6 c).requires.workspace.small, (entry-of-slice-known6 c).requires.room)
+shape_of-work : tie.Need-shape_of-work
+shape_of-work c = simp length-set c.work-1.given.1
 
-slice-write-work : tie.Need-slice-write-work
-slice-write-work c = omega (arith, (work-of-slice-known6 c).work.given.1, (entry-of-slice-known6 c).requires.room, (entry-of-slice-known6 c).requires.workspace.words)
+shape_of-pos : tie.Need-shape_of-pos
+shape_of-pos c = simp length-set c.pop-q.auto.pos
 
-mul-pos : tie.Need-overflow-mul-pos
-mul-pos c = omega (arith, row (pop-of-slice-known6 c), (entry-of-slice-known6 c).requires.workspace.small)
-
-slice-write-pos : tie.Need-slice-write-pos
-slice-write-pos c = omega (arith, row (pop-of-slice-known6 c), (pop-of-slice-known6 c).pop.auto.1.0, (entry-of-slice-known6 c).requires.places)
-
-sub-t20 : tie.Need-overflow-sub-t20
-sub-t20 c = omega (arith, (entry-of-slice-known6 c).requires.some)
-
-add-t10 : tie.Need-overflow-add-t10
-add-t10 c = omega (arith, (entry-of-slice-known6 c).requires.workspace.small, (entry-of-slice-known6 c).requires.room)
-
-same_length_lem : tie.Need-same-length
-same_length_lem c = simp length-set (work-of-slice-known6 c).work.given.1
-
-same-length-2 : tie.Need-same-length-2
-same-length-2 c = simp length-set (pop-of-slice-known6 c).pop.auto.1.0
-
-same-length-3 : tie.Need-same-length-3
-same-length-3 c = (pop-of-slice-known6 c).pop.auto.1.1.0
+shape_of-keys : tie.Need-shape_of-keys
+shape_of-keys c = c.pop-q.auto.keys
 
 returns : tie.Need-returns
-returns c = code_popped _ _ _ _ _ (entry-of-slice-known6 c).requires _ _ _ _ (pop-of-slice-known6 c).pop.ensures (pop-of-slice-known6 c).pop.auto.1.0
+returns c = code_popped _ _ _ _ _ c.requires _ _ _ _ c.pop-q.ensures c.pop-q.auto.pos
 
-pub pop-nearest-spec : {M : Type 1} → statement M
-pop-nearest-spec =
+pub pop_nearest_spec : {M : Type 1} → statement M
+pop_nearest_spec =
     tie.close
     (tie.spec
-    mul_at
-    mul-pop
-    sub-pop
-    part-pop-start
-    part-pop-end
-    pop-requires
-    cast-work
-    mul-work
-    add-work
-    mul-work-2
-    slice-write-work
-    mul-pos
-    slice-write-pos
-    sub-t20
-    add-t10
-    same_length_lem
-    same-length-2
-    same-length-3
+    overflow_mul-at
+    offset_bounds-work-at
+    slice_bounds-pop-count
+    slice_bounds-pop-start
+    slice_bounds-pop-end
+    pop-q-requires
+    overflow_cast-work
+    overflow_mul-work
+    overflow_add-work
+    offset_bounds-work-n
+    bounds-work-n
+    offset_bounds-pos-q
+    bounds-pos-q
+    overflow_sub-result
+    overflow_add-result
+    shape_of-work
+    shape_of-pos
+    shape_of-keys
     returns)

@@ -6,87 +6,83 @@ use Rattle.hungarian_path.proofs.Resets.{ResetAt, reset_start, reset_turn, reset
 use Rattle.hungarian_path.proofs.reset.Statement.{statement}
 use Rattle.hungarian_path.proofs.reset.Tie as tie
 
-abbrev invariant-loop : tie.invariant-loop
-invariant-loop n work pos₀ d₀ touched p₀ pos d p = ResetAt n work pos₀ d₀ touched pos d p
+abbrev invariant-loop-p : tie.invariant-loop-p
+invariant-loop-p n work pos₀ d₀ touched p₀ pos d p = ResetAt n work pos₀ d₀ touched pos d p
 
-abbrev decreases-loop : tie.decreases-loop
-decreases-loop n work pos₀ d₀ touched p₀ pos d p = touched - p
+abbrev decreases-loop-p : tie.decreases-loop-p
+decreases-loop-p n work pos₀ d₀ touched p₀ pos d p = touched - p
 
--- places of the proof, each from a later one
-abbrev entry-of-shared-slice-known : tie.After-shared-slice-known invariant-loop decreases-loop → tie.Start invariant-loop decreases-loop
-entry-of-shared-slice-known c = c.before.before.before
+row : (c : tie.In-loop-p invariant-loop-p decreases-loop-p) → get_or c.args.work.now (6 * c.args.n + c.loop-p.p) 0
+    < c.args.n
+row c = c.requires.rows c.loop-p.p c.loop-p-test.true
 
-row : (c : tie.In-loop invariant-loop decreases-loop) → get_or c.before.before.args.work.now (6 * c.before.before.args.n + c.before.loop.p) 0
-    < c.before.before.args.n
-row c = c.before.before.requires.rows c.before.loop.p c.loop-test.true
+loop-p-init : tie.Need-loop-p-init invariant-loop-p decreases-loop-p
+loop-p-init c = reset_start _ _ _ _ _ c.requires
 
-loop-holds : tie.Need-loop-init invariant-loop decreases-loop
-loop-holds c = reset_start _ _ _ _ _ c.requires
+overflow_mul-i : tie.Need-overflow_mul-i invariant-loop-p decreases-loop-p
+overflow_mul-i c = omega (arith, c.requires.workspace.small)
 
-mul-i : tie.Need-overflow-mul-i invariant-loop decreases-loop
-mul-i c = omega (arith, c.before.before.requires.workspace.small)
+overflow_add-i : tie.Need-overflow_add-i invariant-loop-p decreases-loop-p
+overflow_add-i c = omega (arith, c.requires.workspace.small, c.requires.room)
 
-add-i : tie.Need-overflow-add-i invariant-loop decreases-loop
-add-i c = omega (arith, c.before.before.requires.workspace.small, c.before.before.requires.room)
+offset_bounds-work-n : tie.Need-offset_bounds-work-n invariant-loop-p decreases-loop-p
+offset_bounds-work-n c = omega (arith, c.requires.workspace.small, c.requires.room)
 
-mul-i-2 : tie.Need-overflow-mul-i-2 invariant-loop decreases-loop
-mul-i-2 c = omega (arith, c.before.before.requires.workspace.small, c.before.before.requires.room)
+bounds-work-n : tie.Need-bounds-work-n invariant-loop-p decreases-loop-p
+bounds-work-n c = omega (arith, c.requires.workspace.words, c.requires.room)
 
-shared-slice-read-i : tie.Need-shared-slice-read-i invariant-loop decreases-loop
-shared-slice-read-i c = omega (arith, (entry-of-shared-slice-known c).requires.workspace.words, (entry-of-shared-slice-known c).requires.room)
+overflow_cast-i : tie.Need-overflow_cast-i invariant-loop-p decreases-loop-p
+overflow_cast-i c = omega (arith, row c.before, c.requires.workspace.small)
 
-cast-i : tie.Need-overflow-cast-i invariant-loop decreases-loop
-cast-i c = omega (arith, row c.before, (entry-of-shared-slice-known c).requires.workspace.small)
+offset_bounds-d-i : tie.Need-offset_bounds-d-i invariant-loop-p decreases-loop-p
+offset_bounds-d-i c = omega (arith, row c.before, c.requires.workspace.small)
 
-mul-d : tie.Need-overflow-mul-d invariant-loop decreases-loop
-mul-d c = omega (arith, row c.before, (entry-of-shared-slice-known c).requires.workspace.small)
+bounds-d-i : tie.Need-bounds-d-i invariant-loop-p decreases-loop-p
+bounds-d-i c = omega (arith, row c.before, c.requires.d_count, c.loop-p.invariant.d_count)
 
-slice-write-d : tie.Need-slice-write-d invariant-loop decreases-loop
-slice-write-d c = omega (arith, row c.before, (entry-of-shared-slice-known c).requires.d_count, c.before.before.loop.invariant.d_count)
+offset_bounds-pos-i : tie.Need-offset_bounds-pos-i invariant-loop-p decreases-loop-p
+offset_bounds-pos-i c = omega (arith, row c.before, c.requires.workspace.small)
 
-mul-pos : tie.Need-overflow-mul-pos invariant-loop decreases-loop
-mul-pos c = omega (arith, row c.before, (entry-of-shared-slice-known c).requires.workspace.small)
+bounds-pos-i : tie.Need-bounds-pos-i invariant-loop-p decreases-loop-p
+bounds-pos-i c = omega (arith, row c.before, c.requires.places, c.loop-p.invariant.long)
 
-slice-write-pos : tie.Need-slice-write-pos invariant-loop decreases-loop
-slice-write-pos c = omega (arith, row c.before, (entry-of-shared-slice-known c).requires.places, c.before.before.loop.invariant.long)
+overflow_add-p : tie.Need-overflow_add-p invariant-loop-p decreases-loop-p
+overflow_add-p c = omega (arith, c.requires.room, c.requires.workspace.small)
 
-add-p : tie.Need-overflow-add-p invariant-loop decreases-loop
-add-p c = omega (arith, (entry-of-shared-slice-known c).requires.room, (entry-of-shared-slice-known c).requires.workspace.small)
+loop-p-smaller : tie.Need-loop-p-smaller invariant-loop-p decreases-loop-p
+loop-p-smaller c = omega arith
 
-loop-less : tie.Need-loop-smaller invariant-loop decreases-loop
-loop-less c = omega arith
+loop-p-preserved : tie.Need-loop-p-preserved invariant-loop-p decreases-loop-p
+loop-p-preserved c = reset_turn _ _ _ _ _ c.requires _ _ _ c.loop-p.invariant c.loop-p-test.true
 
-loop-again : tie.Need-loop-preserved invariant-loop decreases-loop
-loop-again c = reset_turn _ _ _ _ _ (entry-of-shared-slice-known c).requires _ _ _ c.before.before.loop.invariant c.before.loop-test.true
+shape_of-pos : tie.Need-shape_of-pos invariant-loop-p decreases-loop-p
+shape_of-pos c = c.loop-p.invariant.long
 
-same_length_lem : tie.Need-same-length invariant-loop decreases-loop
-same_length_lem c = c.before.loop.invariant.long
+shape_of-d : tie.Need-shape_of-d invariant-loop-p decreases-loop-p
+shape_of-d c = c.loop-p.invariant.d_count
 
-same-length-2 : tie.Need-same-length-2 invariant-loop decreases-loop
-same-length-2 c = c.before.loop.invariant.d_count
+returns : tie.Need-returns invariant-loop-p decreases-loop-p
+returns c = reset_end _ _ _ _ _ c.requires _ _ _ c.loop-p.invariant c.loop-p-test.false
 
-returns : tie.Need-returns invariant-loop decreases-loop
-returns c = reset_end _ _ _ _ _ c.before.before.requires _ _ _ c.before.loop.invariant c.loop-test.false
-
-pub reset-spec : {M : Type 1} → statement M
-reset-spec =
+pub reset_spec : {M : Type 1} → statement M
+reset_spec =
     tie.close
     (tie.spec
-    invariant-loop
-    decreases-loop
-    loop-holds
-    mul-i
-    add-i
-    mul-i-2
-    shared-slice-read-i
-    cast-i
-    mul-d
-    slice-write-d
-    mul-pos
-    slice-write-pos
-    add-p
-    loop-less
-    loop-again
-    same_length_lem
-    same-length-2
+    invariant-loop-p
+    decreases-loop-p
+    loop-p-init
+    overflow_mul-i
+    overflow_add-i
+    offset_bounds-work-n
+    bounds-work-n
+    overflow_cast-i
+    offset_bounds-d-i
+    bounds-d-i
+    offset_bounds-pos-i
+    bounds-pos-i
+    overflow_add-p
+    loop-p-smaller
+    loop-p-preserved
+    shape_of-pos
+    shape_of-d
     returns)

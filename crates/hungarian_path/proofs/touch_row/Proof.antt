@@ -7,94 +7,84 @@ use Rattle.hungarian_path.proofs.Memory.{spare}
 use Rattle.hungarian_path.proofs.touch_row.Statement.{statement}
 use Rattle.hungarian_path.proofs.touch_row.Tie as tie
 
--- places of the proof, each from a later one
-abbrev entry-of-slice-known3 : tie.After-slice-known3 → tie.Start
-entry-of-slice-known3 c = c.before.before.before
+room : (c : tie.Else-pos-i-ne0) → (c.args.frontier.touched < c.args.n)
+    × (c.args.frontier.len < c.args.n)
+room c = spare _ _ _ _ _ c.requires c.if-pos-i-ne0.false
 
-abbrev entry-of-else1 : tie.Else1 → tie.Start
-entry-of-else1 c = entry-of-slice-known3 c.before
+offset_bounds-pos-i : tie.Need-offset_bounds-pos-i
+offset_bounds-pos-i c = omega (arith, c.requires.row, c.requires.workspace.small)
 
-abbrev entry-of-struct-known : tie.After-struct-known → tie.Start
-entry-of-struct-known c = entry-of-else1 c.before
+bounds-pos-i : tie.Need-bounds-pos-i
+bounds-pos-i c = omega (arith, c.requires.row, c.requires.places)
 
-room : (c : tie.Else1) → ((entry-of-else1 c).args.frontier.touched < (entry-of-else1 c).args.n)
-    × ((entry-of-else1 c).args.frontier.len < (entry-of-else1 c).args.n)
-room c = spare _ _ _ _ _ (entry-of-else1 c).requires c.if1.false
+returns-then-pos-i-ne0 : tie.Need-returns-then-pos-i-ne0
+returns-then-pos-i-ne0 c = record { words = rw (ne_eqb _ 0 c.if-pos-i-ne0.true); places = rw (ne_eqb _ 0 c.if-pos-i-ne0.true); answer = rw (ne_eqb _ 0 c.if-pos-i-ne0.true) }
 
-mul-if1 : tie.Need-overflow-mul-if1
-mul-if1 c = omega (arith, c.before.before.requires.row, c.before.before.requires.workspace.small)
+overflow_add-len : tie.Need-overflow_add-len
+overflow_add-len c = omega (arith, room c.before, c.requires.workspace.small)
 
-slice-read-if1 : tie.Need-slice-read-if1
-slice-read-if1 c = omega (arith, (entry-of-slice-known3 c).requires.row, (entry-of-slice-known3 c).requires.places)
+overflow_cast-work : tie.Need-overflow_cast-work
+overflow_cast-work c = omega (arith, c.requires.row, c.requires.workspace.small)
 
-returns : tie.Need-returns
-returns c = record { words = rw (ne_eqb _ 0 c.if1.true); places = rw (ne_eqb _ 0 c.if1.true); answer = rw (ne_eqb _ 0 c.if1.true) }
+overflow_mul-work : tie.Need-overflow_mul-work
+overflow_mul-work c = omega (arith, c.requires.workspace.small)
 
-add-len : tie.Need-overflow-add-len
-add-len c = omega (arith, room c.before, (entry-of-struct-known c).requires.workspace.small)
+overflow_add-work : tie.Need-overflow_add-work
+overflow_add-work c = omega (arith, room c.before, c.requires.workspace.small)
 
-cast-work : tie.Need-overflow-cast-work
-cast-work c = omega (arith, (entry-of-struct-known c).requires.row, (entry-of-struct-known c).requires.workspace.small)
+offset_bounds-work-n : tie.Need-offset_bounds-work-n
+offset_bounds-work-n c = omega (arith, room c.before, c.requires.workspace.small)
 
-mul-work : tie.Need-overflow-mul-work
-mul-work c = omega (arith, (entry-of-struct-known c).requires.workspace.small)
+bounds-work-n : tie.Need-bounds-work-n
+bounds-work-n c = omega (arith, room c.before, c.requires.workspace.words)
 
-add-work : tie.Need-overflow-add-work
-add-work c = omega (arith, room c.before, (entry-of-struct-known c).requires.workspace.small)
+overflow_cast-pos : tie.Need-overflow_cast-pos
+overflow_cast-pos c = omega (arith, room c.before, c.requires.workspace.small)
 
-mul-work-2 : tie.Need-overflow-mul-work-2
-mul-work-2 c = omega (arith, room c.before, (entry-of-struct-known c).requires.workspace.small)
+offset_bounds-pos-i-2 : tie.Need-offset_bounds-pos-i-2
+offset_bounds-pos-i-2 c = omega (arith, c.requires.row, c.requires.workspace.small)
 
-slice-write-work : tie.Need-slice-write-work
-slice-write-work c = omega (arith, room c.before, (entry-of-struct-known c).requires.workspace.words)
+bounds-pos-i-2 : tie.Need-bounds-pos-i-2
+bounds-pos-i-2 c = omega (arith, c.requires.row, c.requires.places)
 
-cast-pos : tie.Need-overflow-cast-pos
-cast-pos c = omega (arith, room c.before, (entry-of-struct-known c).requires.workspace.small)
-
-mul-pos : tie.Need-overflow-mul-pos
-mul-pos c = omega (arith, (entry-of-struct-known c).requires.row, (entry-of-struct-known c).requires.workspace.small)
-
-slice-write-pos : tie.Need-slice-write-pos
-slice-write-pos c = omega (arith, (entry-of-struct-known c).requires.row, (entry-of-struct-known c).requires.places)
-
-add-t12 : tie.Need-overflow-add-t12
-add-t12 c = omega (arith, room c.before, (entry-of-struct-known c).requires.workspace.small)
+overflow_add-result : tie.Need-overflow_add-result
+overflow_add-result c = omega (arith, room c.before, c.requires.workspace.small)
 
 larger-requires : tie.Need-larger-requires
 larger-requires c κs = tt
 
-same_length_lem : tie.Need-same-length
-same_length_lem c = simp length-set
+shape_of-work : tie.Need-shape_of-work
+shape_of-work c = simp length-set
 
-same-length-2 : tie.Need-same-length-2
-same-length-2 c = simp length-set
+shape_of-pos : tie.Need-shape_of-pos
+shape_of-pos c = simp length-set
 
-returns-2 : tie.Need-returns-2
-returns-2 c = record {
-  words = rw (eq-eqb _ 0 c.before.before.if1.false);
-  places = rw (eq-eqb _ 0 c.before.before.if1.false);
+returns : tie.Need-returns
+returns-then-pos-i-ne0 c = record {
+  words = rw (eq-eqb _ 0 c.if-pos-i-ne0.false);
+  places = rw (eq-eqb _ 0 c.if-pos-i-ne0.false);
   answer =
-      rw (c.larger.ensures, eq-eqb _ 0 c.before.before.if1.false);
+      rw (c.larger.ensures, eq-eqb _ 0 c.if-pos-i-ne0.false);
 }
 
-pub touch-row-spec : {M : Type 1} → statement M
-touch-row-spec =
+pub touch_row_spec : {M : Type 1} → statement M
+touch_row_spec =
     tie.close
     (tie.spec
-    mul-if1
-    slice-read-if1
-    returns
-    add-len
-    cast-work
-    mul-work
-    add-work
-    mul-work-2
-    slice-write-work
-    cast-pos
-    mul-pos
-    slice-write-pos
-    add-t12
+    offset_bounds-pos-i
+    bounds-pos-i
+    returns-then-pos-i-ne0
+    overflow_add-len
+    overflow_cast-work
+    overflow_mul-work
+    overflow_add-work
+    offset_bounds-work-n
+    bounds-work-n
+    overflow_cast-pos
+    offset_bounds-pos-i-2
+    bounds-pos-i-2
+    overflow_add-result
     larger-requires
-    same_length_lem
-    same-length-2
-    returns-2)
+    shape_of-work
+    shape_of-pos
+    returns)

@@ -9,277 +9,237 @@ use Rattle.hungarian_path.proofs.Flips.{WalkAt, walk_start, here, there, walk_tu
 use Rattle.hungarian_path.proofs.walk.Statement.{statement}
 use Rattle.hungarian_path.proofs.walk.Tie as tie
 
-abbrev invariant-loop : tie.invariant-loop
-invariant-loop n rows work₀ j most column₀ left₀ work column left = (R : WalkReady n rows work₀ j) × WalkAt n rows work₀ j most R work column left
+abbrev invariant-loop-left : tie.invariant-loop-left
+invariant-loop-left n rows work₀ j most column₀ left₀ work column left = (R : WalkReady n rows work₀ j) × WalkAt n rows work₀ j most R work column left
 
-abbrev decreases-loop : tie.decreases-loop
-decreases-loop n rows work₀ j most column₀ left₀ work column left = left
+abbrev decreases-loop-left : tie.decreases-loop-left
+decreases-loop-left n rows work₀ j most column₀ left₀ work column left = left
 
--- places of the proof, each from a later one
-abbrev loop-of-else1 : tie.Else1 invariant-loop decreases-loop → tie.At-loop invariant-loop decreases-loop
-loop-of-else1 c = c.before.before.before
+loop-left-init : tie.Need-loop-left-init invariant-loop-left decreases-loop-left
+loop-left-init c = (c.requires, walk_start _ _ _ _ _ c.requires)
 
-abbrev loop-of-slice-known2 : tie.After-slice-known2 invariant-loop decreases-loop → tie.At-loop invariant-loop decreases-loop
-loop-of-slice-known2 c = loop-of-else1 c.before
+overflow_mul-n : tie.Need-overflow_mul-n invariant-loop-left decreases-loop-left
+overflow_mul-n c = omega (arith, here _ _ _ _ _ c.loop-left.invariant.0 _ _ _ c.loop-left.invariant.1)
 
-abbrev in-loop-of-slice-known3 : tie.After-slice-known3 invariant-loop decreases-loop → tie.In-loop invariant-loop decreases-loop
-in-loop-of-slice-known3 c = c.before.before.before.before
+overflow_add-n : tie.Need-overflow_add-n invariant-loop-left decreases-loop-left
+overflow_add-n c = omega (arith, here _ _ _ _ _ c.loop-left.invariant.0 _ _ _ c.loop-left.invariant.1)
 
-abbrev else1-of-shared-slice-known : tie.After-shared-slice-known invariant-loop decreases-loop → tie.Else1 invariant-loop decreases-loop
-else1-of-shared-slice-known c = c.before.before.before
+offset_bounds-work-n : tie.Need-offset_bounds-work-n invariant-loop-left decreases-loop-left
+offset_bounds-work-n c = omega (arith, here _ _ _ _ _ c.loop-left.invariant.0 _ _ _ c.loop-left.invariant.1)
 
-abbrev in-loop-of-shared-slice-known : tie.After-shared-slice-known invariant-loop decreases-loop → tie.In-loop invariant-loop decreases-loop
-in-loop-of-shared-slice-known c = in-loop-of-slice-known3 c.before
+bounds-work-n : tie.Need-bounds-work-n invariant-loop-left decreases-loop-left
+bounds-work-n c = omega (arith, here _ _ _ _ _ c.loop-left.invariant.0 _ _ _ c.loop-left.invariant.1)
 
-abbrev loop-of-shared-slice-known : tie.After-shared-slice-known invariant-loop decreases-loop → tie.At-loop invariant-loop decreases-loop
-loop-of-shared-slice-known c = loop-of-else1 (else1-of-shared-slice-known c)
+overflow_mul-before : tie.Need-overflow_mul-before invariant-loop-left decreases-loop-left
+overflow_mul-before c =
+    omega (arith, here _ _ _ _ _ c.loop-left.inv.0 _ _ _ c.loop-left.inv.1)
 
-loop-holds : tie.Need-loop-init invariant-loop decreases-loop
-loop-holds c = (c.requires, walk_start _ _ _ _ _ c.requires)
+overflow_add-before : tie.Need-overflow_add-before invariant-loop-left decreases-loop-left
+overflow_add-before c =
+    omega (arith, here _ _ _ _ _ c.loop-left.inv.0 _ _ _ c.loop-left.inv.1)
 
-mul-if1 : tie.Need-overflow-mul-if1 invariant-loop decreases-loop
-mul-if1 c = omega (arith, here _ _ _ _ _ c.before.loop.invariant.0 _ _ _ c.before.loop.invariant.1)
+offset_bounds-work-n-in-loop-left : tie.Need-offset_bounds-work-n-in-loop-left invariant-loop-left decreases-loop-left
+offset_bounds-work-n-in-loop-left c =
+    omega (arith, here _ _ _ _ _ c.loop-left.inv.0 _ _ _ c.loop-left.inv.1)
 
-add-if1 : tie.Need-overflow-add-if1 invariant-loop decreases-loop
-add-if1 c = omega (arith, here _ _ _ _ _ c.before.loop.invariant.0 _ _ _ c.before.loop.invariant.1)
+bounds-work-n-in-loop-left : tie.Need-bounds-work-n-in-loop-left invariant-loop-left decreases-loop-left
+bounds-work-n-in-loop-left c =
+    omega (arith, here _ _ _ _ _ c.loop-left.inv.0 _ _ _ c.loop-left.inv.1)
 
-mul-if1-2 : tie.Need-overflow-mul-if1-2 invariant-loop decreases-loop
-mul-if1-2 c = omega (arith, here _ _ _ _ _ c.before.loop.invariant.0 _ _ _ c.before.loop.invariant.1)
-
-slice-read-if1 : tie.Need-slice-read-if1 invariant-loop decreases-loop
-slice-read-if1 c = omega (arith, here _ _ _ _ _ c.before.before.loop.invariant.0 _ _ _ c.before.before.loop.invariant.1)
-
-mul-before : tie.Need-overflow-mul-before invariant-loop decreases-loop
-mul-before c =
-    let loop = loop-of-else1 c in
-    omega (arith, here _ _ _ _ _ loop.loop.inv.0 _ _ _ loop.loop.inv.1)
-
-add-before : tie.Need-overflow-add-before invariant-loop decreases-loop
-add-before c =
-    let loop = loop-of-else1 c in
-    omega (arith, here _ _ _ _ _ loop.loop.inv.0 _ _ _ loop.loop.inv.1)
-
-mul-before-2 : tie.Need-overflow-mul-before-2 invariant-loop decreases-loop
-mul-before-2 c =
-    let loop = loop-of-else1 c in
-    omega (arith, here _ _ _ _ _ loop.loop.inv.0 _ _ _ loop.loop.inv.1)
-
-slice-read-before : tie.Need-slice-read-before invariant-loop decreases-loop
-slice-read-before c =
-    let loop = loop-of-slice-known2 c in
-    omega (arith, here _ _ _ _ _ loop.loop.inv.0 _ _ _ loop.loop.inv.1)
-
-cast-before : tie.Need-overflow-cast-before invariant-loop decreases-loop
-cast-before c =
-    let loop = loop-of-slice-known2 c in
+overflow_cast-before : tie.Need-overflow_cast-before invariant-loop-left decreases-loop-left
+overflow_cast-before c =
     omega (
       arith,
-      there _ _ _ _ _ loop.loop.inv.0 _ _ _ loop.loop.inv.1 c.before.before.before.loop-test.true c.before.if1.false,
-      here _ _ _ _ _ loop.loop.inv.0 _ _ _ loop.loop.inv.1,
+      there _ _ _ _ _ c.loop-left.inv.0 _ _ _ c.loop-left.inv.1 c.loop-left-test.true c.if-work-n.false,
+      here _ _ _ _ _ c.loop-left.inv.0 _ _ _ c.loop-left.inv.1,
     )
 
-mul-entry : tie.Need-overflow-mul-entry invariant-loop decreases-loop
-mul-entry c =
-    let loop = loop-of-slice-known2 c in
-    omega (arith, here _ _ _ _ _ loop.loop.inv.0 _ _ _ loop.loop.inv.1)
+overflow_mul-entry : tie.Need-overflow_mul-entry invariant-loop-left decreases-loop-left
+overflow_mul-entry c =
+    omega (arith, here _ _ _ _ _ c.loop-left.inv.0 _ _ _ c.loop-left.inv.1)
 
-add-entry : tie.Need-overflow-add-entry invariant-loop decreases-loop
-add-entry c =
-    let loop = loop-of-slice-known2 c in
-    omega (arith, here _ _ _ _ _ loop.loop.inv.0 _ _ _ loop.loop.inv.1)
+overflow_add-entry : tie.Need-overflow_add-entry invariant-loop-left decreases-loop-left
+overflow_add-entry c =
+    omega (arith, here _ _ _ _ _ c.loop-left.inv.0 _ _ _ c.loop-left.inv.1)
 
-mul-entry-2 : tie.Need-overflow-mul-entry-2 invariant-loop decreases-loop
-mul-entry-2 c =
-    let loop = loop-of-slice-known2 c in
-    omega (arith, here _ _ _ _ _ loop.loop.inv.0 _ _ _ loop.loop.inv.1)
+offset_bounds-work-n-in-loop-left-2 : tie.Need-offset_bounds-work-n-in-loop-left-2 invariant-loop-left decreases-loop-left
+offset_bounds-work-n-in-loop-left-2 c =
+    omega (arith, here _ _ _ _ _ c.loop-left.inv.0 _ _ _ c.loop-left.inv.1)
 
-slice-read-entry : tie.Need-slice-read-entry invariant-loop decreases-loop
-slice-read-entry c =
-    let loop = (in-loop-of-slice-known3 c).before in
-    omega (arith, here _ _ _ _ _ loop.loop.inv.0 _ _ _ loop.loop.inv.1)
+bounds-work-n-in-loop-left-2 : tie.Need-bounds-work-n-in-loop-left-2 invariant-loop-left decreases-loop-left
+bounds-work-n-in-loop-left-2 c =
+    omega (arith, here _ _ _ _ _ c.loop-left.inv.0 _ _ _ c.loop-left.inv.1)
 
-cast-entry : tie.Need-overflow-cast-entry invariant-loop decreases-loop
-cast-entry c =
-    let loop = (in-loop-of-slice-known3 c).before in
+overflow_cast-entry : tie.Need-overflow_cast-entry invariant-loop-left decreases-loop-left
+overflow_cast-entry c =
     omega (
       arith,
-      there _ _ _ _ _ loop.loop.inv.0 _ _ _ loop.loop.inv.1 (in-loop-of-slice-known3 c).loop-test.true
-          c.before.before.if1.false,
-      here _ _ _ _ _ loop.loop.inv.0 _ _ _ loop.loop.inv.1,
+      there _ _ _ _ _ c.loop-left.inv.0 _ _ _ c.loop-left.inv.1 c.loop-left-test.true
+          c.if-work-n.false,
+      here _ _ _ _ _ c.loop-left.inv.0 _ _ _ c.loop-left.inv.1,
     )
 
-mul-row : tie.Need-overflow-mul-row invariant-loop decreases-loop
-mul-row c =
-    let loop = (in-loop-of-slice-known3 c).before in
+offset_bounds-row_idx-entry : tie.Need-offset_bounds-row_idx-entry invariant-loop-left decreases-loop-left
+offset_bounds-row_idx-entry c =
     omega (
       arith,
-      there _ _ _ _ _ loop.loop.inv.0 _ _ _ loop.loop.inv.1 (in-loop-of-slice-known3 c).loop-test.true
-          c.before.before.if1.false,
-      here _ _ _ _ _ loop.loop.inv.0 _ _ _ loop.loop.inv.1,
+      there _ _ _ _ _ c.loop-left.inv.0 _ _ _ c.loop-left.inv.1 c.loop-left-test.true
+          c.if-work-n.false,
+      here _ _ _ _ _ c.loop-left.inv.0 _ _ _ c.loop-left.inv.1,
     )
 
-shared-slice-read-row : tie.Need-shared-slice-read-row invariant-loop decreases-loop
-shared-slice-read-row c =
-    let loop = loop-of-shared-slice-known c in
+bounds-row_idx-entry : tie.Need-bounds-row_idx-entry invariant-loop-left decreases-loop-left
+bounds-row_idx-entry c =
     omega (
       arith,
-      there _ _ _ _ _ loop.loop.inv.0 _ _ _ loop.loop.inv.1
-          (in-loop-of-shared-slice-known c).loop-test.true (else1-of-shared-slice-known c).if1.false,
+      there _ _ _ _ _ c.loop-left.inv.0 _ _ _ c.loop-left.inv.1
+          c.loop-left-test.true c.if-work-n.false,
       here _ _ _ _ _
-          loop.loop.inv.0 _ _ _ loop.loop.inv.1,
+          c.loop-left.inv.0 _ _ _ c.loop-left.inv.1,
     )
 
-cast-row : tie.Need-overflow-cast-row invariant-loop decreases-loop
-cast-row c =
-    let loop = loop-of-shared-slice-known c in
+overflow_cast-row : tie.Need-overflow_cast-row invariant-loop-left decreases-loop-left
+overflow_cast-row c =
     omega (
       arith,
-      there _ _ _ _ _ loop.loop.inv.0 _ _ _ loop.loop.inv.1
-          (in-loop-of-shared-slice-known c).loop-test.true (else1-of-shared-slice-known c).if1.false,
+      there _ _ _ _ _ c.loop-left.inv.0 _ _ _ c.loop-left.inv.1
+          c.loop-left-test.true c.if-work-n.false,
       here _ _ _ _ _
-          loop.loop.inv.0 _ _ _ loop.loop.inv.1,
+          c.loop-left.inv.0 _ _ _ c.loop-left.inv.1,
     )
 
-cast-work : tie.Need-overflow-cast-work invariant-loop decreases-loop
-cast-work c =
-    let loop = loop-of-shared-slice-known c in
+overflow_cast-work : tie.Need-overflow_cast-work invariant-loop-left decreases-loop-left
+overflow_cast-work c =
     omega (
       arith,
-      there _ _ _ _ _ loop.loop.inv.0 _ _ _ loop.loop.inv.1
-          (in-loop-of-shared-slice-known c).loop-test.true (else1-of-shared-slice-known c).if1.false,
+      there _ _ _ _ _ c.loop-left.inv.0 _ _ _ c.loop-left.inv.1
+          c.loop-left-test.true c.if-work-n.false,
       here _ _ _ _ _
-          loop.loop.inv.0 _ _ _ loop.loop.inv.1,
+          c.loop-left.inv.0 _ _ _ c.loop-left.inv.1,
     )
 
-mul-work : tie.Need-overflow-mul-work invariant-loop decreases-loop
-mul-work c =
-    let loop = loop-of-shared-slice-known c in
+offset_bounds-work-row : tie.Need-offset_bounds-work-row invariant-loop-left decreases-loop-left
+offset_bounds-work-row c =
     omega (
       arith,
-      there _ _ _ _ _ loop.loop.inv.0 _ _ _ loop.loop.inv.1
-          (in-loop-of-shared-slice-known c).loop-test.true (else1-of-shared-slice-known c).if1.false,
+      there _ _ _ _ _ c.loop-left.inv.0 _ _ _ c.loop-left.inv.1
+          c.loop-left-test.true c.if-work-n.false,
       here _ _ _ _ _
-          loop.loop.inv.0 _ _ _ loop.loop.inv.1,
+          c.loop-left.inv.0 _ _ _ c.loop-left.inv.1,
     )
 
-slice-write-work : tie.Need-slice-write-work invariant-loop decreases-loop
-slice-write-work c =
-    let loop = loop-of-shared-slice-known c in
+bounds-work-row : tie.Need-bounds-work-row invariant-loop-left decreases-loop-left
+bounds-work-row c =
     omega (
       arith,
-      there _ _ _ _ _ loop.loop.inv.0 _ _ _ loop.loop.inv.1
-          (in-loop-of-shared-slice-known c).loop-test.true (else1-of-shared-slice-known c).if1.false,
+      there _ _ _ _ _ c.loop-left.inv.0 _ _ _ c.loop-left.inv.1
+          c.loop-left-test.true c.if-work-n.false,
       here _ _ _ _ _
-          loop.loop.inv.0 _ _ _ loop.loop.inv.1,
+          c.loop-left.inv.0 _ _ _ c.loop-left.inv.1,
     )
 
-cast-work-2 : tie.Need-overflow-cast-work-2 invariant-loop decreases-loop
-cast-work-2 c =
-    let loop = loop-of-shared-slice-known c in
+overflow_cast-work-in-loop-left : tie.Need-overflow_cast-work-in-loop-left invariant-loop-left decreases-loop-left
+overflow_cast-work-in-loop-left c =
     omega (
       arith,
-      there _ _ _ _ _ loop.loop.inv.0 _ _ _ loop.loop.inv.1
-          (in-loop-of-shared-slice-known c).loop-test.true (else1-of-shared-slice-known c).if1.false,
+      there _ _ _ _ _ c.loop-left.inv.0 _ _ _ c.loop-left.inv.1
+          c.loop-left-test.true c.if-work-n.false,
       here _ _ _ _ _
-          loop.loop.inv.0 _ _ _ loop.loop.inv.1,
+          c.loop-left.inv.0 _ _ _ c.loop-left.inv.1,
     )
 
-add-work : tie.Need-overflow-add-work invariant-loop decreases-loop
-add-work c =
-    let loop = loop-of-shared-slice-known c in
+overflow_add-work : tie.Need-overflow_add-work invariant-loop-left decreases-loop-left
+overflow_add-work c =
     omega (
       arith,
-      there _ _ _ _ _ loop.loop.inv.0 _ _ _ loop.loop.inv.1
-          (in-loop-of-shared-slice-known c).loop-test.true (else1-of-shared-slice-known c).if1.false,
+      there _ _ _ _ _ c.loop-left.inv.0 _ _ _ c.loop-left.inv.1
+          c.loop-left-test.true c.if-work-n.false,
       here _ _ _ _ _
-          loop.loop.inv.0 _ _ _ loop.loop.inv.1,
+          c.loop-left.inv.0 _ _ _ c.loop-left.inv.1,
     )
 
-mul-work-2 : tie.Need-overflow-mul-work-2 invariant-loop decreases-loop
-mul-work-2 c =
-    let loop = loop-of-shared-slice-known c in
+offset_bounds-work-n-in-loop-left-3 : tie.Need-offset_bounds-work-n-in-loop-left-3 invariant-loop-left decreases-loop-left
+offset_bounds-work-n-in-loop-left-3 c =
     omega (
       arith,
-      there _ _ _ _ _ loop.loop.inv.0 _ _ _ loop.loop.inv.1
-          (in-loop-of-shared-slice-known c).loop-test.true (else1-of-shared-slice-known c).if1.false,
+      there _ _ _ _ _ c.loop-left.inv.0 _ _ _ c.loop-left.inv.1
+          c.loop-left-test.true c.if-work-n.false,
       here _ _ _ _ _
-          loop.loop.inv.0 _ _ _ loop.loop.inv.1,
+          c.loop-left.inv.0 _ _ _ c.loop-left.inv.1,
     )
 
-slice-write-work-2 : tie.Need-slice-write-work-2 invariant-loop decreases-loop
-slice-write-work-2 c =
-    let loop = loop-of-shared-slice-known c in
+bounds-work-n-in-loop-left-3 : tie.Need-bounds-work-n-in-loop-left-3 invariant-loop-left decreases-loop-left
+bounds-work-n-in-loop-left-3 c =
     simp length-set (omega (
       arith,
-      there _ _ _ _ _ loop.loop.inv.0 _ _ _ loop.loop.inv.1
-          (in-loop-of-shared-slice-known c).loop-test.true (else1-of-shared-slice-known c).if1.false,
+      there _ _ _ _ _ c.loop-left.inv.0 _ _ _ c.loop-left.inv.1
+          c.loop-left-test.true c.if-work-n.false,
       here _ _ _ _ _
-          loop.loop.inv.0 _ _ _ loop.loop.inv.1,
+          c.loop-left.inv.0 _ _ _ c.loop-left.inv.1,
     ))
 
-sub-left : tie.Need-overflow-sub-left invariant-loop decreases-loop
-sub-left c = omega arith
+overflow_sub-left : tie.Need-overflow_sub-left invariant-loop-left decreases-loop-left
+overflow_sub-left c = omega arith
 
-loop-less : tie.Need-loop-smaller invariant-loop decreases-loop
-loop-less c = omega arith
+loop-left-smaller : tie.Need-loop-left-smaller invariant-loop-left decreases-loop-left
+loop-left-smaller c = omega arith
 
-loop-again : tie.Need-loop-preserved invariant-loop decreases-loop
-loop-again c =
-    let loop = loop-of-shared-slice-known c in (
-      loop.loop.inv.0,
-      walk_turn _ _ _ _ _ loop.loop.inv.0 _ _ _ loop.loop.inv.1 (in-loop-of-shared-slice-known c).loop-test.true
-          (else1-of-shared-slice-known c).if1.false,
+loop-left-preserved : tie.Need-loop-left-preserved invariant-loop-left decreases-loop-left
+loop-left-preserved c =
+    (
+      c.loop-left.inv.0,
+      walk_turn _ _ _ _ _ c.loop-left.inv.0 _ _ _ c.loop-left.inv.1 c.loop-left-test.true
+          c.if-work-n.false,
     )
 
-same_length_lem : tie.Need-same-length invariant-loop decreases-loop
-same_length_lem c = c.before.loop.invariant.1.long
+shape_of-work-after-loop-left : tie.Need-shape_of-work-after-loop-left invariant-loop-left decreases-loop-left
+shape_of-work-after-loop-left c = c.loop-left.invariant.1.long
 
-returns : tie.Need-returns invariant-loop decreases-loop
-returns c = walk_end _ _ _ _ _ c.before.loop.invariant.0 _ _ _ c.before.loop.invariant.1 (inl c.loop-test.false)
+returns-after-loop-left : tie.Need-returns-after-loop-left invariant-loop-left decreases-loop-left
+returns-after-loop-left c = walk_end _ _ _ _ _ c.loop-left.invariant.0 _ _ _ c.loop-left.invariant.1 (inl c.loop-left-test.false)
 
-same-length-2 : tie.Need-same-length-2 invariant-loop decreases-loop
-same-length-2 c = c.before.before.before.loop.invariant.1.long
+shape_of-work-then-work-n : tie.Need-shape_of-work-then-work-n invariant-loop-left decreases-loop-left
+shape_of-work-then-work-n c = c.loop-left.invariant.1.long
 
-returns-2 : tie.Need-returns-2 invariant-loop decreases-loop
-returns-2 c =
-    let loop = c.before.before.before in
-    walk_end _ _ _ _ _ loop.loop.invariant.0 _ _ _ loop.loop.invariant.1 (inr c.if1.true)
+returns-then-work-n : tie.Need-returns-then-work-n invariant-loop-left decreases-loop-left
+returns-then-work-n c =
+    walk_end _ _ _ _ _ c.loop-left.invariant.0 _ _ _ c.loop-left.invariant.1 (inr c.if-work-n.true)
 
-pub walk-spec : {M : Type 1} → statement M
-walk-spec =
+pub walk_spec : {M : Type 1} → statement M
+walk_spec =
     tie.close
     (tie.spec
-    invariant-loop
-    decreases-loop
-    loop-holds
-    mul-if1
-    add-if1
-    mul-if1-2
-    slice-read-if1
-    mul-before
-    add-before
-    mul-before-2
-    slice-read-before
-    cast-before
-    mul-entry
-    add-entry
-    mul-entry-2
-    slice-read-entry
-    cast-entry
-    mul-row
-    shared-slice-read-row
-    cast-row
-    cast-work
-    mul-work
-    slice-write-work
-    cast-work-2
-    add-work
-    mul-work-2
-    slice-write-work-2
-    sub-left
-    loop-less
-    loop-again
-    same_length_lem
-    returns
-    same-length-2
-    returns-2)
+    invariant-loop-left
+    decreases-loop-left
+    loop-left-init
+    overflow_mul-n
+    overflow_add-n
+    offset_bounds-work-n
+    bounds-work-n
+    overflow_mul-before
+    overflow_add-before
+    offset_bounds-work-n-in-loop-left
+    bounds-work-n-in-loop-left
+    overflow_cast-before
+    overflow_mul-entry
+    overflow_add-entry
+    offset_bounds-work-n-in-loop-left-2
+    bounds-work-n-in-loop-left-2
+    overflow_cast-entry
+    offset_bounds-row_idx-entry
+    bounds-row_idx-entry
+    overflow_cast-row
+    overflow_cast-work
+    offset_bounds-work-row
+    bounds-work-row
+    overflow_cast-work-in-loop-left
+    overflow_add-work
+    offset_bounds-work-n-in-loop-left-3
+    bounds-work-n-in-loop-left-3
+    overflow_sub-left
+    loop-left-smaller
+    loop-left-preserved
+    shape_of-work-after-loop-left
+    returns-after-loop-left
+    shape_of-work-then-work-n
+    returns-then-work-n)

@@ -6,79 +6,54 @@ use Rattle.hungarian_search.proofs.Applies.{apply_none, raise_asks, apply_along}
 use Rattle.hungarian_search.proofs.apply_path.Statement.{statement}
 use Rattle.hungarian_search.proofs.apply_path.Tie as tie
 
--- places of the proof, each from a later one
-abbrev entry-of-flip-arg : tie.After-flip-arg → tie.Start
-entry-of-flip-arg c = c.before.before.before.before.before.before.before.before
+enum_known-end : tie.Need-enum_known-end
+enum_known-end c = c.in-Path.keys1
 
-abbrev flip-of-raise-arg2 : tie.After-raise-arg2 → tie.After-flip
-flip-of-raise-arg2 c = c.before.before.before.before
+enum_told-1 : tie.Need-enum_told-1
+enum_told-1 c = c.in_default.keys2
 
-abbrev end-of-raise-arg2 : tie.After-raise-arg2 → tie.After-end
-end-of-raise-arg2 c = (flip-of-raise-arg2 c).before.before.before
-
-abbrev entry-of-raise-arg2 : tie.After-raise-arg2 → tie.Start
-entry-of-raise-arg2 c = entry-of-flip-arg c.before.before.before.before.before
-
-abbrev raise-arg2-of-slice-known4 : tie.After-slice-known4 → tie.After-raise-arg2
-raise-arg2-of-slice-known4 c = c.before.before.before
-
-abbrev flip-of-slice-known4 : tie.After-slice-known4 → tie.After-flip
-flip-of-slice-known4 c = flip-of-raise-arg2 (raise-arg2-of-slice-known4 c)
-
-abbrev end-of-slice-known4 : tie.After-slice-known4 → tie.After-end
-end-of-slice-known4 c = end-of-raise-arg2 (raise-arg2-of-slice-known4 c)
-
-abbrev entry-of-slice-known4 : tie.After-slice-known4 → tie.Start
-entry-of-slice-known4 c = entry-of-raise-arg2 (raise-arg2-of-slice-known4 c)
-
-enum-known-end : tie.Need-enum-known-end
-enum-known-end c = c.match.keys1
-
-enum_told : tie.Need-enum-told
-enum_told c = c.match.keys2
-
-returns : tie.Need-returns
-returns c = rw c.enum_told.given.1 (apply_none _ _ _ _ _ _ _)
+returns-in_default : tie.Need-returns-in_default
+returns-in_default c = rw c.enum_told-1.given.1 (apply_none _ _ _ _ _ _ _)
 
 flip-requires : tie.Need-flip-requires
 flip-requires c κs =
-    let pre = (entry-of-flip-arg c).requires in
-    (let y = pre.way _ _ _ (ap found_of c.before.before.end.given.1) in (y.0, (y.1, pre.few)))
+    let pre = c.requires in
+    (let y = pre.way _ _ _ (ap found_of c.end-1.given.1) in (y.0, (y.1, pre.few)))
 
 raise-requires : tie.Need-raise-requires
 raise-requires c κs =
-    let pre = (entry-of-raise-arg2 c).requires in (
-      (flip-of-raise-arg2 c).flip.auto.1.1.0 ∙ pre.size,
+    let pre = c.requires in (
+      c.flip.auto.work ∙ pre.size,
       (
         pre.room,
         raise_asks _ _ _ _ _ _ _ _ (pre) _ _ _ (ap found_of
-            (end-of-raise-arg2 c).end.given.1) _ (flip-of-raise-arg2 c).flip.ensures,
+            c.end-1.given.1) _ c.flip.ensures,
       ),
     )
 
-add-result : tie.Need-overflow-add-result
-add-result c = omega (arith, (entry-of-slice-known4 c).requires.few)
+overflow_add-result : tie.Need-overflow_add-result
+overflow_add-result c = omega (arith, c.requires.few)
 
-same_length_lem : tie.Need-same-length
-same_length_lem c = c.before.before.raise.auto.1.0
+shape_of-u : tie.Need-shape_of-u
+shape_of-u c = c.raise.auto.u
 
-same-length-2 : tie.Need-same-length-2
-same-length-2 c = (flip-of-slice-known4 c).flip.auto.1.1.0
+shape_of-work : tie.Need-shape_of-work
+shape_of-work c = c.flip.auto.work
 
-returns-2 : tie.Need-returns-2
-returns-2 c = apply_along _ _ _ _ _ _ _ _ (entry-of-slice-known4 c).requires _ _ _ (ap found_of (end-of-slice-known4 c).end.given.1) _
-    (flip-of-slice-known4 c).flip.ensures _ c.before.before.raise.ensures
+returns : tie.Need-returns
+returns-in_default c = apply_along _ _ _ _ _ _ _ _ c.requires _ _ _ (ap found_of c.end-1.given.1) _
+    c.flip.ensures _ c.raise.ensures
 
-pub apply-path-spec : {M : Type 1} → statement M
-apply-path-spec =
+pub apply_path_spec : {M : Type 1} → statement M
+apply_path_spec =
     tie.close
     (tie.spec
-    enum-known-end
-    enum_told
-    returns
+    enum_known-end
+    enum_told-1
+    returns-in_default
     flip-requires
     raise-requires
-    add-result
-    same_length_lem
-    same-length-2
-    returns-2)
+    overflow_add-result
+    shape_of-u
+    shape_of-work
+    returns)

@@ -11,54 +11,42 @@ use Rattle.hungarian_search.proofs.Standings.{standing_at, search_asks, column_p
 use Rattle.hungarian_search.proofs.columns.Statement.{statement}
 use Rattle.hungarian_search.proofs.columns.Tie as tie
 
-abbrev invariant-loop : tie.invariant-loop
-invariant-loop n col_ptr rows cost u₀ work₀ pos₀ keys₀ d₀ s₀ j₀ u work pos keys d s j =
+abbrev invariant-loop-j : tie.invariant-loop-j
+invariant-loop-j n col_ptr rows cost u₀ work₀ pos₀ keys₀ d₀ s₀ j₀ u work pos keys d s j =
     Standing (graph_of n col_ptr rows cost) u work pos keys d s j × (j ≤ n) × (length u ≡ length u₀) × (length work ≡ length work₀)
     × (length pos ≡ length pos₀) × (length keys ≡ length keys₀) × (length d ≡ length d₀)
 
-abbrev decreases-loop : tie.decreases-loop
-decreases-loop n col_ptr rows cost u₀ work₀ pos₀ keys₀ d₀ s₀ j₀ u work pos keys d s j = n - j
+abbrev decreases-loop-j : tie.decreases-loop-j
+decreases-loop-j n col_ptr rows cost u₀ work₀ pos₀ keys₀ d₀ s₀ j₀ u work pos keys d s j = n - j
 
--- places of the proof, each from a later one
-abbrev loop-of-test : tie.After-slice-known6 invariant-loop decreases-loop → tie.At-loop invariant-loop decreases-loop
-loop-of-test c = c.before.before
+loop-j-init : tie.Need-loop-j-init invariant-loop-j decreases-loop-j
+loop-j-init c = (c.requires, omega arith, refl, refl, refl, refl, refl)
 
-abbrev free : tie.After-augment-arg5 invariant-loop decreases-loop → tie.Then1 invariant-loop decreases-loop
-free c = c.before.before.before.before.before
+overflow_add-n : tie.Need-overflow_add-n invariant-loop-j decreases-loop-j
+overflow_add-n c = omega (arith, c.loop-j.invariant.0.setting.few_columns)
 
-abbrev entry-of-loop : tie.At-loop invariant-loop decreases-loop → tie.Start invariant-loop decreases-loop
-entry-of-loop c = c.before.before.before.before.before.before.before.before.before
+offset_bounds-work-n : tie.Need-offset_bounds-work-n invariant-loop-j decreases-loop-j
+offset_bounds-work-n c = omega (arith, c.loop-j.invariant.0.setting.few_columns)
 
-loop-holds : tie.Need-loop-init invariant-loop decreases-loop
-loop-holds c = (c.before.before.before.before.before.before.before.before.requires, omega arith, refl, refl, refl, refl, refl)
+bounds-work-n : tie.Need-bounds-work-n invariant-loop-j decreases-loop-j
+bounds-work-n c = omega (arith, c.loop-j-test.true, c.loop-j.inv.0.size)
 
-add-if1 : tie.Need-overflow-add-if1 invariant-loop decreases-loop
-add-if1 c = omega (arith, c.before.loop.invariant.0.setting.few_columns)
+augment-s-requires : tie.Need-augment-s-requires invariant-loop-j decreases-loop-j
+augment-s-requires c κs =
+    let stands = c.loop-j.inv.0 in
+    (search_asks _ _ _ _ _ _ _ _ stands c.loop-j-test.taken c.if-work-n.taken, stands.number)
 
-mul-if1 : tie.Need-overflow-mul-if1 invariant-loop decreases-loop
-mul-if1 c = omega (arith, c.before.loop.invariant.0.setting.few_columns)
+overflow_step-j : tie.Need-overflow_step-j invariant-loop-j decreases-loop-j
+overflow_step-j c = omega (arith, c.loop-j.inv.0.setting.few_columns)
 
-slice-read-if1 : tie.Need-slice-read-if1 invariant-loop decreases-loop
-slice-read-if1 c = omega (arith, c.before.loop-test.true, (loop-of-test c).loop.inv.0.size)
-
-augment-requires : tie.Need-augment-requires invariant-loop decreases-loop
-augment-requires c κs =
-    let test = (free c).before in
-    let stands = (loop-of-test test).loop.inv.0 in
-    (search_asks _ _ _ _ _ _ _ _ stands test.before.loop-test.taken (free c).if1.taken, stands.number)
-
-add-j : tie.Need-overflow-add-j invariant-loop decreases-loop
-add-j c = omega (arith, (loop-of-test c.before).loop.inv.0.setting.few_columns)
-
-loop-less : tie.Need-loop-smaller invariant-loop decreases-loop
-loop-less c = omega arith
+loop-j-smaller : tie.Need-loop-j-smaller invariant-loop-j decreases-loop-j
+loop-j-smaller c = omega arith
 
 -- after a search x .6 is what `augment` leaves; the last six of x, in either case, say which slices and counts go on
-loop-again : tie.Need-loop-preserved invariant-loop decreases-loop
-loop-again c =
-    let test = c.before in
-    let I = (loop-of-test test).loop.inv in
-    let below = test.before.loop-test.true in
+loop-j-preserved : tie.Need-loop-j-preserved invariant-loop-j decreases-loop-j
+loop-j-preserved c =
+    let I = c.loop-j.inv in
+    let below = c.loop-j-test.true in
     ⊎_elim (λ x. rw (x.17, x.18, x.19, x.20, x.21, x.22) (
       column_searched _ _ _ _ _ _ _ _ I.0 below x.0.taken _ _ _ _ _ _ x.6.kept.1.1.1.1.1.0 x.6.kept.1.1.1.1.1.1.0
           x.6.kept.1.1.1.1.1.1.1.0 x.6.ensures,
@@ -76,45 +64,45 @@ loop-again c =
       I.4,
       I.5,
       I.6,
-    )) c.if1.branch
+    )) c.if-work-n.branch
 
-same_length_lem : tie.Need-same-length invariant-loop decreases-loop
-same_length_lem c = c.before.loop.invariant.2
+shape_of-u : tie.Need-shape_of-u invariant-loop-j decreases-loop-j
+shape_of-u c = c.loop-j.invariant.2
 
-same-length-2 : tie.Need-same-length-2 invariant-loop decreases-loop
-same-length-2 c = c.before.loop.invariant.3
+shape_of-work : tie.Need-shape_of-work invariant-loop-j decreases-loop-j
+shape_of-work c = c.loop-j.invariant.3
 
-same-length-3 : tie.Need-same-length-3 invariant-loop decreases-loop
-same-length-3 c = c.before.loop.invariant.4
+shape_of-pos : tie.Need-shape_of-pos invariant-loop-j decreases-loop-j
+shape_of-pos c = c.loop-j.invariant.4
 
-same-length-4 : tie.Need-same-length-4 invariant-loop decreases-loop
-same-length-4 c = c.before.loop.invariant.5
+shape_of-keys : tie.Need-shape_of-keys invariant-loop-j decreases-loop-j
+shape_of-keys c = c.loop-j.invariant.5
 
-same-length-5 : tie.Need-same-length-5 invariant-loop decreases-loop
-same-length-5 c = c.before.loop.invariant.6
+shape_of-d : tie.Need-shape_of-d invariant-loop-j decreases-loop-j
+shape_of-d c = c.loop-j.invariant.6
 
-returns : tie.Need-returns invariant-loop decreases-loop
+returns : tie.Need-returns invariant-loop-j decreases-loop-j
 returns c =
-    let e : c.before.loop.j ≡ (entry-of-loop c.before).args.n = omega (arith, c.before.loop.invariant.1) in
-    standing_at e c.before.loop.invariant.0
+    let e : c.loop-j.j ≡ c.args.n = omega (arith, c.loop-j.invariant.1) in
+    standing_at e c.loop-j.invariant.0
 
 pub columns_spec : {M : Type 1} → statement M
 columns_spec =
     tie.close
     (tie.spec
-    invariant-loop
-    decreases-loop
-    loop-holds
-    add-if1
-    mul-if1
-    slice-read-if1
-    augment-requires
-    add-j
-    loop-less
-    loop-again
-    same_length_lem
-    same-length-2
-    same-length-3
-    same-length-4
-    same-length-5
+    invariant-loop-j
+    decreases-loop-j
+    loop-j-init
+    overflow_add-n
+    offset_bounds-work-n
+    bounds-work-n
+    augment-s-requires
+    overflow_step-j
+    loop-j-smaller
+    loop-j-preserved
+    shape_of-u
+    shape_of-work
+    shape_of-pos
+    shape_of-keys
+    shape_of-d
     returns)

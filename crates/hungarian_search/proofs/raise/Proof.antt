@@ -5,108 +5,90 @@ use Rattle.hungarian_search.proofs.Raises.{RaiseAt, raise_start, raise_turn, rai
 use Rattle.hungarian_search.proofs.raise.Statement.{statement}
 use Rattle.hungarian_search.proofs.raise.Tie as tie
 
-abbrev invariant-loop : tie.invariant-loop
-invariant-loop n u₀ work d popped csp p₀ u p = RaiseAt n work d popped csp u₀ u p
+abbrev invariant-loop-p : tie.invariant-loop-p
+invariant-loop-p n u₀ work d popped csp p₀ u p = RaiseAt n work d popped csp u₀ u p
 
-abbrev decreases-loop : tie.decreases-loop
-decreases-loop n u₀ work d popped csp p₀ u p = popped - p
+abbrev decreases-loop-p : tie.decreases-loop-p
+decreases-loop-p n u₀ work d popped csp p₀ u p = popped - p
 
--- places of the proof, each from a later one
-abbrev loop-of-slice-known : tie.After-slice-known invariant-loop decreases-loop → tie.At-loop invariant-loop decreases-loop
-loop-of-slice-known c = c.before.before.before
+loop-p-init : tie.Need-loop-p-init invariant-loop-p decreases-loop-p
+loop-p-init c = raise_start _ _ _ _ _ _ c.requires.fact_1 c.requires.fact_2
 
-abbrev in-loop-of-shared-slice-known2 : tie.After-shared-slice-known2 invariant-loop decreases-loop → tie.In-loop invariant-loop decreases-loop
-in-loop-of-shared-slice-known2 c = c.before.before.before
+overflow_mul-i : tie.Need-overflow_mul-i invariant-loop-p decreases-loop-p
+overflow_mul-i c = omega arith
 
-abbrev loop-of-shared-slice-known2 : tie.After-shared-slice-known2 invariant-loop decreases-loop → tie.At-loop invariant-loop decreases-loop
-loop-of-shared-slice-known2 c = loop-of-slice-known c.before
+overflow_add-i : tie.Need-overflow_add-i invariant-loop-p decreases-loop-p
+overflow_add-i c = omega arith
 
-abbrev entry-of-shared-slice-known2 : tie.After-shared-slice-known2 invariant-loop decreases-loop → tie.Start invariant-loop decreases-loop
-entry-of-shared-slice-known2 c = (loop-of-shared-slice-known2 c).before
+offset_bounds-work-n : tie.Need-offset_bounds-work-n invariant-loop-p decreases-loop-p
+offset_bounds-work-n c = omega arith
 
-loop-holds : tie.Need-loop-init invariant-loop decreases-loop
-loop-holds c = raise_start _ _ _ _ _ _ c.requires.0 c.requires.1.0
+bounds-work-n : tie.Need-bounds-work-n invariant-loop-p decreases-loop-p
+bounds-work-n c = omega arith
 
-mul-i : tie.Need-overflow-mul-i invariant-loop decreases-loop
-mul-i c = omega arith
+overflow_cast-i : tie.Need-overflow_cast-i invariant-loop-p decreases-loop-p
+overflow_cast-i c = omega (arith, c.requires.fact_3 c.loop-p.p c.loop-p-test.true, c.loop-p.invariant.long)
 
-add-i : tie.Need-overflow-add-i invariant-loop decreases-loop
-add-i c = omega arith
+offset_bounds-u-i : tie.Need-offset_bounds-u-i invariant-loop-p decreases-loop-p
+offset_bounds-u-i c = omega (arith, c.requires.fact_3 c.loop-p.p c.loop-p-test.true, c.loop-p.invariant.long)
 
-mul-i-2 : tie.Need-overflow-mul-i-2 invariant-loop decreases-loop
-mul-i-2 c = omega arith
+bounds-u-i : tie.Need-bounds-u-i invariant-loop-p decreases-loop-p
+bounds-u-i c =
+    omega (arith, c.requires.fact_3 c.loop-p.p c.loop-p-test.true, c.loop-p.inv.long)
 
-shared-slice-read-i : tie.Need-shared-slice-read-i invariant-loop decreases-loop
-shared-slice-read-i c = omega arith
+offset_bounds-d-i : tie.Need-offset_bounds-d-i invariant-loop-p decreases-loop-p
+offset_bounds-d-i c =
+    omega (arith, c.requires.fact_3 c.loop-p.p c.loop-p-test.true, c.loop-p.inv.long)
 
-cast-i : tie.Need-overflow-cast-i invariant-loop decreases-loop
-cast-i c = omega (arith, c.before.before.before.requires.1.1 c.before.before.loop.p c.before.loop-test.true, c.before.before.loop.invariant.long)
+bounds-d-i : tie.Need-bounds-d-i invariant-loop-p decreases-loop-p
+bounds-d-i c =
+    omega (arith, c.requires.fact_3 c.loop-p.p c.loop-p-test.true, c.loop-p.inv.long)
 
-mul-u : tie.Need-overflow-mul-u invariant-loop decreases-loop
-mul-u c = omega (arith, c.before.before.before.requires.1.1 c.before.before.loop.p c.before.loop-test.true, c.before.before.loop.invariant.long)
+offset_bounds-u-i-in-loop-p : tie.Need-offset_bounds-u-i-in-loop-p invariant-loop-p decreases-loop-p
+offset_bounds-u-i-in-loop-p c =
+    omega (arith, c.requires.fact_3 c.loop-p.p c.loop-p-test.true, c.loop-p.inv.long)
 
-slice-read-u : tie.Need-slice-read-u invariant-loop decreases-loop
-slice-read-u c =
-    let loop = loop-of-slice-known c in
-    omega (arith, (loop-of-slice-known c).before.requires.1.1 loop.loop.p c.before.before.loop-test.true, loop.loop.inv.long)
+bounds-u-i-in-loop-p : tie.Need-bounds-u-i-in-loop-p invariant-loop-p decreases-loop-p
+bounds-u-i-in-loop-p c =
+    omega (arith, c.requires.fact_3 c.loop-p.p c.loop-p-test.true, c.loop-p.inv.long)
 
-mul-u-2 : tie.Need-overflow-mul-u-2 invariant-loop decreases-loop
-mul-u-2 c =
-    let loop = loop-of-slice-known c in
-    omega (arith, (loop-of-slice-known c).before.requires.1.1 loop.loop.p c.before.before.loop-test.true, loop.loop.inv.long)
+overflow_add-p : tie.Need-overflow_add-p invariant-loop-p decreases-loop-p
+overflow_add-p c = omega arith
 
-shared-slice-read-u : tie.Need-shared-slice-read-u invariant-loop decreases-loop
-shared-slice-read-u c =
-    let loop = loop-of-shared-slice-known2 c in
-    omega (arith, (entry-of-shared-slice-known2 c).requires.1.1 loop.loop.p (in-loop-of-shared-slice-known2 c).loop-test.true, loop.loop.inv.long)
+loop-p-smaller : tie.Need-loop-p-smaller invariant-loop-p decreases-loop-p
+loop-p-smaller c = omega arith
 
-mul-u-3 : tie.Need-overflow-mul-u-3 invariant-loop decreases-loop
-mul-u-3 c =
-    let loop = loop-of-shared-slice-known2 c in
-    omega (arith, (entry-of-shared-slice-known2 c).requires.1.1 loop.loop.p (in-loop-of-shared-slice-known2 c).loop-test.true, loop.loop.inv.long)
+loop-p-preserved : tie.Need-loop-p-preserved invariant-loop-p decreases-loop-p
+loop-p-preserved c =
+    let pre = c.requires in
+    raise_turn _ _ _ _ _ _ pre.fact_1 pre.fact_2 _ _ c.loop-p.invariant c.loop-p-test.true
 
-slice-write-u : tie.Need-slice-write-u invariant-loop decreases-loop
-slice-write-u c =
-    let loop = loop-of-shared-slice-known2 c in
-    omega (arith, (entry-of-shared-slice-known2 c).requires.1.1 loop.loop.p (in-loop-of-shared-slice-known2 c).loop-test.true, loop.loop.inv.long)
+shape_of-u : tie.Need-shape_of-u invariant-loop-p decreases-loop-p
+shape_of-u c = c.loop-p.invariant.long
 
-add-p : tie.Need-overflow-add-p invariant-loop decreases-loop
-add-p c = omega arith
+returns : tie.Need-returns invariant-loop-p decreases-loop-p
+returns c = raise_end _ _ _ _ _ _ c.requires.fact_1 c.requires.fact_2 _ _ c.loop-p.invariant c.loop-p-test.false
 
-loop-less : tie.Need-loop-smaller invariant-loop decreases-loop
-loop-less c = omega arith
-
-loop-again : tie.Need-loop-preserved invariant-loop decreases-loop
-loop-again c =
-    let pre = (entry-of-shared-slice-known2 c).requires in
-    raise_turn _ _ _ _ _ _ pre.0 pre.1.0 _ _ (loop-of-shared-slice-known2 c).loop.invariant (in-loop-of-shared-slice-known2 c).loop-test.true
-
-same_length_lem : tie.Need-same-length invariant-loop decreases-loop
-same_length_lem c = c.before.loop.invariant.long
-
-returns : tie.Need-returns invariant-loop decreases-loop
-returns c = raise_end _ _ _ _ _ _ c.before.before.requires.0 c.before.before.requires.1.0 _ _ c.before.loop.invariant c.loop-test.false
-
-pub raise-spec : {M : Type 1} → statement M
-raise-spec =
+pub raise_spec : {M : Type 1} → statement M
+raise_spec =
     tie.close
     (tie.spec
-    invariant-loop
-    decreases-loop
-    loop-holds
-    mul-i
-    add-i
-    mul-i-2
-    shared-slice-read-i
-    cast-i
-    mul-u
-    slice-read-u
-    mul-u-2
-    shared-slice-read-u
-    mul-u-3
-    slice-write-u
-    add-p
-    loop-less
-    loop-again
-    same_length_lem
+    invariant-loop-p
+    decreases-loop-p
+    loop-p-init
+    overflow_mul-i
+    overflow_add-i
+    offset_bounds-work-n
+    bounds-work-n
+    overflow_cast-i
+    offset_bounds-u-i
+    bounds-u-i
+    offset_bounds-d-i
+    bounds-d-i
+    offset_bounds-u-i-in-loop-p
+    bounds-u-i-in-loop-p
+    overflow_add-p
+    loop-p-smaller
+    loop-p-preserved
+    shape_of-u
     returns)

@@ -19,15 +19,20 @@ add-test : (b : Bool) (m : ℕ) → m + bool_byte b ≡ cond b (m + 1) m
 add-test true m = refl
 add-test false m = omega arith
 
-cast-result : tie.Need-overflow-cast-result
-cast-result c = tt
+overflow_cast-result : tie.Need-overflow_cast-result
+overflow_cast-result c = tt
 
-add-result : tie.Need-overflow-add-result
-add-result c = search fits-test
+overflow_add-result : tie.Need-overflow_add-result
+overflow_add-result c = search fits-test
 
 returns : tie.Need-returns
 unfolding chosen
 returns c = let a = c.args in add-test (ltb a.left a.len && lt a.y a.x) a.left
 
-pub chosen-spec : {M : Type 1} → statement M
-chosen-spec = tie.close (tie.spec cast-result add-result returns)
+pub chosen_spec : {M : Type 1} → statement M
+chosen_spec =
+    tie.close
+    (tie.spec
+    overflow_cast-result
+    overflow_add-result
+    returns)

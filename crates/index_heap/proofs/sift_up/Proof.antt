@@ -9,157 +9,150 @@ use Rattle.index_heap.proofs.Steps.{Rising, rising_start, rising_ranges, rising_
 use Rattle.index_heap.proofs.sift_up.Statement.{statement}
 use Rattle.index_heap.proofs.sift_up.Tie as tie
 
-abbrev invariant-loop : tie.invariant-loop
-invariant-loop heap₀ pos₀ keys₀ i x place p₀ heap pos keys p = Rising (length pos₀) i x place heap₀ pos₀ keys₀ heap pos keys p
+abbrev invariant-loop-p : tie.invariant-loop-p
+invariant-loop-p heap₀ pos₀ keys₀ i x place p₀ heap pos keys p = Rising (length pos₀) i x place heap₀ pos₀ keys₀ heap pos keys p
 
-abbrev decreases-loop : tie.decreases-loop
-decreases-loop heap₀ pos₀ keys₀ i x place p₀ heap pos keys p = p
-
--- places of the proof, each from a later one
-abbrev in-loop-of-slice-known2 : tie.After-slice-known2 invariant-loop decreases-loop → tie.In-loop invariant-loop decreases-loop
-in-loop-of-slice-known2 c = c.before.before.before
-
-abbrev loop-of-slice-known2 : tie.After-slice-known2 invariant-loop decreases-loop → tie.At-loop invariant-loop decreases-loop
-loop-of-slice-known2 c = (in-loop-of-slice-known2 c).before
+abbrev decreases-loop-p : tie.decreases-loop-p
+decreases-loop-p heap₀ pos₀ keys₀ i x place p₀ heap pos keys p = p
 
 -- the place and the lengths are in range
-ranges : (c : tie.At-loop invariant-loop decreases-loop) →
-    let n = length c.before.args.pos.now in
-    (c.loop.p ≤ n) × (length c.loop.heap ≡ n + 1) × (length c.loop.pos ≡ n) × (length c.loop.keys ≡ n) × (n < 2 ^ 32)
-ranges c = rising_ranges _ _ _ _ _ _ _ c.before.requires.1.1.1 _ _ _ _ c.loop.invariant
+ranges : (c : tie.At-loop-p invariant-loop-p decreases-loop-p) →
+    let n = length c.args.pos.now in
+    (c.loop-p.p ≤ n) × (length c.loop-p.heap ≡ n + 1) × (length c.loop-p.pos ≡ n) × (length c.loop-p.keys ≡ n) × (n < 2 ^ 32)
+ranges c = rising_ranges _ _ _ _ _ _ _ c.requires.fact_4 _ _ _ _ c.loop-p.invariant
 
-parent_in : (c : tie.In-loop invariant-loop decreases-loop) → get_or c.before.loop.heap (c.before.loop.p / 2) 0 < length c.before.before.args.pos.now
-parent_in c = parent_row _ _ _ _ _ _ _ c.before.before.requires.1.1.1 _ _ _ _ c.before.loop.invariant c.loop-test.true
+parent_in : (c : tie.In-loop-p invariant-loop-p decreases-loop-p) → get_or c.loop-p.heap (c.loop-p.p / 2) 0 < length c.args.pos.now
+parent_in c = parent_row _ _ _ _ _ _ _ c.requires.fact_4 _ _ _ _ c.loop-p.invariant c.loop-p-test.true
 
-loop-holds : tie.Need-loop-init invariant-loop decreases-loop
-loop-holds c = rising_start _ _ _ _ _ _ _ c.requires.1.1.1 c.requires.0 c.requires.1.1.0
+loop-p-init : tie.Need-loop-p-init invariant-loop-p decreases-loop-p
+loop-p-init c = rising_start _ _ _ _ _ _ _ c.requires.fact_4 c.requires.fact_1 c.requires.fact_3
 
-sub-above : tie.Need-overflow-sub-above invariant-loop decreases-loop
-sub-above c = omega arith
+overflow_sub-above : tie.Need-overflow_sub-above invariant-loop-p decreases-loop-p
+overflow_sub-above c = omega arith
 
-mul-above : tie.Need-overflow-mul-above invariant-loop decreases-loop
-mul-above c = omega (arith, ranges c.before)
+offset_bounds-keys-up : tie.Need-offset_bounds-keys-up invariant-loop-p decreases-loop-p
+offset_bounds-keys-up c = omega (arith, ranges c.before)
 
-slice-read-above : tie.Need-slice-read-above invariant-loop decreases-loop
-slice-read-above c = omega (arith, ranges c.before.before)
+bounds-keys-up : tie.Need-bounds-keys-up invariant-loop-p decreases-loop-p
+bounds-keys-up c = omega (arith, ranges c.before.before)
 
-mul-parent : tie.Need-overflow-mul-parent invariant-loop decreases-loop
-mul-parent c = omega (arith, ranges c.before.before.before)
+offset_bounds-heap-up : tie.Need-offset_bounds-heap-up invariant-loop-p decreases-loop-p
+offset_bounds-heap-up c = omega (arith, ranges c.before.before.before)
 
-slice-read-parent : tie.Need-slice-read-parent invariant-loop decreases-loop
-slice-read-parent c = omega (arith, ranges (loop-of-slice-known2 c))
+bounds-heap-up : tie.Need-bounds-heap-up invariant-loop-p decreases-loop-p
+bounds-heap-up c = omega (arith, ranges c.before.before.before.before)
 
-cast-parent : tie.Need-overflow-cast-parent invariant-loop decreases-loop
-cast-parent c = omega (arith, ranges (loop-of-slice-known2 c), parent_in (in-loop-of-slice-known2 c))
+overflow_cast-parent : tie.Need-overflow_cast-parent invariant-loop-p decreases-loop-p
+overflow_cast-parent c = omega (arith, ranges c.before.before.before.before, parent_in c.before.before.before)
 
-cast-heap : tie.Need-overflow-cast-heap invariant-loop decreases-loop
-cast-heap c = omega (arith, ranges (loop-of-slice-known2 c), parent_in (in-loop-of-slice-known2 c))
+overflow_cast-heap : tie.Need-overflow_cast-heap invariant-loop-p decreases-loop-p
+overflow_cast-heap c = omega (arith, ranges c.before.before.before.before, parent_in c.before.before.before)
 
-mul-heap : tie.Need-overflow-mul-heap invariant-loop decreases-loop
-mul-heap c = omega (arith, ranges (loop-of-slice-known2 c))
+offset_bounds-heap-p : tie.Need-offset_bounds-heap-p invariant-loop-p decreases-loop-p
+offset_bounds-heap-p c = omega (arith, ranges c.before.before.before.before)
 
-slice-write-heap : tie.Need-slice-write-heap invariant-loop decreases-loop
-slice-write-heap c = omega (arith, ranges (loop-of-slice-known2 c))
+bounds-heap-p : tie.Need-bounds-heap-p invariant-loop-p decreases-loop-p
+bounds-heap-p c = omega (arith, ranges c.before.before.before.before)
 
-cast-pos : tie.Need-overflow-cast-pos invariant-loop decreases-loop
-cast-pos c = omega (arith, ranges (loop-of-slice-known2 c))
+overflow_cast-pos : tie.Need-overflow_cast-pos invariant-loop-p decreases-loop-p
+overflow_cast-pos c = omega (arith, ranges c.before.before.before.before)
 
-mul-pos : tie.Need-overflow-mul-pos invariant-loop decreases-loop
-mul-pos c = omega (arith, ranges (loop-of-slice-known2 c), parent_in (in-loop-of-slice-known2 c))
+offset_bounds-pos-parent : tie.Need-offset_bounds-pos-parent invariant-loop-p decreases-loop-p
+offset_bounds-pos-parent c = omega (arith, ranges c.before.before.before.before, parent_in c.before.before.before)
 
-slice-write-pos : tie.Need-slice-write-pos invariant-loop decreases-loop
-slice-write-pos c = omega (arith, ranges (loop-of-slice-known2 c), parent_in (in-loop-of-slice-known2 c))
+bounds-pos-parent : tie.Need-bounds-pos-parent invariant-loop-p decreases-loop-p
+bounds-pos-parent c = omega (arith, ranges c.before.before.before.before, parent_in c.before.before.before)
 
-sub-keys : tie.Need-overflow-sub-keys invariant-loop decreases-loop
-sub-keys c = omega arith
+overflow_sub-keys : tie.Need-overflow_sub-keys invariant-loop-p decreases-loop-p
+overflow_sub-keys c = omega arith
 
-mul-keys : tie.Need-overflow-mul-keys invariant-loop decreases-loop
-mul-keys c = omega (arith, ranges (loop-of-slice-known2 c))
+offset_bounds-keys-p : tie.Need-offset_bounds-keys-p invariant-loop-p decreases-loop-p
+offset_bounds-keys-p c = omega (arith, ranges c.before.before.before.before)
 
-slice-write-keys : tie.Need-slice-write-keys invariant-loop decreases-loop
-slice-write-keys c = omega (arith, ranges (loop-of-slice-known2 c))
+bounds-keys-p : tie.Need-bounds-keys-p invariant-loop-p decreases-loop-p
+bounds-keys-p c = omega (arith, ranges c.before.before.before.before)
 
-loop-less : tie.Need-loop-smaller invariant-loop decreases-loop
-loop-less c = omega arith
+loop-p-smaller : tie.Need-loop-p-smaller invariant-loop-p decreases-loop-p
+loop-p-smaller c = omega arith
 
-loop-again : tie.Need-loop-preserved invariant-loop decreases-loop
-loop-again c = rising_turn _ _ _ _ _ _ _ (loop-of-slice-known2 c).before.requires.1.1.1 _ _ _ _ (loop-of-slice-known2 c).loop.invariant
-    (in-loop-of-slice-known2 c).loop-test.true c.before.if1.false
+loop-p-preserved : tie.Need-loop-p-preserved invariant-loop-p decreases-loop-p
+loop-p-preserved c = rising_turn _ _ _ _ _ _ _ c.requires.fact_4 _ _ _ _ c.loop-p.invariant
+    c.loop-p-test.true c.if-x-above.false
 
-cast-heap-2 : tie.Need-overflow-cast-heap-2 invariant-loop decreases-loop
-cast-heap-2 c = omega (arith, ranges c.before, c.before.before.requires)
+overflow_cast-heap-2 : tie.Need-overflow_cast-heap-2 invariant-loop-p decreases-loop-p
+overflow_cast-heap-2 c = omega (arith, ranges c.before, c.requires)
 
-mul-heap-2 : tie.Need-overflow-mul-heap-2 invariant-loop decreases-loop
-mul-heap-2 c = omega (arith, ranges c.before)
+offset_bounds-heap-p-2 : tie.Need-offset_bounds-heap-p-2 invariant-loop-p decreases-loop-p
+offset_bounds-heap-p-2 c = omega (arith, ranges c.before)
 
-slice-write-heap-2 : tie.Need-slice-write-heap-2 invariant-loop decreases-loop
-slice-write-heap-2 c = omega (arith, ranges c.before)
+bounds-heap-p-2 : tie.Need-bounds-heap-p-2 invariant-loop-p decreases-loop-p
+bounds-heap-p-2 c = omega (arith, ranges c.before)
 
-cast-pos-2 : tie.Need-overflow-cast-pos-2 invariant-loop decreases-loop
-cast-pos-2 c = omega (arith, ranges c.before)
+overflow_cast-pos-2 : tie.Need-overflow_cast-pos-2 invariant-loop-p decreases-loop-p
+overflow_cast-pos-2 c = omega (arith, ranges c.before)
 
-mul-pos-2 : tie.Need-overflow-mul-pos-2 invariant-loop decreases-loop
-mul-pos-2 c = omega (arith, ranges c.before, c.before.before.requires)
+offset_bounds-pos-i : tie.Need-offset_bounds-pos-i invariant-loop-p decreases-loop-p
+offset_bounds-pos-i c = omega (arith, ranges c.before, c.requires)
 
-slice-write-pos-2 : tie.Need-slice-write-pos-2 invariant-loop decreases-loop
-slice-write-pos-2 c = omega (arith, ranges c.before, c.before.before.requires)
+bounds-pos-i : tie.Need-bounds-pos-i invariant-loop-p decreases-loop-p
+bounds-pos-i c = omega (arith, ranges c.before, c.requires)
 
-sub-keys-2 : tie.Need-overflow-sub-keys-2 invariant-loop decreases-loop
-sub-keys-2 c = omega (arith, c.before.loop.invariant.positive)
+overflow_sub-keys-2 : tie.Need-overflow_sub-keys-2 invariant-loop-p decreases-loop-p
+overflow_sub-keys-2 c = omega (arith, c.loop-p.invariant.positive)
 
-mul-keys-2 : tie.Need-overflow-mul-keys-2 invariant-loop decreases-loop
-mul-keys-2 c = omega (arith, ranges c.before, c.before.loop.invariant.positive)
+offset_bounds-keys-p-2 : tie.Need-offset_bounds-keys-p-2 invariant-loop-p decreases-loop-p
+offset_bounds-keys-p-2 c = omega (arith, ranges c.before, c.loop-p.invariant.positive)
 
-slice-write-keys-2 : tie.Need-slice-write-keys-2 invariant-loop decreases-loop
-slice-write-keys-2 c = omega (arith, ranges c.before, c.before.loop.invariant.positive)
+bounds-keys-p-2 : tie.Need-bounds-keys-p-2 invariant-loop-p decreases-loop-p
+bounds-keys-p-2 c = omega (arith, ranges c.before, c.loop-p.invariant.positive)
 
-same_length_lem : tie.Need-same-length invariant-loop decreases-loop
-same_length_lem c = simp length-set (c.before.loop.invariant.ready.places ∙ sym c.before.before.requires.0.places)
+shape_of-heap : tie.Need-shape_of-heap invariant-loop-p decreases-loop-p
+shape_of-heap c = simp length-set (c.loop-p.invariant.ready.places ∙ sym c.requires.fact_1.places)
 
-same-length-2 : tie.Need-same-length-2 invariant-loop decreases-loop
-same-length-2 c = simp length-set c.before.loop.invariant.ready.room
+shape_of-pos : tie.Need-shape_of-pos invariant-loop-p decreases-loop-p
+shape_of-pos c = simp length-set c.loop-p.invariant.ready.room
 
-same-length-3 : tie.Need-same-length-3 invariant-loop decreases-loop
-same-length-3 c = simp length-set (c.before.loop.invariant.ready.keyed ∙ sym c.before.before.requires.0.keyed)
+shape_of-keys : tie.Need-shape_of-keys invariant-loop-p decreases-loop-p
+shape_of-keys c = simp length-set (c.loop-p.invariant.ready.keyed ∙ sym c.requires.fact_1.keyed)
 
-returns : tie.Need-returns invariant-loop decreases-loop
-returns c = rising_end _ _ _ _ _ _ _ c.before.before.requires.1.1.1 _ _ _ _ c.before.loop.invariant
-    (⊎_elim (λ t. inl t.left) (λ t. inr t.2.taken) c.loop-test.branch)
+returns : tie.Need-returns invariant-loop-p decreases-loop-p
+returns c = rising_end _ _ _ _ _ _ _ c.requires.fact_4 _ _ _ _ c.loop-p.invariant
+    (⊎_elim (λ t. inl t.left) (λ t. inr t.2.taken) c.loop-p-test.branch)
 
-pub sift-up-spec : {M : Type 1} → statement M
-sift-up-spec =
+pub sift_up_spec : {M : Type 1} → statement M
+sift_up_spec =
     tie.close
     (tie.spec
-    invariant-loop
-    decreases-loop
-    loop-holds
-    sub-above
-    mul-above
-    slice-read-above
-    mul-parent
-    slice-read-parent
-    cast-parent
-    cast-heap
-    mul-heap
-    slice-write-heap
-    cast-pos
-    mul-pos
-    slice-write-pos
-    sub-keys
-    mul-keys
-    slice-write-keys
-    loop-less
-    loop-again
-    cast-heap-2
-    mul-heap-2
-    slice-write-heap-2
-    cast-pos-2
-    mul-pos-2
-    slice-write-pos-2
-    sub-keys-2
-    mul-keys-2
-    slice-write-keys-2
-    same_length_lem
-    same-length-2
-    same-length-3
+    invariant-loop-p
+    decreases-loop-p
+    loop-p-init
+    overflow_sub-above
+    offset_bounds-keys-up
+    bounds-keys-up
+    offset_bounds-heap-up
+    bounds-heap-up
+    overflow_cast-parent
+    overflow_cast-heap
+    offset_bounds-heap-p
+    bounds-heap-p
+    overflow_cast-pos
+    offset_bounds-pos-parent
+    bounds-pos-parent
+    overflow_sub-keys
+    offset_bounds-keys-p
+    bounds-keys-p
+    loop-p-smaller
+    loop-p-preserved
+    overflow_cast-heap-2
+    offset_bounds-heap-p-2
+    bounds-heap-p-2
+    overflow_cast-pos-2
+    offset_bounds-pos-i
+    bounds-pos-i
+    overflow_sub-keys-2
+    offset_bounds-keys-p-2
+    bounds-keys-p-2
+    shape_of-heap
+    shape_of-pos
+    shape_of-keys
     returns)

@@ -1,46 +1,43 @@
 -- `index_heap::update` meets its contract: the place that it reads is the row's, and `sift_up` does the rest.
+use Rattle.std.proofs.Common.{rules}
 use borrow.Author.Rules.{rules}
 use Rattle.index_heap.proofs.Steps.{update_done}
 use Rattle.index_heap.proofs.update.Statement.{statement}
 use Rattle.index_heap.proofs.update.Tie as tie
 
--- places of the proof, each from a later one
-abbrev sift-up-of-slice-known7 : tie.After-slice-known7 → tie.After-sift-up
-sift-up-of-slice-known7 c = c.before.before.before.before.before.before
+offset_bounds-pos-i : tie.Need-offset_bounds-pos-i
+offset_bounds-pos-i c = search rules
 
-mul-place : tie.Need-overflow-mul-place
-mul-place c = search rules
+bounds-pos-i : tie.Need-bounds-pos-i
+bounds-pos-i c = search rules
 
-slice-read-place : tie.Need-slice-read-place
-slice-read-place c = search rules
+overflow_cast-place : tie.Need-overflow_cast-place
+overflow_cast-place c = search rules
 
-cast-place : tie.Need-overflow-cast-place
-cast-place c = search rules
+sift_up-requires : tie.Need-sift_up-requires
+sift_up-requires c κs = search rules
 
-sift-up-requires : tie.Need-sift-up-requires
-sift-up-requires c κs = search rules
+shape_of-heap : tie.Need-shape_of-heap
+shape_of-heap c = search rules
 
-same_length_lem : tie.Need-same-length
-same_length_lem c = search rules
+shape_of-pos : tie.Need-shape_of-pos
+shape_of-pos c = search rules
 
-same-length-2 : tie.Need-same-length-2
-same-length-2 c = search rules
-
-same-length-3 : tie.Need-same-length-3
-same-length-3 c = search rules
+shape_of-keys : tie.Need-shape_of-keys
+shape_of-keys c = search rules
 
 returns : tie.Need-returns
-returns c = update_done _ _ _ _ _ _ _ _ (sift-up-of-slice-known7 c).sift-up.ensures
+returns c = update_done _ _ _ _ _ _ _ _ c.sift_up.ensures
 
-pub update-spec : {M : Type 1} → statement M
-update-spec =
+pub update_spec : {M : Type 1} → statement M
+update_spec =
     tie.close
     (tie.spec
-    mul-place
-    slice-read-place
-    cast-place
-    sift-up-requires
-    same_length_lem
-    same-length-2
-    same-length-3
+    offset_bounds-pos-i
+    bounds-pos-i
+    overflow_cast-place
+    sift_up-requires
+    shape_of-heap
+    shape_of-pos
+    shape_of-keys
     returns)

@@ -1,4 +1,5 @@
 -- `compute_onepass` meets its contract: a fault is refused with nothing changed; the tests establish what the steps require.
+use Rattle.std.proofs.Common.{rules}
 use mathlib.Core.Path.{refl, sym, ◌∙◌}
 use Rattle.sparse.specs.Matrix.{matrix}
 use Rattle.infnorm.specs.Call.{lengths_fit}
@@ -9,82 +10,63 @@ use borrow.Author.Rules.{rules}
 use Rattle.infnorm.proofs.compute_onepass.Statement.{statement}
 use Rattle.infnorm.proofs.compute_onepass.Tie as tie
 
--- places of the proof, each from a later one
-abbrev entry-of-lengths-fit : tie.After-lengths-fit → tie.Start
-entry-of-lengths-fit c = c.before.before.before.before.before.before
+lengths_fit-lengths-requires : tie.Need-lengths_fit-lengths-requires
+lengths_fit-lengths-requires c κs = search rules
 
-abbrev entry-of-value-maxima-arg : tie.After-value-maxima-arg → tie.Start
-entry-of-value-maxima-arg c = entry-of-lengths-fit c.before.before.before
+input_fault-fault-requires : tie.Need-input_fault-fault-requires
+input_fault-fault-requires c κs = search rules
 
-abbrev value-maxima-of-slice-known3 : tie.After-slice-known3 → tie.After-value-maxima
-value-maxima-of-slice-known3 c = c.before.before.before.before.before.before
+shape_of-factors-then-fault-ne-ACCEPTED : tie.Need-shape_of-factors-then-fault-ne-ACCEPTED
+shape_of-factors-then-fault-ne-ACCEPTED c = search rules
 
-abbrev else1-of-slice-known3 : tie.After-slice-known3 → tie.Else1
-else1-of-slice-known3 c = (value-maxima-of-slice-known3 c).before.before
-
-abbrev lengths-fit-of-slice-known3 : tie.After-slice-known3 → tie.After-lengths-fit
-lengths-fit-of-slice-known3 c = (else1-of-slice-known3 c).before.before
-
-abbrev entry-of-slice-known3 : tie.After-slice-known3 → tie.Start
-entry-of-slice-known3 c = entry-of-lengths-fit (lengths-fit-of-slice-known3 c)
-
-lengths-fit-requires : tie.Need-lengths-fit-requires
-lengths-fit-requires c κs = search rules
-
-input-fault-requires : tie.Need-input-fault-requires
-input-fault-requires c κs = search rules
-
-same_length_lem : tie.Need-same-length
-same_length_lem c = search rules
-
-returns : tie.Need-returns
-returns c =
-    let args = (entry-of-lengths-fit c.before.before).args in
-    onepass_promised (matrix args.n args.col-ptr.now args.row-idx.now args.values.now) args.factors.now (refused_is c.if1.true)
+returns-then-fault-ne-ACCEPTED : tie.Need-returns-then-fault-ne-ACCEPTED
+returns-then-fault-ne-ACCEPTED c =
+    let args = c.args in
+    onepass_promised (matrix args.n args.col-ptr.now args.row-idx.now args.values.now) args.factors.now (refused_is c.if-fault-ne-ACCEPTED.true)
     (onepass_refused (matrix args.n args.col-ptr.now args.row-idx.now args.values.now) args.factors.now
     (onepass_fault_lem (matrix args.n args.col-ptr.now args.row-idx.now args.values.now) args.factors.now
-    c.before.input-fault.ensures c.before.before.lengths_fit_lem.ensures) c.if1.true)
+    c.input_fault-fault.ensures c.lengths_fit-lengths.ensures) c.if-fault-ne-ACCEPTED.true)
 
-value-maxima-requires : tie.Need-value-maxima-requires
-value-maxima-requires c κs =
-    let args = (entry-of-value-maxima-arg c).args in
-    let lengths_fit_lem = c.before.before.before in (
+value_maxima-requires : tie.Need-value_maxima-requires
+value_maxima-requires c κs =
+    let args = c.args in
+    (
       matrix_accepted (matrix args.n args.col-ptr.now args.row-idx.now args.values.now)
           (lengths_fit (matrix args.n args.col-ptr.now args.row-idx.now args.values.now) args.factors.now)
           (sym (onepass_fault_lem (matrix args.n args.col-ptr.now args.row-idx.now args.values.now) args.factors.now
-          c.before.before.input-fault.ensures lengths_fit_lem.lengths_fit_lem.ensures) ∙ c.before.if1.false),
+          c.input_fault-fault.ensures c.lengths_fit-lengths.ensures) ∙ c.if-fault-ne-ACCEPTED.false),
       onepass_room
           (matrix args.n args.col-ptr.now args.row-idx.now args.values.now) args.factors.now
           (sym (onepass_fault_lem (matrix args.n args.col-ptr.now args.row-idx.now args.values.now) args.factors.now
-          c.before.before.input-fault.ensures lengths_fit_lem.lengths_fit_lem.ensures) ∙ c.before.if1.false),
+          c.input_fault-fault.ensures c.lengths_fit-lengths.ensures) ∙ c.if-fault-ne-ACCEPTED.false),
     )
 
-scale-rows-requires : tie.Need-scale-rows-requires
-scale-rows-requires c κs = search rules
+scale_rows-requires : tie.Need-scale_rows-requires
+scale_rows-requires c κs = search rules
 
-same-length-2 : tie.Need-same-length-2
-same-length-2 c = search rules
+shape_of-factors : tie.Need-shape_of-factors
+shape_of-factors c = search rules
 
-returns-2 : tie.Need-returns-2
-returns-2 c =
-    let args = (entry-of-slice-known3 c).args in
+returns : tie.Need-returns
+returns-then-fault-ne-ACCEPTED c =
+    let args = c.args in
     onepass_promised (matrix args.n args.col-ptr.now args.row-idx.now args.values.now) args.factors.now (accepted_is refl)
     (onepass_done (matrix args.n args.col-ptr.now args.row-idx.now args.values.now) args.factors.now
     (sym (onepass_fault_lem (matrix args.n args.col-ptr.now args.row-idx.now args.values.now) args.factors.now
-    (else1-of-slice-known3 c).before.input-fault.ensures
-    (lengths-fit-of-slice-known3 c).lengths_fit_lem.ensures) ∙
-    (else1-of-slice-known3 c).if1.false)
-    (value-maxima-of-slice-known3 c).value-maxima.ensures c.before.before.scale-rows.ensures)
+    c.input_fault-fault.ensures
+    c.lengths_fit-lengths.ensures) ∙
+    c.if-fault-ne-ACCEPTED.false)
+    c.value_maxima.ensures c.scale_rows.ensures)
 
-pub compute-onepass-spec : {M : Type 1} → statement M
-compute-onepass-spec =
+pub compute_onepass_spec : {M : Type 1} → statement M
+compute_onepass_spec =
     tie.close
     (tie.spec
-    lengths-fit-requires
-    input-fault-requires
-    same_length_lem
-    returns
-    value-maxima-requires
-    scale-rows-requires
-    same-length-2
-    returns-2)
+    lengths_fit-lengths-requires
+    input_fault-fault-requires
+    shape_of-factors-then-fault-ne-ACCEPTED
+    returns-then-fault-ne-ACCEPTED
+    value_maxima-requires
+    scale_rows-requires
+    shape_of-factors
+    returns)

@@ -11,97 +11,92 @@ use Rattle.infnorm_blocks.proofs.Rows.{rows_next, rows_to, root_there}
 use Rattle.infnorm_blocks.proofs.scale_block.Statement.{statement}
 use Rattle.infnorm_blocks.proofs.scale_block.Tie as tie
 
-abbrev invariant-loop : tie.invariant-loop
-invariant-loop maxima₀ from roots i₀ maxima i = (i ≤ 16) × (from + 16 ≤ length maxima₀) × (length roots ≡ 16) × (length maxima ≡ length maxima₀)
+abbrev invariant-loop-i : tie.invariant-loop-i
+invariant-loop-i maxima₀ from roots i₀ maxima i = (i ≤ 16) × (from + 16 ≤ length maxima₀) × (length roots ≡ 16) × (length maxima ≡ length maxima₀)
     × Roots maxima₀ from roots 16
     × ((j : ℕ) → from + i ≤ j → get_or maxima j nan ≡ get_or maxima₀ j nan) × ScaledRows maxima₀ from maxima (from + i)
 
-abbrev decreases-loop : tie.decreases-loop
-decreases-loop maxima₀ from roots i₀ maxima i = 16 - i
+abbrev decreases-loop-i : tie.decreases-loop-i
+decreases-loop-i maxima₀ from roots i₀ maxima i = 16 - i
 
--- places of the proof, each from a later one
-abbrev loop-of-inv-sqrt-scale-guarded : tie.After-inv-sqrt-scale-guarded invariant-loop decreases-loop → tie.At-loop invariant-loop decreases-loop
-loop-of-inv-sqrt-scale-guarded c = c.before.before.before.before
-
-loop-holds : tie.Need-loop-init invariant-loop decreases-loop
-loop-holds c = (
+loop-i-init : tie.Need-loop-i-init invariant-loop-i decreases-loop-i
+loop-i-init c = (
   omega arith,
   omega arith,
   omega arith,
   refl,
-  c.before.before.requires.1,
+  c.requires.roots,
   λ j h. refl,
   rows_to (record { come = λ d u. u }) (omega arith),
 )
 
-add_at : tie.Need-overflow-add-at invariant-loop decreases-loop
-add_at c = omega arith
+overflow_add-at : tie.Need-overflow_add-at invariant-loop-i decreases-loop-i
+overflow_add-at c = omega arith
 
-mul-inv-sqrt-scale-guarded : tie.Need-overflow-mul-inv-sqrt-scale-guarded invariant-loop decreases-loop
-mul-inv-sqrt-scale-guarded c = omega arith
+offset_bounds-maxima-at : tie.Need-offset_bounds-maxima-at invariant-loop-i decreases-loop-i
+offset_bounds-maxima-at c = omega arith
 
-slice-read-inv-sqrt-scale-guarded : tie.Need-slice-read-inv-sqrt-scale-guarded invariant-loop decreases-loop
-slice-read-inv-sqrt-scale-guarded c = omega arith
+bounds-maxima-at : tie.Need-bounds-maxima-at invariant-loop-i decreases-loop-i
+bounds-maxima-at c = omega arith
 
-mul-inv-sqrt-scale-guarded-2 : tie.Need-overflow-mul-inv-sqrt-scale-guarded-2 invariant-loop decreases-loop
-mul-inv-sqrt-scale-guarded-2 c = omega arith
+offset_bounds-roots-i : tie.Need-offset_bounds-roots-i invariant-loop-i decreases-loop-i
+offset_bounds-roots-i c = omega arith
 
-shared-slice-read-inv-sqrt-scale-guarded :
-    tie.Need-shared-slice-read-inv-sqrt-scale-guarded invariant-loop decreases-loop
-shared-slice-read-inv-sqrt-scale-guarded c = omega arith
+bounds-roots-i : tie.Need-bounds-roots-i invariant-loop-i decreases-loop-i
+bounds-roots-i c = omega arith
 
-inv-sqrt-scale-guarded-requires : tie.Need-inv-sqrt-scale-guarded-requires invariant-loop decreases-loop
-inv-sqrt-scale-guarded-requires c κs =
-    let loop = c.before.before.before.loop in
+inv_sqrt_scale_guarded-requires : tie.Need-inv_sqrt_scale_guarded-requires invariant-loop-i decreases-loop-i
+inv_sqrt_scale_guarded-requires c κs =
+    let loop = c.loop-i in
     root_there loop.invariant.4 loop.i (omega arith) _ (loop.invariant.5 _ (omega arith))
 
-mul-maxima : tie.Need-overflow-mul-maxima invariant-loop decreases-loop
-mul-maxima c = omega arith
+offset_bounds-maxima-at-in-loop-i : tie.Need-offset_bounds-maxima-at-in-loop-i invariant-loop-i decreases-loop-i
+offset_bounds-maxima-at-in-loop-i c = omega arith
 
-slice-write-maxima : tie.Need-slice-write-maxima invariant-loop decreases-loop
-slice-write-maxima c = omega arith
+bounds-maxima-at-in-loop-i : tie.Need-bounds-maxima-at-in-loop-i invariant-loop-i decreases-loop-i
+bounds-maxima-at-in-loop-i c = omega arith
 
-add-i : tie.Need-overflow-add-i invariant-loop decreases-loop
-add-i c = omega arith
+overflow_step-i : tie.Need-overflow_step-i invariant-loop-i decreases-loop-i
+overflow_step-i c = omega arith
 
-loop-less : tie.Need-loop-smaller invariant-loop decreases-loop
-loop-less c = omega arith
+loop-i-smaller : tie.Need-loop-i-smaller invariant-loop-i decreases-loop-i
+loop-i-smaller c = omega arith
 
-loop-again : tie.Need-loop-preserved invariant-loop decreases-loop
-loop-again c =
-    let loop = (loop-of-inv-sqrt-scale-guarded c).loop in (
+loop-i-preserved : tie.Need-loop-i-preserved invariant-loop-i decreases-loop-i
+loop-i-preserved c =
+    let loop = c.loop-i in (
       omega arith,
       omega arith,
       omega arith,
       simp length-set loop.inv.3,
       loop.inv.4,
       λ j h. get_or-set_other loop.maxima _ j _ nan (λ e. let z : ⊥ = omega arith in z) ∙ loop.inv.5 j (omega arith),
-      rows_to (rows_next loop.inv.6 (omega arith) c.inv-sqrt-scale-guarded.ensures) (omega arith),
+      rows_to (rows_next loop.inv.6 (omega arith) c.inv_sqrt_scale_guarded.ensures) (omega arith),
     )
 
-same_length_lem : tie.Need-same-length invariant-loop decreases-loop
-same_length_lem c = omega arith
+shape_of-maxima : tie.Need-shape_of-maxima invariant-loop-i decreases-loop-i
+shape_of-maxima c = omega arith
 
-returns : tie.Need-returns invariant-loop decreases-loop
-returns c = rows_to c.before.loop.invariant.6 (omega arith)
+returns : tie.Need-returns invariant-loop-i decreases-loop-i
+returns c = rows_to c.loop-i.invariant.6 (omega arith)
 
-pub scale-block-spec : {M : Type 1} → statement M
-scale-block-spec =
+pub scale_block_spec : {M : Type 1} → statement M
+scale_block_spec =
     tie.close
     (tie.spec
-    invariant-loop
-    decreases-loop
-    loop-holds
-    add_at
-    mul-inv-sqrt-scale-guarded
-    slice-read-inv-sqrt-scale-guarded
-    mul-inv-sqrt-scale-guarded-2
-    shared-slice-read-inv-sqrt-scale-guarded
-    inv-sqrt-scale-guarded-requires
-    mul-maxima
-    slice-write-maxima
-    add-i
-    loop-less
-    loop-again
-    same_length_lem
+    invariant-loop-i
+    decreases-loop-i
+    loop-i-init
+    overflow_add-at
+    offset_bounds-maxima-at
+    bounds-maxima-at
+    offset_bounds-roots-i
+    bounds-roots-i
+    inv_sqrt_scale_guarded-requires
+    offset_bounds-maxima-at-in-loop-i
+    bounds-maxima-at-in-loop-i
+    overflow_step-i
+    loop-i-smaller
+    loop-i-preserved
+    shape_of-maxima
     returns)

@@ -9,74 +9,70 @@ use Rattle.infnorm_blocks.proofs.Rows.{rows_next, rows_to}
 use Rattle.infnorm_blocks.proofs.scale_rest.Statement.{statement}
 use Rattle.infnorm_blocks.proofs.scale_rest.Tie as tie
 
-abbrev invariant-loop : tie.invariant-loop
-invariant-loop maxima₀ from i₀ i-end maxima i = (from ≤ i) × (i ≤ length maxima₀) × (length maxima ≡ length maxima₀) × ScaledRows maxima₀ from maxima i
+abbrev invariant-loop-i : tie.invariant-loop-i
+invariant-loop-i maxima₀ from i₀ i-end maxima i = (from ≤ i) × (i ≤ length maxima₀) × (length maxima ≡ length maxima₀) × ScaledRows maxima₀ from maxima i
 
-abbrev decreases-loop : tie.decreases-loop
-decreases-loop maxima₀ from i₀ i-end maxima i = length maxima₀ - i
+abbrev decreases-loop-i : tie.decreases-loop-i
+decreases-loop-i maxima₀ from i₀ i-end maxima i = length maxima₀ - i
 
--- places of the proof, each from a later one
-abbrev loop-of-inv-sqrt-scale-guarded : tie.After-inv-sqrt-scale-guarded invariant-loop decreases-loop → tie.At-loop invariant-loop decreases-loop
-loop-of-inv-sqrt-scale-guarded c = c.before.before.before.before
+loop-i-init : tie.Need-loop-i-init invariant-loop-i decreases-loop-i
+loop-i-init c = (omega arith, omega arith, refl, record { come = λ d u. u })
 
-loop-holds : tie.Need-loop-init invariant-loop decreases-loop
-loop-holds c = (omega arith, omega arith, refl, record { come = λ d u. u })
+offset_bounds-maxima-i : tie.Need-offset_bounds-maxima-i invariant-loop-i decreases-loop-i
+offset_bounds-maxima-i c = omega arith
 
-mul-m : tie.Need-overflow-mul-m invariant-loop decreases-loop
-mul-m c = omega arith
+bounds-maxima-i : tie.Need-bounds-maxima-i invariant-loop-i decreases-loop-i
+bounds-maxima-i c = omega arith
 
-slice-read-m : tie.Need-slice-read-m invariant-loop decreases-loop
-slice-read-m c = omega arith
-
-root-requires : tie.Need-root-requires invariant-loop decreases-loop
+root-requires : tie.Need-root-requires invariant-loop-i decreases-loop-i
 root-requires c κs = tt
 
-inv-sqrt-scale-guarded-requires : tie.Need-inv-sqrt-scale-guarded-requires invariant-loop decreases-loop
+inv_sqrt_scale_guarded-requires : tie.Need-inv_sqrt_scale_guarded-requires invariant-loop-i decreases-loop-i
 unfolding root
-inv-sqrt-scale-guarded-requires c κs = λ h. c.root.ensures
+inv_sqrt_scale_guarded-requires c κs = λ h. c.root.ensures
 
-mul-maxima : tie.Need-overflow-mul-maxima invariant-loop decreases-loop
-mul-maxima c = omega arith
+offset_bounds-maxima-i-in-loop-i : tie.Need-offset_bounds-maxima-i-in-loop-i invariant-loop-i decreases-loop-i
+offset_bounds-maxima-i-in-loop-i c = omega arith
 
-slice-write-maxima : tie.Need-slice-write-maxima invariant-loop decreases-loop
-slice-write-maxima c = omega arith
+bounds-maxima-i-in-loop-i : tie.Need-bounds-maxima-i-in-loop-i invariant-loop-i decreases-loop-i
+bounds-maxima-i-in-loop-i c = omega arith
 
-add-i : tie.Need-overflow-add-i invariant-loop decreases-loop
-add-i c = omega arith
+overflow_step-i : tie.Need-overflow_step-i invariant-loop-i decreases-loop-i
+overflow_step-i c = omega arith
 
-loop-less : tie.Need-loop-smaller invariant-loop decreases-loop
-loop-less c = omega arith
+loop-i-smaller : tie.Need-loop-i-smaller invariant-loop-i decreases-loop-i
+loop-i-smaller c = omega arith
 
-loop-again : tie.Need-loop-preserved invariant-loop decreases-loop
-loop-again c =
-    let loop = (loop-of-inv-sqrt-scale-guarded c).loop in (
+loop-i-preserved : tie.Need-loop-i-preserved invariant-loop-i decreases-loop-i
+loop-i-preserved c =
+    let loop = c.loop-i in (
       omega arith,
       omega arith,
       simp length-set loop.inv.2,
-      rows_next loop.inv.3 (omega arith) c.inv-sqrt-scale-guarded.ensures,
+      rows_next loop.inv.3 (omega arith) c.inv_sqrt_scale_guarded.ensures,
     )
 
-same_length_lem : tie.Need-same-length invariant-loop decreases-loop
-same_length_lem c = omega arith
+shape_of-maxima : tie.Need-shape_of-maxima invariant-loop-i decreases-loop-i
+shape_of-maxima c = omega arith
 
-returns : tie.Need-returns invariant-loop decreases-loop
-returns c = rows_to c.before.loop.invariant.3 (omega arith)
+returns : tie.Need-returns invariant-loop-i decreases-loop-i
+returns c = rows_to c.loop-i.invariant.3 (omega arith)
 
-pub scale-rest-spec : {M : Type 1} → statement M
-scale-rest-spec =
+pub scale_rest_spec : {M : Type 1} → statement M
+scale_rest_spec =
     tie.close
     (tie.spec
-    invariant-loop
-    decreases-loop
-    loop-holds
-    mul-m
-    slice-read-m
+    invariant-loop-i
+    decreases-loop-i
+    loop-i-init
+    offset_bounds-maxima-i
+    bounds-maxima-i
     root-requires
-    inv-sqrt-scale-guarded-requires
-    mul-maxima
-    slice-write-maxima
-    add-i
-    loop-less
-    loop-again
-    same_length_lem
+    inv_sqrt_scale_guarded-requires
+    offset_bounds-maxima-i-in-loop-i
+    bounds-maxima-i-in-loop-i
+    overflow_step-i
+    loop-i-smaller
+    loop-i-preserved
+    shape_of-maxima
     returns)

@@ -9,97 +9,80 @@ use Rattle.slices.proofs.Fronts.{front_start, front_end}
 use Rattle.infnorm_blocks.proofs.scale_rows.Statement.{statement}
 use Rattle.infnorm_blocks.proofs.scale_rows.Tie as tie
 
-abbrev invariant-loop : tie.invariant-loop
-invariant-loop maxima₀ roots₀ from₀ maxima roots from = (from ≤ length maxima₀) × (length roots ≡ 16) × Scaling maxima₀ maxima from
+abbrev invariant-loop-maxima : tie.invariant-loop-maxima
+invariant-loop-maxima maxima₀ roots₀ from₀ maxima roots from = (from ≤ length maxima₀) × (length roots ≡ 16) × Scaling maxima₀ maxima from
 
-abbrev decreases-loop : tie.decreases-loop
-decreases-loop maxima₀ roots₀ from₀ maxima roots from = length maxima₀ - from
+abbrev decreases-loop-maxima : tie.decreases-loop-maxima
+decreases-loop-maxima maxima₀ roots₀ from₀ maxima roots from = length maxima₀ - from
 
--- places of the proof, each from a later one
-abbrev loop-of-roots-of : tie.After-roots-of invariant-loop decreases-loop → tie.At-loop invariant-loop decreases-loop
-loop-of-roots-of c = c.before.before.before.before
+loop-maxima-init : tie.Need-loop-maxima-init invariant-loop-maxima decreases-loop-maxima
+loop-maxima-init c = (omega arith, refl, front_start _ _ (length-map c.args.maxima.now inv_sqrt_scale_guarded))
 
-abbrev roots-of-of-scale-block : tie.After-scale-block invariant-loop decreases-loop → tie.After-roots-of invariant-loop decreases-loop
-roots-of-of-scale-block c = c.before.before.before.before
+overflow_sub-maxima : tie.Need-overflow_sub-maxima invariant-loop-maxima decreases-loop-maxima
+overflow_sub-maxima c = omega (arith, c.loop-maxima.invariant.2.same)
 
-abbrev loop-of-scale-rest : tie.After-scale-rest invariant-loop decreases-loop → tie.At-loop invariant-loop decreases-loop
-loop-of-scale-rest c = c.before.before.before
+slice_bounds-roots_of-end : tie.Need-slice_bounds-roots_of-end invariant-loop-maxima decreases-loop-maxima
+slice_bounds-roots_of-end c = sym c.loop-maxima.invariant.1
 
-loop-holds : tie.Need-loop-init invariant-loop decreases-loop
-loop-holds c = (omega arith, refl, front_start _ _ (length-map c.before.args.maxima.now inv_sqrt_scale_guarded))
-
-sub-loop : tie.Need-overflow-sub-loop invariant-loop decreases-loop
-sub-loop c = omega (arith, c.loop.invariant.2.same)
-
-slice-aggregate-roots-of : tie.Need-slice-aggregate-roots-of invariant-loop decreases-loop
-slice-aggregate-roots-of c = sym c.before.before.before.loop.invariant.1
-
-roots-of-requires : tie.Need-roots-of-requires invariant-loop decreases-loop
-roots-of-requires c κs =
-    let loop = c.before.before.before.loop in
+roots_of-requires : tie.Need-roots_of-requires invariant-loop-maxima decreases-loop-maxima
+roots_of-requires c κs =
+    let loop = c.loop-maxima in
     (omega (arith, loop.invariant.2.same), loop.invariant.1)
 
-slice-aggregate-scale-block : tie.Need-slice-aggregate-scale-block invariant-loop decreases-loop
-slice-aggregate-scale-block c =
-    let roots-of = c.before.before.before in
-    sym (roots-of.roots-of.auto.1.1.0 ∙ (loop-of-roots-of roots-of).loop.invariant.1)
+slice_bounds-scale_block-end : tie.Need-slice_bounds-scale_block-end invariant-loop-maxima decreases-loop-maxima
+slice_bounds-scale_block-end c =
+    sym (c.roots_of.auto.roots ∙ c.loop-maxima.invariant.1)
 
-scale-block-requires : tie.Need-scale-block-requires invariant-loop decreases-loop
-scale-block-requires c κs =
-    let roots-of = c.before.before.before in
-    let loop = (loop-of-roots-of roots-of).loop in (
-      (omega (arith, roots-of.before.before.before.loop-test.true, loop.inv.2.same), roots-of.roots-of.auto.1.1.0 ∙ loop.inv.1),
-      roots-of.roots-of.ensures,
+scale_block-requires : tie.Need-scale_block-requires invariant-loop-maxima decreases-loop-maxima
+scale_block-requires c κs =
+    let loop = c.loop-maxima in (
+      (omega (arith, c.loop-maxima-test.true, loop.inv.2.same), c.roots_of.auto.roots ∙ loop.inv.1),
+      c.roots_of.ensures,
     )
 
-add-from : tie.Need-overflow-add-from invariant-loop decreases-loop
-add-from c =
-    let roots-of = roots-of-of-scale-block c.before.before in
-    omega (arith, roots-of.before.before.before.loop-test.taken, (loop-of-roots-of roots-of).loop.inv.2.same)
+overflow_add-from : tie.Need-overflow_add-from invariant-loop-maxima decreases-loop-maxima
+overflow_add-from c =
+    omega (arith, c.loop-maxima-test.taken, c.loop-maxima.inv.2.same)
 
-loop-less : tie.Need-loop-smaller invariant-loop decreases-loop
-loop-less c =
-    let roots-of = roots-of-of-scale-block c.before.before in
-    omega (arith, roots-of.before.before.before.loop-test.taken, (loop-of-roots-of roots-of).loop.inv.2.same)
+loop-maxima-smaller : tie.Need-loop-maxima-smaller invariant-loop-maxima decreases-loop-maxima
+loop-maxima-smaller c =
+    omega (arith, c.loop-maxima-test.taken, c.loop-maxima.inv.2.same)
 
-loop-again : tie.Need-loop-preserved invariant-loop decreases-loop
-loop-again c =
-    let roots-of = roots-of-of-scale-block c.before.before in
-    let loop = (loop-of-roots-of roots-of).loop in (
-      omega (arith, roots-of.before.before.before.loop-test.taken, loop.inv.2.same),
-      roots-of.roots-of.kept.1.1.0 ∙ loop.inv.1,
-      c.before.before.scale-block.ensures.come _ loop.inv.2,
+loop-maxima-preserved : tie.Need-loop-maxima-preserved invariant-loop-maxima decreases-loop-maxima
+loop-maxima-preserved c =
+    let loop = c.loop-maxima in (
+      omega (arith, c.loop-maxima-test.taken, loop.inv.2.same),
+      c.roots_of.kept.1.1.0 ∙ loop.inv.1,
+      c.scale_block.ensures.come _ loop.inv.2,
     )
 
-scale-rest-requires : tie.Need-scale-rest-requires invariant-loop decreases-loop
-scale-rest-requires c κs = omega (arith, c.before.before.loop.invariant.2.same)
+scale_rest-requires : tie.Need-scale_rest-requires invariant-loop-maxima decreases-loop-maxima
+scale_rest-requires c κs = omega (arith, c.loop-maxima.invariant.2.same)
 
-same_length_lem : tie.Need-same-length invariant-loop decreases-loop
-same_length_lem c =
-    let rest = c.before.before in
-    rest.scale-rest.auto.0 ∙ (loop-of-scale-rest rest).loop.invariant.2.same
+shape_of-maxima : tie.Need-shape_of-maxima invariant-loop-maxima decreases-loop-maxima
+shape_of-maxima c =
+    c.scale_rest.auto.maxima ∙ c.loop-maxima.invariant.2.same
 
-returns : tie.Need-returns invariant-loop decreases-loop
+returns : tie.Need-returns invariant-loop-maxima decreases-loop-maxima
 returns c =
-    let rest = c.before.before in
-    let loop = (loop-of-scale-rest rest).loop in
-    front_end (rest.scale-rest.ensures.come _ loop.inv.2) (omega (arith, loop.inv.2.same))
+    let loop = c.loop-maxima in
+    front_end (c.scale_rest.ensures.come _ loop.inv.2) (omega (arith, loop.inv.2.same))
 
-pub scale-rows-spec : {M : Type 1} → statement M
-scale-rows-spec =
+pub scale_rows_spec : {M : Type 1} → statement M
+scale_rows_spec =
     tie.close
     (tie.spec
-    invariant-loop
-    decreases-loop
-    loop-holds
-    sub-loop
-    slice-aggregate-roots-of
-    roots-of-requires
-    slice-aggregate-scale-block
-    scale-block-requires
-    add-from
-    loop-less
-    loop-again
-    scale-rest-requires
-    same_length_lem
+    invariant-loop-maxima
+    decreases-loop-maxima
+    loop-maxima-init
+    overflow_sub-maxima
+    slice_bounds-roots_of-end
+    roots_of-requires
+    slice_bounds-scale_block-end
+    scale_block-requires
+    overflow_add-from
+    loop-maxima-smaller
+    loop-maxima-preserved
+    scale_rest-requires
+    shape_of-maxima
     returns)

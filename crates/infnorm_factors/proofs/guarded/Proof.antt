@@ -1,20 +1,26 @@
 -- `guarded` meets its contract: its test is the definition's.
+use Rattle.std.proofs.Common.{rules}
 use mathlib.Core.Path.{refl}
 use Rattle.infnorm_factors.specs.Factors.{guarded}
 use borrow.Author.Rules.{rules}
 use Rattle.infnorm_factors.proofs.guarded.Statement.{statement}
 use Rattle.infnorm_factors.proofs.guarded.Tie as tie
 
-is-finite-requires : tie.Need-is-finite-requires
-is-finite-requires c κs = search rules
+is_finite-fine-requires : tie.Need-is_finite-fine-requires
+is_finite-fine-requires c κs = search rules
 
-returns : tie.Need-returns
+returns-then-fine-new : tie.Need-returns-then-fine-new
 unfolding guarded
-returns c = rw (← c.before.is_finite.ensures, c.if1.true) refl
+returns-then-fine-new c = rw (← c.is_finite-fine.ensures, c.if-fine-new.true) refl
 
-returns-2 : tie.Need-returns-2
+returns-else-fine-new : tie.Need-returns-else-fine-new
 unfolding guarded
-returns-2 c = rw (← c.before.is_finite.ensures, c.if1.false) refl
+returns-else-fine-new c = rw (← c.is_finite-fine.ensures, c.if-fine-new.false) refl
 
-pub guarded-spec : {M : Type 1} → statement M
-guarded-spec = tie.close (tie.spec is-finite-requires returns returns-2)
+pub guarded_spec : {M : Type 1} → statement M
+guarded_spec =
+    tie.close
+    (tie.spec
+    is_finite-fine-requires
+    returns-then-fine-new
+    returns-else-fine-new)

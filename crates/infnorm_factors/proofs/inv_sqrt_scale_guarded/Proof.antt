@@ -1,4 +1,5 @@
 -- `inv_sqrt_scale_guarded` meets its contract: its test is the definition's.
+use Rattle.std.proofs.Common.{rules}
 use mathlib.Core.Path.{refl}
 use lib.Ieee.{of_bits}
 use Rattle.infnorm_factors.specs.Factors.{inv_sqrt_scale_guarded}
@@ -6,16 +7,21 @@ use borrow.Author.Rules.{rules}
 use Rattle.infnorm_factors.proofs.inv_sqrt_scale_guarded.Statement.{statement}
 use Rattle.infnorm_factors.proofs.inv_sqrt_scale_guarded.Tie as tie
 
-guarded-requires : tie.Need-guarded-requires
-guarded-requires c κs = search rules
+guarded-new-requires : tie.Need-guarded-new-requires
+guarded-new-requires c κs = search rules
 
-returns : tie.Need-returns
+returns-then-m : tie.Need-returns-then-m
 unfolding inv_sqrt_scale_guarded of_bits
-returns c = rw (c.if1.true, c.before.guarded.ensures, c.before.before.requires c.if1.true) refl
+returns-then-m c = rw (c.if-m.true, c.guarded-new.ensures, c.requires c.if-m.true) refl
 
-returns-2 : tie.Need-returns-2
+returns-else-m : tie.Need-returns-else-m
 unfolding inv_sqrt_scale_guarded
-returns-2 c = rw c.if1.false refl
+returns-else-m c = rw c.if-m.false refl
 
-pub inv-sqrt-scale-guarded-spec : {M : Type 1} → statement M
-inv-sqrt-scale-guarded-spec = tie.close (tie.spec guarded-requires returns returns-2)
+pub inv_sqrt_scale_guarded_spec : {M : Type 1} → statement M
+inv_sqrt_scale_guarded_spec =
+    tie.close
+    (tie.spec
+    guarded-new-requires
+    returns-then-m
+    returns-else-m)

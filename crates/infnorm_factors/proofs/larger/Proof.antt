@@ -5,11 +5,15 @@ use lib.Ieee.{lt}
 use Rattle.infnorm_factors.proofs.larger.Statement.{statement}
 use Rattle.infnorm_factors.proofs.larger.Tie as tie
 
-returns : tie.Need-returns
-returns c = let above : lt c.before.args.old c.before.args.new ≡ true = c.if1.true in rw above refl
+returns-then-new-old : tie.Need-returns-then-new-old
+returns-then-new-old c = let above : lt c.args.old c.args.new ≡ true = c.if-new-old.true in rw above refl
 
-returns-2 : tie.Need-returns-2
-returns-2 c = let not_above : lt c.before.args.old c.before.args.new ≡ false = c.if1.false in rw not_above refl
+returns-else-new-old : tie.Need-returns-else-new-old
+returns-else-new-old c = let not_above : lt c.args.old c.args.new ≡ false = c.if-new-old.false in rw not_above refl
 
-pub larger-spec : {M : Type 1} → statement M
-larger-spec = tie.close (tie.spec returns returns-2)
+pub larger_spec : {M : Type 1} → statement M
+larger_spec =
+    tie.close
+    (tie.spec
+    returns-then-new-old
+    returns-else-new-old)

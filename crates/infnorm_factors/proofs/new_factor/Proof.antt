@@ -1,20 +1,26 @@
 -- `new_factor` meets its contract: its test and its operations are the definition's.
+use Rattle.std.proofs.Common.{rules}
 use mathlib.Core.Path.{refl}
 use Rattle.infnorm_factors.specs.Factors.{new_factor}
 use borrow.Author.Rules.{rules}
 use Rattle.infnorm_factors.proofs.new_factor.Statement.{statement}
 use Rattle.infnorm_factors.proofs.new_factor.Tie as tie
 
-guarded-requires : tie.Need-guarded-requires
-guarded-requires c κs = search rules
+guarded-new-requires : tie.Need-guarded-new-requires
+guarded-new-requires c κs = search rules
 
-returns : tie.Need-returns
+returns-then-m : tie.Need-returns-then-m
 unfolding new_factor
-returns c = rw (c.if1.true, c.before.guarded.ensures, c.before.before.requires c.if1.true) refl
+returns-then-m c = rw (c.if-m.true, c.guarded-new.ensures, c.requires c.if-m.true) refl
 
-returns-2 : tie.Need-returns-2
+returns-else-m : tie.Need-returns-else-m
 unfolding new_factor
-returns-2 c = rw c.if1.false refl
+returns-else-m c = rw c.if-m.false refl
 
-pub new-factor-spec : {M : Type 1} → statement M
-new-factor-spec = tie.close (tie.spec guarded-requires returns returns-2)
+pub new_factor_spec : {M : Type 1} → statement M
+new_factor_spec =
+    tie.close
+    (tie.spec
+    guarded-new-requires
+    returns-then-m
+    returns-else-m)

@@ -11,174 +11,152 @@ use Rattle.infnorm_maxima.proofs.Walks.{Walked, maxima_start, walk_next, walk_en
 use Rattle.infnorm_maxima.proofs.row_maxima.Statement.{statement}
 use Rattle.infnorm_maxima.proofs.row_maxima.Tie as tie
 
-abbrev invariant-loop : tie.invariant-loop
-invariant-loop n col_ptr rows values factors work₀ j₀ work j =
+abbrev invariant-loop-j : tie.invariant-loop-j
+invariant-loop-j n col_ptr rows values factors work₀ j₀ work j =
     (j ≤ n) × (length work ≡ n) × Walked (scaled_sizes rows values factors) (matrix n col_ptr rows values)
     (row_maxima (scaled_sizes rows values factors) (matrix n col_ptr rows values)) n j work
 
-abbrev decreases-loop : tie.decreases-loop
-decreases-loop n col_ptr rows values factors work₀ j₀ work j = n - j
+abbrev decreases-loop-j : tie.decreases-loop-j
+decreases-loop-j n col_ptr rows values factors work₀ j₀ work j = n - j
 
--- places of the proof, each from a later one
-abbrev entry-of-slice-known2 : tie.After-slice-known2 invariant-loop decreases-loop → tie.Start invariant-loop decreases-loop
-entry-of-slice-known2 c = c.before.before.before.before.before.before.before.before.before
-
-abbrev entry-of-in-loop : tie.In-loop invariant-loop decreases-loop → tie.Start invariant-loop decreases-loop
-entry-of-in-loop c = entry-of-slice-known2 c.before.before
-
-abbrev entry-of-shared-slice-known5 : tie.After-shared-slice-known5 invariant-loop decreases-loop → tie.Start invariant-loop decreases-loop
-entry-of-shared-slice-known5 c = entry-of-in-loop c.before
-
-abbrev entry-of-shared-slice-known6 : tie.After-shared-slice-known6 invariant-loop decreases-loop → tie.Start invariant-loop decreases-loop
-entry-of-shared-slice-known6 c = entry-of-shared-slice-known5 c.before
-
-abbrev in-loop-of-scan-column-arg : tie.After-scan-column-arg invariant-loop decreases-loop → tie.In-loop invariant-loop decreases-loop
-in-loop-of-scan-column-arg c = c.before.before.before
-
-abbrev in-loop-of-slice-known3 : tie.After-slice-known3 invariant-loop decreases-loop → tie.In-loop invariant-loop decreases-loop
-in-loop-of-slice-known3 c = in-loop-of-scan-column-arg c.before.before.before
-
-abbrev entry-of-slice-known3 : tie.After-slice-known3 invariant-loop decreases-loop → tie.Start invariant-loop decreases-loop
-entry-of-slice-known3 c = entry-of-in-loop (in-loop-of-slice-known3 c)
-
-fill-requires : tie.Need-fill-requires invariant-loop decreases-loop
+fill-requires : tie.Need-fill-requires invariant-loop-j decreases-loop-j
 fill-requires c κs = tt
 
-loop-holds : tie.Need-loop-init invariant-loop decreases-loop
-loop-holds c =
-    let args = (entry-of-slice-known2 c).args in
-    let pre = (entry-of-slice-known2 c).requires in (
+loop-j-init : tie.Need-loop-j-init invariant-loop-j decreases-loop-j
+loop-j-init c =
+    let args = c.args in
+    let pre = c.requires in (
       omega arith,
-      c.before.before.fill.auto.0 ∙ pre.1.1,
+      c.fill.auto.list ∙ pre.factors_len.1,
       maxima_start
           (scaled_sizes args.row-idx.now args.values.now args.factors.now)
           (matrix args.n args.col-ptr.now args.row-idx.now args.values.now)
-          (c.before.before.fill.ensures ∙ ap (λ (k : ℕ). replicate k Constants.zero) pre.1.1),
+          (c.fill.ensures ∙ ap (λ (k : ℕ). replicate k Constants.zero) pre.factors_len.1),
     )
 
-mul-from : tie.Need-overflow-mul-from invariant-loop decreases-loop
-mul-from c =
-    let args = (entry-of-in-loop c).args in
+offset_bounds-col_ptr-j : tie.Need-offset_bounds-col_ptr-j invariant-loop-j decreases-loop-j
+offset_bounds-col_ptr-j c =
+    let args = c.args in
     omega (
       arith,
-      pointers_fit c.before.loop.j (matrix args.n args.col-ptr.now args.row-idx.now args.values.now)
-          (entry-of-in-loop c).requires.0 c.loop-test.true,
+      pointers_fit c.loop-j.j (matrix args.n args.col-ptr.now args.row-idx.now args.values.now)
+          c.requires.accepted c.loop-j-test.true,
     )
 
-shared-slice-read-from : tie.Need-shared-slice-read-from invariant-loop decreases-loop
-shared-slice-read-from c =
-    let args = (entry-of-shared-slice-known5 c).args in
+bounds-col_ptr-j : tie.Need-bounds-col_ptr-j invariant-loop-j decreases-loop-j
+bounds-col_ptr-j c =
+    let args = c.args in
     omega (
       arith,
-      pointers_fit c.before.before.loop.j (matrix args.n args.col-ptr.now args.row-idx.now args.values.now)
-          (entry-of-shared-slice-known5 c).requires.0 c.before.loop-test.true,
+      pointers_fit c.loop-j.j (matrix args.n args.col-ptr.now args.row-idx.now args.values.now)
+          c.requires.accepted c.loop-j-test.true,
     )
 
-cast-from : tie.Need-overflow-cast-from invariant-loop decreases-loop
-cast-from c =
-    let args = (entry-of-shared-slice-known5 c).args in
+overflow_cast-from : tie.Need-overflow_cast-from invariant-loop-j decreases-loop-j
+overflow_cast-from c =
+    let args = c.args in
     omega (
       arith,
-      pointers_fit c.before.before.loop.j (matrix args.n args.col-ptr.now args.row-idx.now args.values.now)
-          (entry-of-shared-slice-known5 c).requires.0 c.before.loop-test.true,
+      pointers_fit c.loop-j.j (matrix args.n args.col-ptr.now args.row-idx.now args.values.now)
+          c.requires.accepted c.loop-j-test.true,
     )
 
-add-to : tie.Need-overflow-add-to invariant-loop decreases-loop
-add-to c =
-    let args = (entry-of-shared-slice-known5 c).args in
+overflow_add-to : tie.Need-overflow_add-to invariant-loop-j decreases-loop-j
+overflow_add-to c =
+    let args = c.args in
     omega (
       arith,
-      pointers_fit c.before.before.loop.j (matrix args.n args.col-ptr.now args.row-idx.now args.values.now)
-          (entry-of-shared-slice-known5 c).requires.0 c.before.loop-test.true,
+      pointers_fit c.loop-j.j (matrix args.n args.col-ptr.now args.row-idx.now args.values.now)
+          c.requires.accepted c.loop-j-test.true,
     )
 
-mul-to : tie.Need-overflow-mul-to invariant-loop decreases-loop
-mul-to c =
-    let args = (entry-of-shared-slice-known5 c).args in
+offset_bounds-col_ptr-j-in-loop-j : tie.Need-offset_bounds-col_ptr-j-in-loop-j invariant-loop-j decreases-loop-j
+offset_bounds-col_ptr-j-in-loop-j c =
+    let args = c.args in
     omega (
       arith,
-      pointers_fit c.before.before.loop.j (matrix args.n args.col-ptr.now args.row-idx.now args.values.now)
-          (entry-of-shared-slice-known5 c).requires.0 c.before.loop-test.true,
+      pointers_fit c.loop-j.j (matrix args.n args.col-ptr.now args.row-idx.now args.values.now)
+          c.requires.accepted c.loop-j-test.true,
     )
 
-shared-slice-read-to : tie.Need-shared-slice-read-to invariant-loop decreases-loop
-shared-slice-read-to c =
-    let args = (entry-of-shared-slice-known6 c).args in
+bounds-col_ptr-j-in-loop-j : tie.Need-bounds-col_ptr-j-in-loop-j invariant-loop-j decreases-loop-j
+bounds-col_ptr-j-in-loop-j c =
+    let args = c.args in
     omega (
       arith,
-      pointers_fit c.before.before.before.loop.j
-          (matrix args.n args.col-ptr.now args.row-idx.now args.values.now) (entry-of-shared-slice-known6 c).requires.0
-          c.before.before.loop-test.true,
+      pointers_fit c.loop-j.j
+          (matrix args.n args.col-ptr.now args.row-idx.now args.values.now) c.requires.accepted
+          c.loop-j-test.true,
     )
 
-cast-to : tie.Need-overflow-cast-to invariant-loop decreases-loop
-cast-to c =
-    let args = (entry-of-shared-slice-known6 c).args in
+overflow_cast-to : tie.Need-overflow_cast-to invariant-loop-j decreases-loop-j
+overflow_cast-to c =
+    let args = c.args in
     omega (
       arith,
-      pointers_fit c.before.before.before.loop.j
-          (matrix args.n args.col-ptr.now args.row-idx.now args.values.now) (entry-of-shared-slice-known6 c).requires.0
-          c.before.before.loop-test.true,
+      pointers_fit c.loop-j.j
+          (matrix args.n args.col-ptr.now args.row-idx.now args.values.now) c.requires.accepted
+          c.loop-j-test.true,
     )
 
-scan-column-requires : tie.Need-scan-column-requires invariant-loop decreases-loop
-scan-column-requires c κs =
-    let args = (entry-of-shared-slice-known6 c.before).args in
-    let pre = (entry-of-shared-slice-known6 c.before).pre in
-    let loop = (in-loop-of-scan-column-arg c).before in (
-      column_stretch loop.loop.j (length loop.loop.work)
-          (matrix args.n args.col-ptr.now args.row-idx.now args.values.now) pre.0 loop.loop.inv.1
-          (in-loop-of-scan-column-arg c).loop-test.true,
-      omega (arith, pre.1.0, loop.loop.inv.1),
+scan_column-requires : tie.Need-scan_column-requires invariant-loop-j decreases-loop-j
+scan_column-requires c κs =
+    let args = c.args in
+    let pre = c.requires in
+    (
+      column_stretch c.loop-j.j (length c.loop-j.work)
+          (matrix args.n args.col-ptr.now args.row-idx.now args.values.now) pre.accepted c.loop-j.inv.1
+          c.loop-j-test.true,
+      omega (arith, pre.factors_len.0, c.loop-j.inv.1),
     )
 
-add-j : tie.Need-overflow-add-j invariant-loop decreases-loop
-add-j c = omega (arith, (in-loop-of-slice-known3 c).loop-test.true)
+overflow_step-j : tie.Need-overflow_step-j invariant-loop-j decreases-loop-j
+overflow_step-j c = omega (arith, c.loop-j-test.true)
 
-loop-less : tie.Need-loop-smaller invariant-loop decreases-loop
-loop-less c = omega (arith, (in-loop-of-slice-known3 c).loop-test.true)
+loop-j-smaller : tie.Need-loop-j-smaller invariant-loop-j decreases-loop-j
+loop-j-smaller c = omega (arith, c.loop-j-test.true)
 
-loop-again : tie.Need-loop-preserved invariant-loop decreases-loop
-loop-again c =
-    let args = (entry-of-slice-known3 c).args in
-    let loop = (in-loop-of-slice-known3 c).before in (
-      omega (arith, (in-loop-of-slice-known3 c).loop-test.true),
-      c.before.before.scan-column.auto.1.1.1.1.1.1.0 ∙ loop.loop.inv.1,
+loop-j-preserved : tie.Need-loop-j-preserved invariant-loop-j decreases-loop-j
+loop-j-preserved c =
+    let args = c.args in
+    (
+      omega (arith, c.loop-j-test.true),
+      c.scan_column.auto.work ∙ c.loop-j.inv.1,
       walk_next
           (scaled_sizes args.row-idx.now args.values.now args.factors.now)
-          (matrix args.n args.col-ptr.now args.row-idx.now args.values.now) args.n loop.loop.j loop.loop.work
-          loop.loop.inv.2 (in-loop-of-slice-known3 c).loop-test.true
-          c.before.before.scan-column.ensures,
+          (matrix args.n args.col-ptr.now args.row-idx.now args.values.now) args.n c.loop-j.j c.loop-j.work
+          c.loop-j.inv.2 c.loop-j-test.true
+          c.scan_column.ensures,
     )
 
-same_length_lem : tie.Need-same-length invariant-loop decreases-loop
-same_length_lem c = omega (arith, c.before.loop.invariant.1, (entry-of-slice-known2 c.before.before).pre.1.1)
+shape_of-work : tie.Need-shape_of-work invariant-loop-j decreases-loop-j
+shape_of-work c = omega (arith, c.loop-j.invariant.1, c.requires.factors_len.1)
 
-returns : tie.Need-returns invariant-loop decreases-loop
+returns : tie.Need-returns invariant-loop-j decreases-loop-j
 returns c =
-    let args = (entry-of-slice-known2 c.before.before).args in
+    let args = c.args in
     walk_end (scaled_sizes args.row-idx.now args.values.now args.factors.now)
-    (matrix args.n args.col-ptr.now args.row-idx.now args.values.now) args.n c.before.loop.j
-    c.before.loop.work c.before.loop.invariant.2 (omega arith)
+    (matrix args.n args.col-ptr.now args.row-idx.now args.values.now) args.n c.loop-j.j
+    c.loop-j.work c.loop-j.invariant.2 (omega arith)
 
-pub row-maxima-spec : {M : Type 1} → statement M
-row-maxima-spec =
+pub row_maxima_spec : {M : Type 1} → statement M
+row_maxima_spec =
     tie.close
     (tie.spec
-    invariant-loop
-    decreases-loop
+    invariant-loop-j
+    decreases-loop-j
     fill-requires
-    loop-holds
-    mul-from
-    shared-slice-read-from
-    cast-from
-    add-to
-    mul-to
-    shared-slice-read-to
-    cast-to
-    scan-column-requires
-    add-j
-    loop-less
-    loop-again
-    same_length_lem
+    loop-j-init
+    offset_bounds-col_ptr-j
+    bounds-col_ptr-j
+    overflow_cast-from
+    overflow_add-to
+    offset_bounds-col_ptr-j-in-loop-j
+    bounds-col_ptr-j-in-loop-j
+    overflow_cast-to
+    scan_column-requires
+    overflow_step-j
+    loop-j-smaller
+    loop-j-preserved
+    shape_of-work
     returns)

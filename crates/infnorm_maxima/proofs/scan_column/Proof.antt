@@ -10,212 +10,179 @@ use Rattle.infnorm_maxima.proofs.Walks.{Scanned, scan_start, scan_next, scan_end
 use Rattle.infnorm_maxima.proofs.scan_column.Statement.{statement}
 use Rattle.infnorm_maxima.proofs.scan_column.Tie as tie
 
-abbrev invariant-loop : tie.invariant-loop
-invariant-loop j from to rows values factors work₀ dj top₀ k₀ work top k = (from ≤ k) × (k ≤ to) × (length work ≡ length work₀) × Scanned
+abbrev invariant-loop-k : tie.invariant-loop-k
+invariant-loop-k j from to rows values factors work₀ dj top₀ k₀ work top k = (from ≤ k) × (k ≤ to) × (length work ≡ length work₀) × Scanned
     (scaled_sizes rows values factors j) rows j (enter_column (scaled_sizes rows values factors j) rows j (to - from) from work₀) to k
     work top
 
-abbrev decreases-loop : tie.decreases-loop
-decreases-loop j from to rows values factors work₀ dj top₀ k₀ work top k = to - k
-
--- places of the proof, each from a later one
-abbrev entry-of-slice-known : tie.After-slice-known invariant-loop decreases-loop → tie.Start invariant-loop decreases-loop
-entry-of-slice-known c = c.before.before.before.before
-
-abbrev entry-of-slice-known2 : tie.After-slice-known2 invariant-loop decreases-loop → tie.Start invariant-loop decreases-loop
-entry-of-slice-known2 c = entry-of-slice-known c.before.before
-
-abbrev entry-of-in-loop : tie.In-loop invariant-loop decreases-loop → tie.Start invariant-loop decreases-loop
-entry-of-in-loop c = entry-of-slice-known2 c.before.before
-
-abbrev entry-of-after-loop : tie.After-loop invariant-loop decreases-loop → tie.Start invariant-loop decreases-loop
-entry-of-after-loop c = entry-of-slice-known2 c.before.before
-
-abbrev in-loop-of-shared-slice-known7 : tie.After-shared-slice-known7 invariant-loop decreases-loop → tie.In-loop invariant-loop decreases-loop
-in-loop-of-shared-slice-known7 c = c.before.before.before
-
-abbrev entry-of-shared-slice-known7 : tie.After-shared-slice-known7 invariant-loop decreases-loop → tie.Start invariant-loop decreases-loop
-entry-of-shared-slice-known7 c = entry-of-in-loop (in-loop-of-shared-slice-known7 c)
-
-abbrev in-loop-of-scaled-size : tie.After-scaled-size invariant-loop decreases-loop → tie.In-loop invariant-loop decreases-loop
-in-loop-of-scaled-size c = in-loop-of-shared-slice-known7 c.before
-
-abbrev in-loop-of-larger : tie.After-larger invariant-loop decreases-loop → tie.In-loop invariant-loop decreases-loop
-in-loop-of-larger c = in-loop-of-scaled-size c.before.before
-
-abbrev entry-of-larger : tie.After-larger invariant-loop decreases-loop → tie.Start invariant-loop decreases-loop
-entry-of-larger c = entry-of-in-loop (in-loop-of-larger c)
-
-abbrev in-loop-of-larger2 : tie.After-larger2 invariant-loop decreases-loop → tie.In-loop invariant-loop decreases-loop
-in-loop-of-larger2 c = in-loop-of-larger c.before
+abbrev decreases-loop-k : tie.decreases-loop-k
+decreases-loop-k j from to rows values factors work₀ dj top₀ k₀ work top k = to - k
 
 -- place k is stored, and its row has a maximum
-facts : (c : tie.In-loop invariant-loop decreases-loop) → (c.before.loop.k < length
-    (entry-of-in-loop c).args.row-idx.now) ×
-    (get_or (entry-of-in-loop c).args.row-idx.now c.before.loop.k 0 < length
-    c.before.loop.work)
+facts : (c : tie.In-loop-k invariant-loop-k decreases-loop-k) → (c.loop-k.k < length
+    c.args.row-idx.now) ×
+    (get_or c.args.row-idx.now c.loop-k.k 0 < length
+    c.loop-k.work)
 facts c =
-    let s = (entry-of-in-loop c).requires.0 in
-    let h : c.before.loop.k < length (entry-of-in-loop c).args.row-idx.now = le_trans c.loop-test.true s.within in
-    (h, rw c.before.loop.invariant.2 (s.inside c.before.loop.k h))
+    let s = c.requires.stretch in
+    let h : c.loop-k.k < length c.args.row-idx.now = le_trans c.loop-k-test.true s.within in
+    (h, rw c.loop-k.invariant.2 (s.inside c.loop-k.k h))
 
-mul-dj : tie.Need-overflow-mul-dj invariant-loop decreases-loop
-mul-dj c = omega (arith, (entry-of-slice-known c).requires.0.column, (entry-of-slice-known c).requires.1)
+offset_bounds-factors-j : tie.Need-offset_bounds-factors-j invariant-loop-k decreases-loop-k
+offset_bounds-factors-j c = omega (arith, c.requires.stretch.column, c.requires.factors_len)
 
-shared-slice-read-dj : tie.Need-shared-slice-read-dj invariant-loop decreases-loop
-shared-slice-read-dj c = omega (arith, (entry-of-slice-known c.before).pre.0.column, (entry-of-slice-known c.before).pre.1)
+bounds-factors-j : tie.Need-bounds-factors-j invariant-loop-k decreases-loop-k
+bounds-factors-j c = omega (arith, c.requires.stretch.column, c.requires.factors_len)
 
-mul-top : tie.Need-overflow-mul-top invariant-loop decreases-loop
-mul-top c = omega (arith, (entry-of-slice-known c.before).pre.0.column)
+offset_bounds-work-j : tie.Need-offset_bounds-work-j invariant-loop-k decreases-loop-k
+offset_bounds-work-j c = omega (arith, c.requires.stretch.column)
 
-slice-read-top : tie.Need-slice-read-top invariant-loop decreases-loop
-slice-read-top c = (entry-of-slice-known2 c).requires.0.column
+bounds-work-j : tie.Need-bounds-work-j invariant-loop-k decreases-loop-k
+bounds-work-j c = c.requires.stretch.column
 
-loop-holds : tie.Need-loop-init invariant-loop decreases-loop
-loop-holds c = (
+loop-k-init : tie.Need-loop-k-init invariant-loop-k decreases-loop-k
+loop-k-init c = (
   omega arith,
-  (entry-of-slice-known2 c).requires.0.up,
+  c.requires.stretch.up,
   refl,
   scan_start
-      (scaled_sizes (entry-of-slice-known2 c).args.row-idx.now
-      (entry-of-slice-known2 c).args.values.now
-      (entry-of-slice-known2 c).args.factors.now
-      (entry-of-slice-known2 c).args.j) (entry-of-slice-known2 c).args.row-idx.now
-      (entry-of-slice-known2 c).args.j (entry-of-slice-known2 c).args.from
-      (entry-of-slice-known2 c).args.to (entry-of-slice-known2 c).args.work.now,
+      (scaled_sizes c.args.row-idx.now
+      c.args.values.now
+      c.args.factors.now
+      c.args.j) c.args.row-idx.now
+      c.args.j c.args.from
+      c.args.to c.args.work.now,
 )
 
-mul-i : tie.Need-overflow-mul-i invariant-loop decreases-loop
-mul-i c = omega (arith, facts (c))
+offset_bounds-row_idx-k : tie.Need-offset_bounds-row_idx-k invariant-loop-k decreases-loop-k
+offset_bounds-row_idx-k c = omega (arith, facts (c))
 
-shared-slice-read-i : tie.Need-shared-slice-read-i invariant-loop decreases-loop
-shared-slice-read-i c = (facts c.before).0
+bounds-row_idx-k : tie.Need-bounds-row_idx-k invariant-loop-k decreases-loop-k
+bounds-row_idx-k c = (facts c.before).0
 
-cast-i : tie.Need-overflow-cast-i invariant-loop decreases-loop
-cast-i c =
-    let pre = (entry-of-in-loop c.before).pre in
-    omega (arith, facts c.before, pre.0.stored, pre.1, c.before.before.loop.invariant.2)
+overflow_cast-i : tie.Need-overflow_cast-i invariant-loop-k decreases-loop-k
+overflow_cast-i c =
+    let pre = c.requires in
+    omega (arith, facts c.before, pre.stretch.stored, pre.factors_len, c.loop-k.invariant.2)
 
-mul-scaled-size : tie.Need-overflow-mul-scaled-size invariant-loop decreases-loop
-mul-scaled-size c =
-    let pre = (entry-of-in-loop c.before).pre in
-    omega (arith, facts c.before, pre.0.stored, pre.1, c.before.before.loop.invariant.2)
+offset_bounds-factors-i : tie.Need-offset_bounds-factors-i invariant-loop-k decreases-loop-k
+offset_bounds-factors-i c =
+    let pre = c.requires in
+    omega (arith, facts c.before, pre.stretch.stored, pre.factors_len, c.loop-k.invariant.2)
 
-shared-slice-read-scaled-size : tie.Need-shared-slice-read-scaled-size invariant-loop decreases-loop
-shared-slice-read-scaled-size c =
-    let pre = (entry-of-in-loop c.before.before).pre in
-    omega (arith, facts c.before.before, pre.0.stored, pre.1, c.before.before.before.loop.invariant.2)
+bounds-factors-i : tie.Need-bounds-factors-i invariant-loop-k decreases-loop-k
+bounds-factors-i c =
+    let pre = c.requires in
+    omega (arith, facts c.before.before, pre.stretch.stored, pre.factors_len, c.loop-k.invariant.2)
 
-mul-scaled-size-2 : tie.Need-overflow-mul-scaled-size-2 invariant-loop decreases-loop
-mul-scaled-size-2 c =
-    let pre = (entry-of-in-loop c.before.before).pre in
-    omega (arith, facts c.before.before, pre.0.stored, pre.1, c.before.before.before.loop.invariant.2)
+offset_bounds-values-k : tie.Need-offset_bounds-values-k invariant-loop-k decreases-loop-k
+offset_bounds-values-k c =
+    let pre = c.requires in
+    omega (arith, facts c.before.before, pre.stretch.stored, pre.factors_len, c.loop-k.invariant.2)
 
-shared-slice-read-scaled-size-2 : tie.Need-shared-slice-read-scaled-size-2 invariant-loop decreases-loop
-shared-slice-read-scaled-size-2 c =
-    let pre = (entry-of-shared-slice-known7 c).requires in
-    omega (arith, facts (in-loop-of-shared-slice-known7 c), pre.0.stored, pre.1, (in-loop-of-shared-slice-known7 c).before.loop.invariant.2)
+bounds-values-k : tie.Need-bounds-values-k invariant-loop-k decreases-loop-k
+bounds-values-k c =
+    let pre = c.requires in
+    omega (arith, facts c.before.before.before, pre.stretch.stored, pre.factors_len, c.loop-k.invariant.2)
 
-scaled-size-requires : tie.Need-scaled-size-requires invariant-loop decreases-loop
-scaled-size-requires c κs = tt
+scaled_size-size-requires : tie.Need-scaled_size-size-requires invariant-loop-k decreases-loop-k
+scaled_size-size-requires c κs = tt
 
-mul-larger : tie.Need-overflow-mul-larger invariant-loop decreases-loop
-mul-larger c =
-    let pre = (entry-of-shared-slice-known7 c.before).pre in
-    omega (arith, facts (in-loop-of-scaled-size c), pre.0.stored, pre.1, (in-loop-of-scaled-size c).before.loop.invariant.2)
+offset_bounds-work-i : tie.Need-offset_bounds-work-i invariant-loop-k decreases-loop-k
+offset_bounds-work-i c =
+    let pre = c.requires in
+    omega (arith, facts c.before.before.before.before, pre.stretch.stored, pre.factors_len, c.loop-k.invariant.2)
 
-slice-read-larger : tie.Need-slice-read-larger invariant-loop decreases-loop
-slice-read-larger c =
-    let pre = (entry-of-shared-slice-known7 c.before.before).pre in
-    omega (arith, facts (in-loop-of-scaled-size c.before), pre.0.stored, pre.1, (in-loop-of-scaled-size c.before).before.loop.inv.2)
+bounds-work-i : tie.Need-bounds-work-i invariant-loop-k decreases-loop-k
+bounds-work-i c =
+    let pre = c.requires in
+    omega (arith, facts c.before.before.before.before.before, pre.stretch.stored, pre.factors_len, c.loop-k.inv.2)
 
-larger-requires : tie.Need-larger-requires invariant-loop decreases-loop
+larger-requires : tie.Need-larger-requires invariant-loop-k decreases-loop-k
 larger-requires c κs = tt
 
-mul-work : tie.Need-overflow-mul-work invariant-loop decreases-loop
-mul-work c =
-    let pre = (entry-of-larger c).requires in
-    omega (arith, facts (in-loop-of-larger c), pre.0.stored, pre.1, (in-loop-of-larger c).before.loop.invariant.2)
+offset_bounds-work-i-in-loop-k : tie.Need-offset_bounds-work-i-in-loop-k invariant-loop-k decreases-loop-k
+offset_bounds-work-i-in-loop-k c =
+    let pre = c.requires in
+    omega (arith, facts c.before.before.before.before.before.before, pre.stretch.stored, pre.factors_len, c.loop-k.invariant.2)
 
-slice-write-work : tie.Need-slice-write-work invariant-loop decreases-loop
-slice-write-work c =
-    let pre = (entry-of-larger c).requires in
-    omega (arith, facts (in-loop-of-larger c), pre.0.stored, pre.1, (in-loop-of-larger c).before.loop.invariant.2)
+bounds-work-i-in-loop-k : tie.Need-bounds-work-i-in-loop-k invariant-loop-k decreases-loop-k
+bounds-work-i-in-loop-k c =
+    let pre = c.requires in
+    omega (arith, facts c.before.before.before.before.before.before, pre.stretch.stored, pre.factors_len, c.loop-k.invariant.2)
 
-larger-requires-2 : tie.Need-larger-requires-2 invariant-loop decreases-loop
-larger-requires-2 c κs = tt
+larger-top-requires : tie.Need-larger-top-requires invariant-loop-k decreases-loop-k
+larger-top-requires c κs = tt
 
-add-k : tie.Need-overflow-add-k invariant-loop decreases-loop
-add-k c =
-    let In-loop = in-loop-of-larger2 c in
-    omega (arith, In-loop.loop-test.taken, facts (In-loop))
+overflow_step-k : tie.Need-overflow_step-k invariant-loop-k decreases-loop-k
+overflow_step-k c =
+    omega (arith, c.loop-k-test.taken, facts (c.before.before.before.before.before.before.before))
 
-loop-less : tie.Need-loop-smaller invariant-loop decreases-loop
-loop-less c = omega (arith, (in-loop-of-larger2 c).loop-test.true)
+loop-k-smaller : tie.Need-loop-k-smaller invariant-loop-k decreases-loop-k
+loop-k-smaller c = omega (arith, c.loop-k-test.true)
 
-loop-again : tie.Need-loop-preserved invariant-loop decreases-loop
-loop-again c =
-    let args = (entry-of-larger c.before).args in
-    let In-loop = in-loop-of-larger2 c in
-    let loop = (in-loop-of-larger2 c).before in (
+loop-k-preserved : tie.Need-loop-k-preserved invariant-loop-k decreases-loop-k
+loop-k-preserved c =
+    let args = c.args in
+    (
       omega arith,
-      omega (arith, In-loop.loop-test.taken),
-      simp length-set loop.loop.inv.2,
+      omega (arith, c.loop-k-test.taken),
+      simp length-set c.loop-k.inv.2,
       scan_next
           (scaled_sizes args.row-idx.now args.values.now args.factors.now args.j) args.row-idx.now args.j
-          args.to loop.loop.k loop.loop.work loop.loop.top loop.loop.inv.3 In-loop.loop-test.taken
-          (facts (In-loop)).1 (omega (
+          args.to c.loop-k.k c.loop-k.work c.loop-k.top c.loop-k.inv.3 c.loop-k-test.taken
+          (facts (c.before.before.before.before.before.before.before)).1 (omega (
             arith,
-            loop.loop.inv.2,
-            (entry-of-larger c.before).pre.0.column,
-          )) c.before.before.before.scaled_size_lem.ensures
-          c.before.larger.ensures c.larger2.ensures,
+            c.loop-k.inv.2,
+            c.requires.stretch.column,
+          )) c.scaled_size-size.ensures
+          c.larger.ensures c.larger-top.ensures,
     )
 
-mul-work-2 : tie.Need-overflow-mul-work-2 invariant-loop decreases-loop
-mul-work-2 c = omega (arith, (entry-of-after-loop c).requires.0.column)
+offset_bounds-work-j-2 : tie.Need-offset_bounds-work-j-2 invariant-loop-k decreases-loop-k
+offset_bounds-work-j-2 c = omega (arith, c.requires.stretch.column)
 
-slice-write-work-2 : tie.Need-slice-write-work-2 invariant-loop decreases-loop
-slice-write-work-2 c = omega (arith, c.before.loop.invariant.2, (entry-of-after-loop c).requires.0.column)
+bounds-work-j-2 : tie.Need-bounds-work-j-2 invariant-loop-k decreases-loop-k
+bounds-work-j-2 c = omega (arith, c.loop-k.invariant.2, c.requires.stretch.column)
 
-same_length_lem : tie.Need-same-length invariant-loop decreases-loop
-same_length_lem c = simp length-set c.before.loop.invariant.2
+shape_of-work : tie.Need-shape_of-work invariant-loop-k decreases-loop-k
+shape_of-work c = simp length-set c.loop-k.invariant.2
 
-returns : tie.Need-returns invariant-loop decreases-loop
+returns : tie.Need-returns invariant-loop-k decreases-loop-k
 returns c =
-    let args = (entry-of-after-loop c).args in
+    let args = c.args in
     scan_end (scaled_sizes args.row-idx.now args.values.now args.factors.now args.j) args.row-idx.now args.j
-    args.to c.before.loop.k c.before.loop.work c.before.loop.top c.before.loop.invariant.3 (omega arith)
+    args.to c.loop-k.k c.loop-k.work c.loop-k.top c.loop-k.invariant.3 (omega arith)
 
-pub scan-column-spec : {M : Type 1} → statement M
-scan-column-spec =
+pub scan_column_spec : {M : Type 1} → statement M
+scan_column_spec =
     tie.close
     (tie.spec
-    invariant-loop
-    decreases-loop
-    mul-dj
-    shared-slice-read-dj
-    mul-top
-    slice-read-top
-    loop-holds
-    mul-i
-    shared-slice-read-i
-    cast-i
-    mul-scaled-size
-    shared-slice-read-scaled-size
-    mul-scaled-size-2
-    shared-slice-read-scaled-size-2
-    scaled-size-requires
-    mul-larger
-    slice-read-larger
+    invariant-loop-k
+    decreases-loop-k
+    offset_bounds-factors-j
+    bounds-factors-j
+    offset_bounds-work-j
+    bounds-work-j
+    loop-k-init
+    offset_bounds-row_idx-k
+    bounds-row_idx-k
+    overflow_cast-i
+    offset_bounds-factors-i
+    bounds-factors-i
+    offset_bounds-values-k
+    bounds-values-k
+    scaled_size-size-requires
+    offset_bounds-work-i
+    bounds-work-i
     larger-requires
-    mul-work
-    slice-write-work
-    larger-requires-2
-    add-k
-    loop-less
-    loop-again
-    mul-work-2
-    slice-write-work-2
-    same_length_lem
+    offset_bounds-work-i-in-loop-k
+    bounds-work-i-in-loop-k
+    larger-top-requires
+    overflow_step-k
+    loop-k-smaller
+    loop-k-preserved
+    offset_bounds-work-j-2
+    bounds-work-j-2
+    shape_of-work
     returns)

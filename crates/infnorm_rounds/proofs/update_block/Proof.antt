@@ -10,94 +10,90 @@ use Rattle.infnorm_rounds.proofs.Rounds.{updated_next, updated_to, not_yet}
 use Rattle.infnorm_rounds.proofs.update_block.Statement.{statement}
 use Rattle.infnorm_rounds.proofs.update_block.Tie as tie
 
-abbrev invariant-loop : tie.invariant-loop
-invariant-loop factors₀ work from roots i₀ factors i = (i ≤ 16) × (length factors₀ ≡ length work) × (from + 16 ≤ length work) × (length roots ≡ 16)
+abbrev invariant-loop-i : tie.invariant-loop-i
+invariant-loop-i factors₀ work from roots i₀ factors i = (i ≤ 16) × (length factors₀ ≡ length work) × (from + 16 ≤ length work) × (length roots ≡ 16)
     × (length factors ≡ length factors₀) × Roots work from roots 16 × Updated work factors₀ from factors (from + i)
 
-abbrev decreases-loop : tie.decreases-loop
-decreases-loop factors₀ work from roots i₀ factors i = 16 - i
+abbrev decreases-loop-i : tie.decreases-loop-i
+decreases-loop-i factors₀ work from roots i₀ factors i = 16 - i
 
--- places of the proof, each from a later one
-abbrev loop-of-new-factor : tie.After-new-factor invariant-loop decreases-loop → tie.At-loop invariant-loop decreases-loop
-loop-of-new-factor c = c.before.before.before.before.before
+loop-i-init : tie.Need-loop-i-init invariant-loop-i decreases-loop-i
+loop-i-init c = (omega arith, omega arith, omega arith, omega arith, refl, c.requires.roots_len.1, updated_to not_yet (omega arith))
 
-loop-holds : tie.Need-loop-init invariant-loop decreases-loop
-loop-holds c = (omega arith, omega arith, omega arith, omega arith, refl, c.before.before.before.requires.1.1, updated_to not_yet (omega arith))
+overflow_add-at : tie.Need-overflow_add-at invariant-loop-i decreases-loop-i
+overflow_add-at c = omega arith
 
-add_at : tie.Need-overflow-add-at invariant-loop decreases-loop
-add_at c = omega arith
+offset_bounds-factors-at : tie.Need-offset_bounds-factors-at invariant-loop-i decreases-loop-i
+offset_bounds-factors-at c = omega arith
 
-mul-new-factor : tie.Need-overflow-mul-new-factor invariant-loop decreases-loop
-mul-new-factor c = omega arith
+bounds-factors-at : tie.Need-bounds-factors-at invariant-loop-i decreases-loop-i
+bounds-factors-at c = omega arith
 
-slice-read-new-factor : tie.Need-slice-read-new-factor invariant-loop decreases-loop
-slice-read-new-factor c = omega arith
+offset_bounds-work-at : tie.Need-offset_bounds-work-at invariant-loop-i decreases-loop-i
+offset_bounds-work-at c = omega arith
 
-mul-new-factor-2 : tie.Need-overflow-mul-new-factor-2 invariant-loop decreases-loop
-mul-new-factor-2 c = omega arith
+bounds-work-at : tie.Need-bounds-work-at invariant-loop-i decreases-loop-i
+bounds-work-at c = omega arith
 
-shared-slice-read-new-factor : tie.Need-shared-slice-read-new-factor invariant-loop decreases-loop
-shared-slice-read-new-factor c = omega arith
+offset_bounds-roots-i : tie.Need-offset_bounds-roots-i invariant-loop-i decreases-loop-i
+offset_bounds-roots-i c = omega arith
 
-mul-new-factor-3 : tie.Need-overflow-mul-new-factor-3 invariant-loop decreases-loop
-mul-new-factor-3 c = omega arith
+bounds-roots-i : tie.Need-bounds-roots-i invariant-loop-i decreases-loop-i
+bounds-roots-i c = omega arith
 
-shared-slice-read-new-factor-2 : tie.Need-shared-slice-read-new-factor-2 invariant-loop decreases-loop
-shared-slice-read-new-factor-2 c = omega arith
-
-new-factor-requires : tie.Need-new-factor-requires invariant-loop decreases-loop
+new_factor-requires : tie.Need-new_factor-requires invariant-loop-i decreases-loop-i
 unfolding root
-new-factor-requires c κs = let loop = c.before.before.before.before.loop in loop.invariant.5.at loop.i (omega arith)
+new_factor-requires c κs = let loop = c.loop-i in loop.invariant.5.at loop.i (omega arith)
 
-mul-factors : tie.Need-overflow-mul-factors invariant-loop decreases-loop
-mul-factors c = omega arith
+offset_bounds-factors-at-in-loop-i : tie.Need-offset_bounds-factors-at-in-loop-i invariant-loop-i decreases-loop-i
+offset_bounds-factors-at-in-loop-i c = omega arith
 
-slice-write-factors : tie.Need-slice-write-factors invariant-loop decreases-loop
-slice-write-factors c = omega arith
+bounds-factors-at-in-loop-i : tie.Need-bounds-factors-at-in-loop-i invariant-loop-i decreases-loop-i
+bounds-factors-at-in-loop-i c = omega arith
 
-add-i : tie.Need-overflow-add-i invariant-loop decreases-loop
-add-i c = omega arith
+overflow_step-i : tie.Need-overflow_step-i invariant-loop-i decreases-loop-i
+overflow_step-i c = omega arith
 
-loop-less : tie.Need-loop-smaller invariant-loop decreases-loop
-loop-less c = omega arith
+loop-i-smaller : tie.Need-loop-i-smaller invariant-loop-i decreases-loop-i
+loop-i-smaller c = omega arith
 
-loop-again : tie.Need-loop-preserved invariant-loop decreases-loop
-loop-again c =
-    let loop = (loop-of-new-factor c).loop in (
+loop-i-preserved : tie.Need-loop-i-preserved invariant-loop-i decreases-loop-i
+loop-i-preserved c =
+    let loop = c.loop-i in (
       omega arith,
       omega arith,
       omega arith,
       omega arith,
       simp length-set loop.inv.4,
       loop.inv.5,
-      updated_to (updated_next loop.inv.6 (loop.inv.4 ∙ loop.inv.1) (omega arith) c.new-factor.ensures) (omega arith),
+      updated_to (updated_next loop.inv.6 (loop.inv.4 ∙ loop.inv.1) (omega arith) c.new_factor.ensures) (omega arith),
     )
 
-same_length_lem : tie.Need-same-length invariant-loop decreases-loop
-same_length_lem c = omega arith
+shape_of-factors : tie.Need-shape_of-factors invariant-loop-i decreases-loop-i
+shape_of-factors c = omega arith
 
-returns : tie.Need-returns invariant-loop decreases-loop
-returns c = updated_to c.before.loop.invariant.6 (omega arith)
+returns : tie.Need-returns invariant-loop-i decreases-loop-i
+returns c = updated_to c.loop-i.invariant.6 (omega arith)
 
-pub update-block-spec : {M : Type 1} → statement M
-update-block-spec =
+pub update_block_spec : {M : Type 1} → statement M
+update_block_spec =
     tie.close
     (tie.spec
-    invariant-loop
-    decreases-loop
-    loop-holds
-    add_at
-    mul-new-factor
-    slice-read-new-factor
-    mul-new-factor-2
-    shared-slice-read-new-factor
-    mul-new-factor-3
-    shared-slice-read-new-factor-2
-    new-factor-requires
-    mul-factors
-    slice-write-factors
-    add-i
-    loop-less
-    loop-again
-    same_length_lem
+    invariant-loop-i
+    decreases-loop-i
+    loop-i-init
+    overflow_add-at
+    offset_bounds-factors-at
+    bounds-factors-at
+    offset_bounds-work-at
+    bounds-work-at
+    offset_bounds-roots-i
+    bounds-roots-i
+    new_factor-requires
+    offset_bounds-factors-at-in-loop-i
+    bounds-factors-at-in-loop-i
+    overflow_step-i
+    loop-i-smaller
+    loop-i-preserved
+    shape_of-factors
     returns)

@@ -10,107 +10,89 @@ use Rattle.infnorm_rounds.proofs.Rounds.{length_zipped}
 use Rattle.infnorm_rounds.proofs.update_factors.Statement.{statement}
 use Rattle.infnorm_rounds.proofs.update_factors.Tie as tie
 
-abbrev invariant-loop : tie.invariant-loop
-invariant-loop factors₀ work roots₀ from₀ factors roots from = (from ≤ length work) × (length factors₀ ≡ length work) × (length roots ≡ 16)
+abbrev invariant-loop-factors : tie.invariant-loop-factors
+invariant-loop-factors factors₀ work roots₀ from₀ factors roots from = (from ≤ length work) × (length factors₀ ≡ length work) × (length roots ≡ 16)
     × Front (zipped new_factor factors₀ work) factors₀ factors from
 
-abbrev decreases-loop : tie.decreases-loop
-decreases-loop factors₀ work roots₀ from₀ factors roots from = length work - from
+abbrev decreases-loop-factors : tie.decreases-loop-factors
+decreases-loop-factors factors₀ work roots₀ from₀ factors roots from = length work - from
 
--- places of the proof, each from a later one
-abbrev loop-of-roots-of : tie.After-roots-of invariant-loop decreases-loop → tie.At-loop invariant-loop decreases-loop
-loop-of-roots-of c = c.before.before.before
+loop-factors-init : tie.Need-loop-factors-init invariant-loop-factors decreases-loop-factors
+loop-factors-init c =
+    (omega arith, c.requires, refl, front_start _ _ (length_zipped new_factor c.args.factors.now c.args.work.now c.requires))
 
-abbrev roots-of-of-update-block : tie.After-update-block invariant-loop decreases-loop → tie.After-roots-of invariant-loop decreases-loop
-roots-of-of-update-block c = c.before.before.before.before
+overflow_sub-factors : tie.Need-overflow_sub-factors invariant-loop-factors decreases-loop-factors
+overflow_sub-factors c = omega (arith, c.loop-factors.invariant.3.same)
 
-abbrev loop-of-update-rest : tie.After-update-rest invariant-loop decreases-loop → tie.At-loop invariant-loop decreases-loop
-loop-of-update-rest c = c.before.before.before
+slice_bounds-roots_of-end : tie.Need-slice_bounds-roots_of-end invariant-loop-factors decreases-loop-factors
+slice_bounds-roots_of-end c = sym c.loop-factors.invariant.2
 
-loop-holds : tie.Need-loop-init invariant-loop decreases-loop
-loop-holds c =
-    let entry = c.before.before in
-    (omega arith, entry.requires, refl, front_start _ _ (length_zipped new_factor entry.args.factors.now entry.args.work.now entry.requires))
-
-sub-loop : tie.Need-overflow-sub-loop invariant-loop decreases-loop
-sub-loop c = omega (arith, c.loop.invariant.3.same)
-
-slice-aggregate-roots-of : tie.Need-slice-aggregate-roots-of invariant-loop decreases-loop
-slice-aggregate-roots-of c = sym c.before.before.loop.invariant.2
-
-roots-of-requires : tie.Need-roots-of-requires invariant-loop decreases-loop
-roots-of-requires c κs =
-    let loop = c.before.before.loop in
+roots_of-requires : tie.Need-roots_of-requires invariant-loop-factors decreases-loop-factors
+roots_of-requires c κs =
+    let loop = c.loop-factors in
     (omega (arith, loop.invariant.3.same), loop.invariant.2)
 
-slice-aggregate-update-block : tie.Need-slice-aggregate-update-block invariant-loop decreases-loop
-slice-aggregate-update-block c =
-    let roots-of = c.before.before.before in
-    sym (roots-of.roots-of.auto.1.1.0 ∙ (loop-of-roots-of roots-of).loop.invariant.2)
+slice_bounds-update_block-end : tie.Need-slice_bounds-update_block-end invariant-loop-factors decreases-loop-factors
+slice_bounds-update_block-end c =
+    sym (c.roots_of.auto.roots ∙ c.loop-factors.invariant.2)
 
-update-block-requires : tie.Need-update-block-requires invariant-loop decreases-loop
-update-block-requires c κs =
-    let roots-of = c.before.before.before in
-    let loop = (loop-of-roots-of roots-of).loop in (
-      (loop.inv.3.same ∙ loop.inv.1, omega (arith, roots-of.before.before.loop-test.true, loop.inv.3.same)),
-      (roots-of.roots-of.auto.1.1.0 ∙ loop.inv.2, roots-of.roots-of.ensures),
+update_block-requires : tie.Need-update_block-requires invariant-loop-factors decreases-loop-factors
+update_block-requires c κs =
+    let loop = c.loop-factors in (
+      (loop.inv.3.same ∙ loop.inv.1, omega (arith, c.loop-factors-test.true, loop.inv.3.same)),
+      (c.roots_of.auto.roots ∙ loop.inv.2, c.roots_of.ensures),
     )
 
-add-from : tie.Need-overflow-add-from invariant-loop decreases-loop
-add-from c =
-    let roots-of = roots-of-of-update-block c.before.before in
-    omega (arith, roots-of.before.before.loop-test.taken, (loop-of-roots-of roots-of).loop.inv.3.same)
+overflow_add-from : tie.Need-overflow_add-from invariant-loop-factors decreases-loop-factors
+overflow_add-from c =
+    omega (arith, c.loop-factors-test.taken, c.loop-factors.inv.3.same)
 
-loop-less : tie.Need-loop-smaller invariant-loop decreases-loop
-loop-less c =
-    let roots-of = roots-of-of-update-block c.before.before in
-    omega (arith, roots-of.before.before.loop-test.taken, (loop-of-roots-of roots-of).loop.inv.3.same)
+loop-factors-smaller : tie.Need-loop-factors-smaller invariant-loop-factors decreases-loop-factors
+loop-factors-smaller c =
+    omega (arith, c.loop-factors-test.taken, c.loop-factors.inv.3.same)
 
-loop-again : tie.Need-loop-preserved invariant-loop decreases-loop
-loop-again c =
-    let roots-of = roots-of-of-update-block c.before.before in
-    let loop = (loop-of-roots-of roots-of).loop in (
-      omega (arith, roots-of.before.before.loop-test.taken, loop.inv.3.same),
+loop-factors-preserved : tie.Need-loop-factors-preserved invariant-loop-factors decreases-loop-factors
+loop-factors-preserved c =
+    let loop = c.loop-factors in (
+      omega (arith, c.loop-factors-test.taken, loop.inv.3.same),
       loop.inv.1,
-      roots-of.roots-of.kept.1.1.0 ∙ loop.inv.2,
-      c.before.before.update-block.ensures.come _ loop.inv.3,
+      c.roots_of.kept.1.1.0 ∙ loop.inv.2,
+      c.update_block.ensures.come _ loop.inv.3,
     )
 
-update-rest-requires : tie.Need-update-rest-requires invariant-loop decreases-loop
-update-rest-requires c κs =
-    let loop = c.before.before.loop in
+update_rest-requires : tie.Need-update_rest-requires invariant-loop-factors decreases-loop-factors
+update_rest-requires c κs =
+    let loop = c.loop-factors in
     (loop.invariant.3.same ∙ loop.invariant.1, loop.invariant.0)
 
-one-is-far-requires : tie.Need-one-is-far-requires invariant-loop decreases-loop
-one-is-far-requires c κs = tt
+one_is_far-requires : tie.Need-one_is_far-requires invariant-loop-factors decreases-loop-factors
+one_is_far-requires c κs = tt
 
-same_length_lem : tie.Need-same-length invariant-loop decreases-loop
-same_length_lem c =
-    let rest = c.before.before.before in
-    rest.update-rest.auto.0 ∙ (loop-of-update-rest rest).loop.invariant.3.same
+shape_of-factors : tie.Need-shape_of-factors invariant-loop-factors decreases-loop-factors
+shape_of-factors c =
+    c.update_rest.auto.factors ∙ c.loop-factors.invariant.3.same
 
-returns : tie.Need-returns invariant-loop decreases-loop
+returns : tie.Need-returns invariant-loop-factors decreases-loop-factors
 returns c =
-    let rest = c.before.before.before in
-    let loop = (loop-of-update-rest rest).loop in
-    (front_end (rest.update-rest.ensures.come _ loop.inv.3) (omega arith), c.one-is-far.ensures)
+    let loop = c.loop-factors in
+    (front_end (c.update_rest.ensures.come _ loop.inv.3) (omega arith), c.one_is_far.ensures)
 
-pub update-factors-spec : {M : Type 1} → statement M
-update-factors-spec =
+pub update_factors_spec : {M : Type 1} → statement M
+update_factors_spec =
     tie.close
     (tie.spec
-    invariant-loop
-    decreases-loop
-    loop-holds
-    sub-loop
-    slice-aggregate-roots-of
-    roots-of-requires
-    slice-aggregate-update-block
-    update-block-requires
-    add-from
-    loop-less
-    loop-again
-    update-rest-requires
-    one-is-far-requires
-    same_length_lem
+    invariant-loop-factors
+    decreases-loop-factors
+    loop-factors-init
+    overflow_sub-factors
+    slice_bounds-roots_of-end
+    roots_of-requires
+    slice_bounds-update_block-end
+    update_block-requires
+    overflow_add-from
+    loop-factors-smaller
+    loop-factors-preserved
+    update_rest-requires
+    one_is_far-requires
+    shape_of-factors
     returns)

@@ -9,84 +9,80 @@ use Rattle.infnorm_rounds.proofs.Rounds.{updated_next, updated_to, not_yet}
 use Rattle.infnorm_rounds.proofs.update_rest.Statement.{statement}
 use Rattle.infnorm_rounds.proofs.update_rest.Tie as tie
 
-abbrev invariant-loop : tie.invariant-loop
-invariant-loop factors₀ work from i₀ i-end factors i = (from ≤ i) × (i ≤ length work) × (length factors₀ ≡ length work) × (length factors ≡ length factors₀)
+abbrev invariant-loop-i : tie.invariant-loop-i
+invariant-loop-i factors₀ work from i₀ i-end factors i = (from ≤ i) × (i ≤ length work) × (length factors₀ ≡ length work) × (length factors ≡ length factors₀)
     × Updated work factors₀ from factors i
 
-abbrev decreases-loop : tie.decreases-loop
-decreases-loop factors₀ work from i₀ i-end factors i = length work - i
+abbrev decreases-loop-i : tie.decreases-loop-i
+decreases-loop-i factors₀ work from i₀ i-end factors i = length work - i
 
--- places of the proof, each from a later one
-abbrev loop-of-new-factor : tie.After-new-factor invariant-loop decreases-loop → tie.At-loop invariant-loop decreases-loop
-loop-of-new-factor c = c.before.before.before.before.before
+loop-i-init : tie.Need-loop-i-init invariant-loop-i decreases-loop-i
+loop-i-init c = (omega arith, omega arith, omega arith, refl, not_yet)
 
-loop-holds : tie.Need-loop-init invariant-loop decreases-loop
-loop-holds c = (omega arith, omega arith, omega arith, refl, not_yet)
+offset_bounds-work-i : tie.Need-offset_bounds-work-i invariant-loop-i decreases-loop-i
+offset_bounds-work-i c = omega arith
 
-mul-m : tie.Need-overflow-mul-m invariant-loop decreases-loop
-mul-m c = omega arith
+bounds-work-i : tie.Need-bounds-work-i invariant-loop-i decreases-loop-i
+bounds-work-i c = omega arith
 
-shared-slice-read-m : tie.Need-shared-slice-read-m invariant-loop decreases-loop
-shared-slice-read-m c = omega arith
+offset_bounds-factors-i : tie.Need-offset_bounds-factors-i invariant-loop-i decreases-loop-i
+offset_bounds-factors-i c = omega arith
 
-mul-new-factor : tie.Need-overflow-mul-new-factor invariant-loop decreases-loop
-mul-new-factor c = omega arith
+bounds-factors-i : tie.Need-bounds-factors-i invariant-loop-i decreases-loop-i
+bounds-factors-i c = omega arith
 
-slice-read-new-factor : tie.Need-slice-read-new-factor invariant-loop decreases-loop
-slice-read-new-factor c = omega arith
-
-root-requires : tie.Need-root-requires invariant-loop decreases-loop
+root-requires : tie.Need-root-requires invariant-loop-i decreases-loop-i
 root-requires c κs = tt
 
-new-factor-requires : tie.Need-new-factor-requires invariant-loop decreases-loop
+new_factor-requires : tie.Need-new_factor-requires invariant-loop-i decreases-loop-i
 unfolding root
-new-factor-requires c κs = λ h. c.root.ensures
+new_factor-requires c κs = λ h. c.root.ensures
 
-mul-factors : tie.Need-overflow-mul-factors invariant-loop decreases-loop
-mul-factors c = omega arith
+offset_bounds-factors-i-in-loop-i : tie.Need-offset_bounds-factors-i-in-loop-i invariant-loop-i decreases-loop-i
+offset_bounds-factors-i-in-loop-i c = omega arith
 
-slice-write-factors : tie.Need-slice-write-factors invariant-loop decreases-loop
-slice-write-factors c = omega arith
+bounds-factors-i-in-loop-i : tie.Need-bounds-factors-i-in-loop-i invariant-loop-i decreases-loop-i
+bounds-factors-i-in-loop-i c = omega arith
 
-add-i : tie.Need-overflow-add-i invariant-loop decreases-loop
-add-i c = omega arith
+overflow_step-i : tie.Need-overflow_step-i invariant-loop-i decreases-loop-i
+overflow_step-i c = omega arith
 
-loop-less : tie.Need-loop-smaller invariant-loop decreases-loop
-loop-less c = omega arith
+loop-i-smaller : tie.Need-loop-i-smaller invariant-loop-i decreases-loop-i
+loop-i-smaller c = omega arith
 
-loop-again : tie.Need-loop-preserved invariant-loop decreases-loop
-loop-again c =
-    let loop = (loop-of-new-factor c).loop in (
+loop-i-preserved : tie.Need-loop-i-preserved invariant-loop-i decreases-loop-i
+loop-i-preserved c =
+    let loop = c.loop-i in (
       omega arith,
       omega arith,
       omega arith,
       simp length-set loop.inv.3,
-      updated_next loop.inv.4 (loop.inv.3 ∙ loop.inv.2) (omega arith) c.new-factor.ensures,
+      updated_next loop.inv.4 (loop.inv.3 ∙ loop.inv.2) (omega arith) c.new_factor.ensures,
     )
 
-same_length_lem : tie.Need-same-length invariant-loop decreases-loop
-same_length_lem c = omega arith
+shape_of-factors : tie.Need-shape_of-factors invariant-loop-i decreases-loop-i
+shape_of-factors c = omega arith
 
-returns : tie.Need-returns invariant-loop decreases-loop
-returns c = updated_to c.before.loop.invariant.4 (omega arith)
+returns : tie.Need-returns invariant-loop-i decreases-loop-i
+returns c = updated_to c.loop-i.invariant.4 (omega arith)
 
-pub update-rest-spec : {M : Type 1} → statement M
-update-rest-spec =
+pub update_rest_spec : {M : Type 1} → statement M
+update_rest_spec =
     tie.close
     (tie.spec
-    invariant-loop
-    decreases-loop
-    loop-holds
-    mul-m
-    shared-slice-read-m
-    mul-new-factor
-    slice-read-new-factor
+    invariant-loop-i
+    decreases-loop-i
+    loop-i-init
+    offset_bounds-work-i
+    bounds-work-i
+    offset_bounds-factors-i
+    bounds-factors-i
     root-requires
-    new-factor-requires
-    mul-factors
-    slice-write-factors
-    add-i
-    loop-less
-    loop-again
-    same_length_lem
+    new_factor-requires
+    offset_bounds-factors-i-in-loop-i
+    bounds-factors-i-in-loop-i
+    overflow_step-i
+    loop-i-smaller
+    loop-i-preserved
+    shape_of-factors
     returns)

@@ -1,4 +1,5 @@
 -- `double_of` meets its contract: a word below all that stand for no logarithm is one.
+use Rattle.std.proofs.Common.{rules}
 use borrow.Author.Rules.{rules}
 use mathlib.Core.Path.{◌≡◌, refl, sym, ap, ◌∙◌}
 use Prim.Native.Nat.{◌<◌}
@@ -18,14 +19,30 @@ quiet : quiet_nan ≡ nan
 unfolding of_bits
 quiet = refl
 
+returns-then-word-ge-NO_LOG : tie.Need-returns-then-word-ge-NO_LOG
+returns-then-word-ge-NO_LOG c = c.quiet_nan.ensures ∙ quiet ∙ sym (ap double_of (no_word _ c.if-word-ge-NO_LOG.true))
+
 returns : tie.Need-returns
-returns c = c.quiet-nan.ensures ∙ quiet ∙ sym (ap double_of (no_word _ c.before.if1.true))
+returns-then-word-ge-NO_LOG c =
+    let word = c.args.word in
+    let below : word < no_log = omega (arith, c.if-word-ge-NO_LOG.false) in
+    rw c.from_units.ensures (ap (of_int binary64) (to_z-of_z w32 (from_units word) (fits_i32 word below)) ∙ sym (ap double_of (word_is word below)))
 
-returns-2 : tie.Need-returns-2
-returns-2 c =
-    let word = c.before.before.before.args.word in
-    let below : word < no_log = omega (arith, c.before.before.if1.false) in
-    rw c.before.from-units.ensures (ap (of_int binary64) (to_z-of_z w32 (from_units word) (fits_i32 word below)) ∙ sym (ap double_of (word_is word below)))
+quiet_nan-requires : tie.Need-quiet_nan-requires
+quiet_nan-requires c κs = search rules
 
-pub double-of-spec : {M : Type 1} → statement M
-double-of-spec = tie.close (tie.spec (λ c κs. search rules) returns (λ c κs. search rules) (λ c. search rules) returns-2)
+from_units-requires : tie.Need-from_units-requires
+from_units-requires c κs = search rules
+
+int_to_float-result : tie.Need-int_to_float-result
+int_to_float-result c = search rules
+
+pub double_of_spec : {M : Type 1} → statement M
+double_of_spec =
+    tie.close
+    (tie.spec
+    quiet_nan-requires
+    returns-then-word-ge-NO_LOG
+    from_units-requires
+    int_to_float-result
+    returns)

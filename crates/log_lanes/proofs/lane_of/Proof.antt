@@ -1,4 +1,5 @@
 -- `lane_of` meets its contract: a value with a logarithm starts with its own digits, any other ends past all logarithms.
+use Rattle.std.proofs.Common.{rules}
 use borrow.Author.Rules.{rules}
 use mathlib.Core.Path.{sym, ap, ◌∙◌, subst}
 use Prim.Native.Nat.{◌-◌, ◌/◌, ◌^◌}
@@ -15,56 +16,63 @@ use Rattle.log_lanes.proofs.lane_of.Statement.{statement}
 use Rattle.log_lanes.proofs.lane_of.Tie as tie
 
 double : (c : tie.Start) → T (fits binary64 c.args.x)
-double c = subst T (sym c.well-formed.0.1) tt
+double c = subst T (sym c.well_formed.0.1) tt
 
-is_number : (c : tie.Then1) → T (finite c.before.before.args.x)
-is_number c = subst T (sym c.if1.true ∙ c.before.is_finite.ensures) tt
+is_number : (c : tie.Then-is_finite) → T (finite c.args.x)
+is_number c = subst T (sym c.if-is_finite.true ∙ c.is_finite.ensures) tt
 
 none : Ready (2 ^ 31) 2098
 none = record { full = omega arith; short = omega arith; room = omega arith }
 
-float-to-bits-bits : tie.Need-float-to-bits-bits
-float-to-bits-bits c = finite_no_nan c.before.before.args.x (is_number c)
+float_to_bits-bits : tie.Need-float_to_bits-bits
+float_to_bits-bits c = finite_no_nan c.args.x (is_number c)
 
-full-digits-requires : tie.Need-full-digits-requires
-full-digits-requires c κs = (c.if2.true, in_bits c.before.before.before.args.x (double c.before.before.before) (is_number c.before))
+full_digits-digits-requires : tie.Need-full_digits-digits-requires
+full_digits-digits-requires c κs = (c.if-bits-gt0.true, in_bits c.args.x (double c.before.before.before) (is_number c.before))
 
-returns : tie.Need-returns
-returns c =
-    let call = c.before.before in
-    let then2 = call.before in
-    let start = then2.before.before.before in
-    let x = start.args.x in
-    let s = call.full-digits.ensures in
-    let lane = call.full-digits.result in
+returns-then-bits-gt0 : tie.Need-returns-then-bits-gt0
+returns-then-bits-gt0 c =
+    let x = c.args.x in
+    let s = c.full_digits-digits.ensures in
+    let lane = c.full_digits-digits.result in
     let r : Ready (lane.significand / 2 ^ 21) (lane.exponent - 1022) =
     record { full = omega (arith, s); short = omega (arith, s); room = omega (arith, s) } in (
       r,
       lane_word _ _ r.full r.short (omega (arith, s))
           ∙ ap (λ q. Is (from_units q)) (log_digits _ _ _ s)
-          ∙ found_answer x (double start) (is_number then2.before) then2.if2.true,
+          ∙ found_answer x (double c.before.before.before.before.before.before) (is_number c.before.before.before.before) c.if-bits-gt0.true,
     )
 
-returns-2 : tie.Need-returns-2
-returns-2 c =
-    let start = c.before.before.before in
-    (none, none_word ∙ zero_answer start.args.x (double start) c.if2.false (is_number c.before))
+returns-else-bits-gt0 : tie.Need-returns-else-bits-gt0
+returns-else-bits-gt0 c =
+    (none, none_word ∙ zero_answer c.args.x (double c.before.before.before) c.if-bits-gt0.false (is_number c.before))
 
-returns-3 : tie.Need-returns-3
-returns-3 c =
-    let start = c.before.before in
-    (none, none_word ∙ infinite_answer start.args.x (sym c.before.is_finite.ensures ∙ c.if1.false))
+returns-else-is_finite : tie.Need-returns-else-is_finite
+returns-else-is_finite c =
+    (none, none_word ∙ infinite_answer c.args.x (sym c.is_finite.ensures ∙ c.if-is_finite.false))
 
-pub lane-of-spec : {M : Type 1} → statement M
-lane-of-spec =
+is_finite-requires : tie.Need-is_finite-requires
+is_finite-requires c κs = search rules
+
+overflow_cast-result : tie.Need-overflow_cast-result
+overflow_cast-result c = search rules
+
+overflow_sub-result : tie.Need-overflow_sub-result
+overflow_sub-result c = search rules
+
+overflow_cast-result-then-bits-gt0 : tie.Need-overflow_cast-result-then-bits-gt0
+overflow_cast-result-then-bits-gt0 c = search rules
+
+pub lane_of_spec : {M : Type 1} → statement M
+lane_of_spec =
     tie.close
     (tie.spec
-    (λ c κs. search rules)
-    float-to-bits-bits
-    full-digits-requires
-    (λ c. search rules)
-    (λ c. search rules)
-    (λ c. search rules)
-    returns
-    returns-2
-    returns-3)
+    is_finite-requires
+    float_to_bits-bits
+    full_digits-digits-requires
+    overflow_cast-result
+    overflow_sub-result
+    overflow_cast-result-then-bits-gt0
+    returns-then-bits-gt0
+    returns-else-bits-gt0
+    returns-else-is_finite)

@@ -9,12 +9,12 @@ use Rattle.log_lanes.proofs.Lanes.{Loaded, load_next}
 use Rattle.log_lanes.proofs.load.Statement.{statement}
 use Rattle.log_lanes.proofs.load.Tie as tie
 
-abbrev invariant-loop : tie.invariant-loop
-invariant-loop values from to leading₀ known₀ i₀ leading known i = (from ≤ i) × (i ≤ to) × (length leading ≡ length leading₀)
+abbrev invariant-loop-i : tie.invariant-loop-i
+invariant-loop-i values from to leading₀ known₀ i₀ leading known i = (from ≤ i) × (i ≤ to) × (length leading ≡ length leading₀)
     × (length known ≡ length known₀) × Every (Loaded values from (i - from)) leading known
 
-abbrev decreases-loop : tie.decreases-loop
-decreases-loop values from to leading₀ known₀ i₀ leading known i = to - i
+abbrev decreases-loop-i : tie.decreases-loop-i
+decreases-loop-i values from to leading₀ known₀ i₀ leading known i = to - i
 
 -- the turn's value and its lane lie in the slices
 record Inside (values from to leading known i : ℕ) : Type 0 where
@@ -25,106 +25,101 @@ record Inside (values from to leading known i : ℕ) : Type 0 where
   leadings : leading ≡ 16
   knowns : known ≡ 16
 
-inside : (c : tie.In-loop invariant-loop decreases-loop) → let l = c.before.loop in
-    let a = c.before.before.before.before.before.args in
+inside : (c : tie.In-loop-i invariant-loop-i decreases-loop-i) → let l = c.loop-i in
+    let a = c.args in
     Inside (length a.values.now) a.from a.to (length l.leading) (length l.known) l.i
 inside c =
-    let pre = c.before.before.before.before.before.requires.0 in
-    let inv = c.before.loop.invariant in
+    let pre = c.requires.block in
+    let inv = c.loop-i.invariant in
     record {
       low = inv.0;
-      high = c.loop-test.true;
-      within = pre.0.within;
-      lane = omega (arith, inv.0, inv.1, c.loop-test.true, pre.0.lanes);
-      leadings = inv.2 ∙ pre.1.leadings;
-      knowns = inv.3 ∙ pre.1.knowns;
+      high = c.loop-i-test.true;
+      within = pre.block.within;
+      lane = omega (arith, inv.0, inv.1, c.loop-i-test.true, pre.block.lanes);
+      leadings = inv.2 ∙ pre.every.leadings;
+      knowns = inv.3 ∙ pre.every.knowns;
     }
 
--- places of the proof, each from a later one
-abbrev turn-of-lane-of : tie.After-lane-of invariant-loop decreases-loop → tie.In-loop invariant-loop decreases-loop
-turn-of-lane-of c = c.before.before
+loop-i-init : tie.Need-loop-i-init invariant-loop-i decreases-loop-i
+loop-i-init c =
+    let pre = c.requires in
+    (le_refl _, pre.block.0.up, refl, refl, λ j h. (pre.every j h, λ l. absurd (let z : ⊥ = omega arith in z)))
 
-loop-holds : tie.Need-loop-init invariant-loop decreases-loop
-loop-holds c =
-    let pre = c.before.before.before.requires in
-    (le_refl _, pre.0.0.up, refl, refl, λ j h. (pre.1 j h, λ l. absurd (let z : ⊥ = omega arith in z)))
+offset_bounds-values-i : tie.Need-offset_bounds-values-i invariant-loop-i decreases-loop-i
+offset_bounds-values-i c = omega (arith, inside c)
 
-mul-lane-of : tie.Need-overflow-mul-lane-of invariant-loop decreases-loop
-mul-lane-of c = omega (arith, inside c)
+bounds-values-i : tie.Need-bounds-values-i invariant-loop-i decreases-loop-i
+bounds-values-i c = omega (arith, inside c.before)
 
-shared-slice-read-lane-of : tie.Need-shared-slice-read-lane-of invariant-loop decreases-loop
-shared-slice-read-lane-of c = omega (arith, inside c.before)
+lane_of-lane-requires : tie.Need-lane_of-lane-requires invariant-loop-i decreases-loop-i
+lane_of-lane-requires c κs = tt
 
-lane-of-requires : tie.Need-lane-of-requires invariant-loop decreases-loop
-lane-of-requires c κs = tt
+overflow_sub-leading : tie.Need-overflow_sub-leading invariant-loop-i decreases-loop-i
+overflow_sub-leading c = omega (arith, inside c.before.before)
 
-sub-leading : tie.Need-overflow-sub-leading invariant-loop decreases-loop
-sub-leading c = omega (arith, inside (turn-of-lane-of c))
+offset_bounds-leading-i : tie.Need-offset_bounds-leading-i invariant-loop-i decreases-loop-i
+offset_bounds-leading-i c = omega (arith, inside c.before.before)
 
-mul-leading : tie.Need-overflow-mul-leading invariant-loop decreases-loop
-mul-leading c = omega (arith, inside (turn-of-lane-of c))
+bounds-leading-i : tie.Need-bounds-leading-i invariant-loop-i decreases-loop-i
+bounds-leading-i c = omega (arith, inside c.before.before)
 
-slice-write-leading : tie.Need-slice-write-leading invariant-loop decreases-loop
-slice-write-leading c = omega (arith, inside (turn-of-lane-of c))
+overflow_sub-known : tie.Need-overflow_sub-known invariant-loop-i decreases-loop-i
+overflow_sub-known c = omega (arith, inside c.before.before)
 
-sub-known : tie.Need-overflow-sub-known invariant-loop decreases-loop
-sub-known c = omega (arith, inside (turn-of-lane-of c))
+offset_bounds-known-i : tie.Need-offset_bounds-known-i invariant-loop-i decreases-loop-i
+offset_bounds-known-i c = omega (arith, inside c.before.before)
 
-mul-known : tie.Need-overflow-mul-known invariant-loop decreases-loop
-mul-known c = omega (arith, inside (turn-of-lane-of c))
+bounds-known-i : tie.Need-bounds-known-i invariant-loop-i decreases-loop-i
+bounds-known-i c = omega (arith, inside c.before.before)
 
-slice-write-known : tie.Need-slice-write-known invariant-loop decreases-loop
-slice-write-known c = omega (arith, inside (turn-of-lane-of c))
+overflow_step-i : tie.Need-overflow_step-i invariant-loop-i decreases-loop-i
+overflow_step-i c = omega (arith, inside c.before.before)
 
-add-i : tie.Need-overflow-add-i invariant-loop decreases-loop
-add-i c = omega (arith, inside (turn-of-lane-of c))
+loop-i-smaller : tie.Need-loop-i-smaller invariant-loop-i decreases-loop-i
+loop-i-smaller c = omega (arith, inside c.before.before)
 
-loop-less : tie.Need-loop-smaller invariant-loop decreases-loop
-loop-less c = omega (arith, inside (turn-of-lane-of c))
-
-loop-again : tie.Need-loop-preserved invariant-loop decreases-loop
-loop-again c =
-    let turn = turn-of-lane-of c in
-    let a = turn.before.before.before.before.before.args in
-    let l = turn.before.loop in
+loop-i-preserved : tie.Need-loop-i-preserved invariant-loop-i decreases-loop-i
+loop-i-preserved c =
+    let a = c.args in
+    let l = c.loop-i in
     let inv = l.inv in
-    let lane = inside turn in (
+    let lane = inside c.before.before in (
       omega (arith, lane),
       omega (arith, lane),
       simp length-set inv.2,
       simp length-set inv.3,
-      load_next a.values.now a.from l.i l.leading l.known c.lane_of.result.leading c.lane_of.result.known
-          inv.0 (omega (arith, lane)) (omega (arith, lane)) inv.4 c.lane_of.ensures,
+      load_next a.values.now a.from l.i l.leading l.known c.lane_of-lane.result.leading c.lane_of-lane.result.known
+          inv.0 (omega (arith, lane)) (omega (arith, lane)) inv.4 c.lane_of-lane.ensures,
     )
 
-same_length_lem : tie.Need-same-length invariant-loop decreases-loop
-same_length_lem c = c.before.loop.invariant.2
+shape_of-leading : tie.Need-shape_of-leading invariant-loop-i decreases-loop-i
+shape_of-leading c = c.loop-i.invariant.2
 
-same-length-2 : tie.Need-same-length-2 invariant-loop decreases-loop
-same-length-2 c = c.before.loop.invariant.3
+shape_of-known : tie.Need-shape_of-known invariant-loop-i decreases-loop-i
+shape_of-known c = c.loop-i.invariant.3
 
-returns : tie.Need-returns invariant-loop decreases-loop
-returns c = λ j h. let p = c.before.loop.invariant.4 j h in (p.0, λ l. p.1 (omega (arith, c.loop-test.false)))
+returns : tie.Need-returns invariant-loop-i decreases-loop-i
+returns c = λ j h. let p = c.loop-i.invariant.4 j h in (p.0, λ l. p.1 (omega (arith, c.loop-i-test.false)))
 
 pub load_spec : {M : Type 1} → statement M
 load_spec =
     tie.close
     (tie.spec
-    invariant-loop
-    decreases-loop
-    loop-holds
-    mul-lane-of
-    shared-slice-read-lane-of
-    lane-of-requires
-    sub-leading
-    mul-leading
-    slice-write-leading
-    sub-known
-    mul-known
-    slice-write-known
-    add-i
-    loop-less
-    loop-again
-    same_length_lem
-    same-length-2
+    invariant-loop-i
+    decreases-loop-i
+    loop-i-init
+    offset_bounds-values-i
+    bounds-values-i
+    lane_of-lane-requires
+    overflow_sub-leading
+    offset_bounds-leading-i
+    bounds-leading-i
+    overflow_sub-known
+    offset_bounds-known-i
+    bounds-known-i
+    overflow_step-i
+    loop-i-smaller
+    loop-i-preserved
+    shape_of-leading
+    shape_of-known
     returns)

@@ -8,55 +8,49 @@ use Rattle.log_lanes.proofs.Lanes.{words_start}
 use Rattle.log_lanes.proofs.log_words.Statement.{statement}
 use Rattle.log_lanes.proofs.log_words.Tie as tie
 
-abbrev invariant-loop : tie.invariant-loop
-invariant-loop values at words₀ from₀ words from = (from ≤ length values) × Words values at from words₀ words
+abbrev invariant-loop-from : tie.invariant-loop-from
+invariant-loop-from values at words₀ from₀ words from = (from ≤ length values) × Words values at from words₀ words
 
-abbrev decreases-loop : tie.decreases-loop
-decreases-loop values at words₀ from₀ words from = length values - from
+abbrev decreases-loop-from : tie.decreases-loop-from
+decreases-loop-from values at words₀ from₀ words from = length values - from
 
--- places of the proof, each from a later one
-abbrev log-block-of-slice-known2 : tie.After-slice-known2 invariant-loop decreases-loop → tie.After-log-block invariant-loop decreases-loop
-log-block-of-slice-known2 c = c.before.before
+loop-from-init : tie.Need-loop-from-init invariant-loop-from decreases-loop-from
+loop-from-init c = (omega arith, words_start _ _ _)
 
-abbrev block-end-of-log-block : tie.After-log-block invariant-loop decreases-loop → tie.After-block-end invariant-loop decreases-loop
-block-end-of-log-block c = c.before.before
+block_end-to-requires : tie.Need-block_end-to-requires invariant-loop-from decreases-loop-from
+block_end-to-requires c κs = c.loop-from-test.true
 
-abbrev loop-of-block-end : tie.After-block-end invariant-loop decreases-loop → tie.At-loop invariant-loop decreases-loop
-loop-of-block-end c = c.before.before
+log_block-requires : tie.Need-log_block-requires invariant-loop-from decreases-loop-from
+log_block-requires c κs =
+    (c.block_end-to.ensures.1, omega (arith, c.loop-from.inv.1.same, c.requires))
 
-loop-holds : tie.Need-loop-init invariant-loop decreases-loop
-loop-holds c = (omega arith, words_start _ _ _)
+loop-from-smaller : tie.Need-loop-from-smaller invariant-loop-from decreases-loop-from
+loop-from-smaller c =
+    omega (arith, c.block_end-to.ensures.0, c.block_end-to.ensures.1.within, c.loop-from-test.taken)
 
-block-end-requires : tie.Need-block-end-requires invariant-loop decreases-loop
-block-end-requires c κs = c.loop-test.true
+loop-from-preserved : tie.Need-loop-from-preserved invariant-loop-from decreases-loop-from
+loop-from-preserved c =
+    (c.block_end-to.ensures.1.within, c.log_block.ensures _ c.loop-from.inv.1)
 
-log-block-requires : tie.Need-log-block-requires invariant-loop decreases-loop
-log-block-requires c κs =
-    let loop = loop-of-block-end c.before in
-    (c.before.block-end.ensures.1, omega (arith, loop.loop.inv.1.same, loop.before.before.before.pre))
+shape_of-words : tie.Need-shape_of-words invariant-loop-from decreases-loop-from
+shape_of-words c = c.loop-from.invariant.1.same
 
-loop-less : tie.Need-loop-smaller invariant-loop decreases-loop
-loop-less c =
-    let end = block-end-of-log-block (log-block-of-slice-known2 c) in
-    omega (arith, end.block-end.ensures.0, end.block-end.ensures.1.within, end.before.loop-test.taken)
-
-loop-again : tie.Need-loop-preserved invariant-loop decreases-loop
-loop-again c =
-    let call = log-block-of-slice-known2 c in
-    let end = block-end-of-log-block call in
-    (end.block-end.ensures.1.within, call.log-block.ensures _ (loop-of-block-end end).loop.inv.1)
-
-same_length_lem : tie.Need-same-length invariant-loop decreases-loop
-same_length_lem c = c.before.loop.invariant.1.same
-
-returns : tie.Need-returns invariant-loop decreases-loop
+returns : tie.Need-returns invariant-loop-from decreases-loop-from
 returns c =
-    let loop = c.before in
-    let a = loop.before.before.before.args in
-    let end : loop.loop.from ≡ length a.values.now = omega (arith, loop.loop.invariant.0, c.loop-test.false) in
-    subst (λ (i : ℕ). Words a.values.now a.at i a.words.now loop.loop.words) end loop.loop.invariant.1
+    let a = c.args in
+    let end : c.loop-from.from ≡ length a.values.now = omega (arith, c.loop-from.invariant.0, c.loop-from-test.false) in
+    subst (λ (i : ℕ). Words a.values.now a.at i a.words.now c.loop-from.words) end c.loop-from.invariant.1
 
-pub log-words-spec : {M : Type 1} → statement M
-log-words-spec =
+pub log_words_spec : {M : Type 1} → statement M
+log_words_spec =
     tie.close
-    (tie.spec invariant-loop decreases-loop loop-holds block-end-requires log-block-requires loop-less loop-again same_length_lem returns)
+    (tie.spec
+    invariant-loop-from
+    decreases-loop-from
+    loop-from-init
+    block_end-to-requires
+    log_block-requires
+    loop-from-smaller
+    loop-from-preserved
+    shape_of-words
+    returns)

@@ -8,12 +8,12 @@ use Rattle.log_lanes.proofs.Lanes.{Stage, pass_start, pass_here, pass_next}
 use Rattle.log_lanes.proofs.next_digits.Statement.{statement}
 use Rattle.log_lanes.proofs.next_digits.Tie as tie
 
-abbrev invariant-loop : tie.invariant-loop
-invariant-loop leading₀ known₀ i₀ leading known i = (i ≤ 16) × (length leading ≡ length leading₀) × (length known ≡ length known₀)
+abbrev invariant-loop-i : tie.invariant-loop-i
+invariant-loop-i leading₀ known₀ i₀ leading known i = (i ≤ 16) × (length leading ≡ length leading₀) × (length known ≡ length known₀)
     × Every (Stage leading₀ known₀ i) leading known
 
-abbrev decreases-loop : tie.decreases-loop
-decreases-loop leading₀ known₀ i₀ leading known i = 16 - i
+abbrev decreases-loop-i : tie.decreases-loop-i
+decreases-loop-i leading₀ known₀ i₀ leading known i = 16 - i
 
 -- the turn's lane lies in both slices
 record Inside (leading known i : ℕ) : Type 0 where
@@ -21,101 +21,95 @@ record Inside (leading known i : ℕ) : Type 0 where
   leadings : leading ≡ 16
   knowns : known ≡ 16
 
-inside : (c : tie.In-loop invariant-loop decreases-loop) → let l = c.before.loop in Inside (length l.leading) (length l.known) l.i
+inside : (c : tie.In-loop-i invariant-loop-i decreases-loop-i) → let l = c.loop-i in Inside (length l.leading) (length l.known) l.i
 inside c =
-    let wide = c.before.before.before.before.requires.0 in record {
-      below = c.loop-test.true;
-      leadings = c.before.loop.invariant.1 ∙ wide.leadings;
-      knowns = c.before.loop.invariant.2 ∙ wide.knowns;
+    let wide = c.requires.wide in record {
+      below = c.loop-i-test.true;
+      leadings = c.loop-i.invariant.1 ∙ wide.leadings;
+      knowns = c.loop-i.invariant.2 ∙ wide.knowns;
     }
 
--- places of the proof, each from a later one
-abbrev turn-of-next-digit : tie.After-next-digit invariant-loop decreases-loop → tie.In-loop invariant-loop decreases-loop
-turn-of-next-digit c = c.before.before.before
+loop-i-init : tie.Need-loop-i-init invariant-loop-i decreases-loop-i
+loop-i-init c = (omega arith, refl, refl, pass_start _ _)
 
-loop-holds : tie.Need-loop-init invariant-loop decreases-loop
-loop-holds c = (omega arith, refl, refl, pass_start _ _)
+offset_bounds-leading-i : tie.Need-offset_bounds-leading-i invariant-loop-i decreases-loop-i
+offset_bounds-leading-i c = omega (arith, inside c)
 
-mul-next-digit : tie.Need-overflow-mul-next-digit invariant-loop decreases-loop
-mul-next-digit c = omega (arith, inside c)
+bounds-leading-i : tie.Need-bounds-leading-i invariant-loop-i decreases-loop-i
+bounds-leading-i c = omega (arith, inside c.before)
 
-slice-read-next-digit : tie.Need-slice-read-next-digit invariant-loop decreases-loop
-slice-read-next-digit c = omega (arith, inside c.before)
+offset_bounds-known-i : tie.Need-offset_bounds-known-i invariant-loop-i decreases-loop-i
+offset_bounds-known-i c = omega (arith, inside c.before)
 
-mul-next-digit-2 : tie.Need-overflow-mul-next-digit-2 invariant-loop decreases-loop
-mul-next-digit-2 c = omega (arith, inside c.before)
+bounds-known-i : tie.Need-bounds-known-i invariant-loop-i decreases-loop-i
+bounds-known-i c = omega (arith, inside c.before.before)
 
-slice-read-next-digit-2 : tie.Need-slice-read-next-digit-2 invariant-loop decreases-loop
-slice-read-next-digit-2 c = omega (arith, inside c.before.before)
-
-next-digit-requires : tie.Need-next-digit-requires invariant-loop decreases-loop
-next-digit-requires c κs =
-    let turn = c.before.before in
-    let a = turn.before.before.before.before.args in
-    let l = turn.before.loop in
+next_digit-lane-requires : tie.Need-next_digit-lane-requires invariant-loop-i decreases-loop-i
+next_digit-lane-requires c κs =
+    let a = c.args in
+    let l = c.loop-i in
     pass_here a.leading.now a.known.now l.leading l.known l.i
-    turn.loop-test.true turn.before.loop.invariant.3 turn.before.before.before.before.requires.1
+    c.loop-i-test.true c.loop-i.invariant.3 c.requires.every
 
-mul-leading : tie.Need-overflow-mul-leading invariant-loop decreases-loop
-mul-leading c = omega (arith, inside (turn-of-next-digit c))
+offset_bounds-leading-i-in-loop-i : tie.Need-offset_bounds-leading-i-in-loop-i invariant-loop-i decreases-loop-i
+offset_bounds-leading-i-in-loop-i c = omega (arith, inside c.before.before.before)
 
-slice-write-leading : tie.Need-slice-write-leading invariant-loop decreases-loop
-slice-write-leading c = omega (arith, inside (turn-of-next-digit c))
+bounds-leading-i-in-loop-i : tie.Need-bounds-leading-i-in-loop-i invariant-loop-i decreases-loop-i
+bounds-leading-i-in-loop-i c = omega (arith, inside c.before.before.before)
 
-mul-known : tie.Need-overflow-mul-known invariant-loop decreases-loop
-mul-known c = omega (arith, inside (turn-of-next-digit c))
+offset_bounds-known-i-in-loop-i : tie.Need-offset_bounds-known-i-in-loop-i invariant-loop-i decreases-loop-i
+offset_bounds-known-i-in-loop-i c = omega (arith, inside c.before.before.before)
 
-slice-write-known : tie.Need-slice-write-known invariant-loop decreases-loop
-slice-write-known c = omega (arith, inside (turn-of-next-digit c))
+bounds-known-i-in-loop-i : tie.Need-bounds-known-i-in-loop-i invariant-loop-i decreases-loop-i
+bounds-known-i-in-loop-i c = omega (arith, inside c.before.before.before)
 
-add-i : tie.Need-overflow-add-i invariant-loop decreases-loop
-add-i c = omega (arith, inside (turn-of-next-digit c))
+overflow_step-i : tie.Need-overflow_step-i invariant-loop-i decreases-loop-i
+overflow_step-i c = omega (arith, inside c.before.before.before)
 
-loop-less : tie.Need-loop-smaller invariant-loop decreases-loop
-loop-less c = omega (arith, inside (turn-of-next-digit c))
+loop-i-smaller : tie.Need-loop-i-smaller invariant-loop-i decreases-loop-i
+loop-i-smaller c = omega (arith, inside c.before.before.before)
 
-loop-again : tie.Need-loop-preserved invariant-loop decreases-loop
-loop-again c =
-    let turn = turn-of-next-digit c in
-    let a = turn.before.before.before.before.args in
-    let l = turn.before.loop in
+loop-i-preserved : tie.Need-loop-i-preserved invariant-loop-i decreases-loop-i
+loop-i-preserved c =
+    let a = c.args in
+    let l = c.loop-i in
     let inv = l.inv in
-    let lane = inside turn in (
+    let lane = inside c.before.before.before in (
       omega (arith, lane),
       simp length-set inv.1,
       simp length-set inv.2,
-      pass_next a.leading.now a.known.now l.leading l.known l.i c.next-digit.result.leading
-          c.next-digit.result.known lane.below (omega (arith, lane)) (omega (arith, lane)) inv.3 c.next-digit.ensures,
+      pass_next a.leading.now a.known.now l.leading l.known l.i c.next_digit-lane.result.leading
+          c.next_digit-lane.result.known lane.below (omega (arith, lane)) (omega (arith, lane)) inv.3 c.next_digit-lane.ensures,
     )
 
-same_length_lem : tie.Need-same-length invariant-loop decreases-loop
-same_length_lem c = c.before.loop.invariant.1
+shape_of-leading : tie.Need-shape_of-leading invariant-loop-i decreases-loop-i
+shape_of-leading c = c.loop-i.invariant.1
 
-same-length-2 : tie.Need-same-length-2 invariant-loop decreases-loop
-same-length-2 c = c.before.loop.invariant.2
+shape_of-known : tie.Need-shape_of-known invariant-loop-i decreases-loop-i
+shape_of-known c = c.loop-i.invariant.2
 
-returns : tie.Need-returns invariant-loop decreases-loop
-returns c = λ j h. (c.before.loop.invariant.3 j h).done (omega arith)
+returns : tie.Need-returns invariant-loop-i decreases-loop-i
+returns c = λ j h. (c.loop-i.invariant.3 j h).done (omega arith)
 
-pub next-digits-spec : {M : Type 1} → statement M
-next-digits-spec =
+pub next_digits_spec : {M : Type 1} → statement M
+next_digits_spec =
     tie.close
     (tie.spec
-    invariant-loop
-    decreases-loop
-    loop-holds
-    mul-next-digit
-    slice-read-next-digit
-    mul-next-digit-2
-    slice-read-next-digit-2
-    next-digit-requires
-    mul-leading
-    slice-write-leading
-    mul-known
-    slice-write-known
-    add-i
-    loop-less
-    loop-again
-    same_length_lem
-    same-length-2
+    invariant-loop-i
+    decreases-loop-i
+    loop-i-init
+    offset_bounds-leading-i
+    bounds-leading-i
+    offset_bounds-known-i
+    bounds-known-i
+    next_digit-lane-requires
+    offset_bounds-leading-i-in-loop-i
+    bounds-leading-i-in-loop-i
+    offset_bounds-known-i-in-loop-i
+    bounds-known-i-in-loop-i
+    overflow_step-i
+    loop-i-smaller
+    loop-i-preserved
+    shape_of-leading
+    shape_of-known
     returns)

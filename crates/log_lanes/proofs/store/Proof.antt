@@ -12,13 +12,13 @@ use Rattle.log_lanes.proofs.Lanes.{words_next}
 use Rattle.log_lanes.proofs.store.Statement.{statement}
 use Rattle.log_lanes.proofs.store.Tie as tie
 
-abbrev invariant-loop : tie.invariant-loop
-invariant-loop from to known at words₀ i₀ words i = (from ≤ i) × (i ≤ to) × (length words ≡ length words₀)
+abbrev invariant-loop-i : tie.invariant-loop-i
+invariant-loop-i from to known at words₀ i₀ words i = (from ≤ i) × (i ≤ to) × (length words ≡ length words₀)
     × ((values : List Float) (before : List ℕ) → ((j : ℕ) → j < to - from → answer_of (get_or known j 0) ≡ whole_log (get_or values (from + j) nan))
     → Words values at from before words₀ → Words values at i before words)
 
-abbrev decreases-loop : tie.decreases-loop
-decreases-loop from to known at words₀ i₀ words i = to - i
+abbrev decreases-loop-i : tie.decreases-loop-i
+decreases-loop-i from to known at words₀ i₀ words i = to - i
 
 -- the turn's lane and its word lie in the slices
 record Inside (from to known at words i : ℕ) : Type 0 where
@@ -27,13 +27,13 @@ record Inside (from to known at words i : ℕ) : Type 0 where
   lane : i - from < known
   place : at + i < words
 
-inside : (c : tie.In-loop invariant-loop decreases-loop) → let l = c.before.loop in
-    let a = c.before.before.args in
+inside : (c : tie.In-loop-i invariant-loop-i decreases-loop-i) → let l = c.loop-i in
+    let a = c.args in
     Inside a.from a.to (length a.known.now) a.at (length l.words) l.i
 inside c =
-    let pre = c.before.before.requires in
-    let inv = c.before.loop.invariant in
-    let high = c.loop-test.true in
+    let pre = c.requires in
+    let inv = c.loop-i.invariant in
+    let high = c.loop-i-test.true in
     record {
       low = inv.0;
       high = high;
@@ -41,40 +41,39 @@ inside c =
       place = omega (arith, inv.2, high, pre.0.within, pre.1);
     }
 
-loop-holds : tie.Need-loop-init invariant-loop decreases-loop
-loop-holds c = (le_refl _, c.requires.0.up, refl, λ v b k w. w)
+loop-i-init : tie.Need-loop-i-init invariant-loop-i decreases-loop-i
+loop-i-init c = (le_refl _, c.requires.0.up, refl, λ v b k w. w)
 
-sub_words : tie.Need-overflow-sub-words invariant-loop decreases-loop
-sub_words c = omega (arith, inside c)
+overflow_sub-words : tie.Need-overflow_sub-words invariant-loop-i decreases-loop-i
+overflow_sub-words c = omega (arith, inside c)
 
-mul_words : tie.Need-overflow-mul-words invariant-loop decreases-loop
-mul_words c = omega (arith, inside c)
+offset_bounds-known-i : tie.Need-offset_bounds-known-i invariant-loop-i decreases-loop-i
+offset_bounds-known-i c = omega (arith, inside c)
 
-shared-slice-read-words : tie.Need-shared-slice-read-words invariant-loop decreases-loop
-shared-slice-read-words c = omega (arith, inside c.before)
+bounds-known-i : tie.Need-bounds-known-i invariant-loop-i decreases-loop-i
+bounds-known-i c = omega (arith, inside c.before)
 
-add_words : tie.Need-overflow-add-words invariant-loop decreases-loop
-add_words c = omega (arith, inside c.before)
+overflow_add-words : tie.Need-overflow_add-words invariant-loop-i decreases-loop-i
+overflow_add-words c = omega (arith, inside c.before)
 
-mul-words-2 : tie.Need-overflow-mul-words-2 invariant-loop decreases-loop
-mul-words-2 c = omega (arith, inside c.before)
+offset_bounds-words-at : tie.Need-offset_bounds-words-at invariant-loop-i decreases-loop-i
+offset_bounds-words-at c = omega (arith, inside c.before)
 
-slice-write-words : tie.Need-slice-write-words invariant-loop decreases-loop
-slice-write-words c = omega (arith, inside c.before)
+bounds-words-at : tie.Need-bounds-words-at invariant-loop-i decreases-loop-i
+bounds-words-at c = omega (arith, inside c.before)
 
-add-i : tie.Need-overflow-add-i invariant-loop decreases-loop
-add-i c = omega (arith, inside c.before)
+overflow_step-i : tie.Need-overflow_step-i invariant-loop-i decreases-loop-i
+overflow_step-i c = omega (arith, inside c.before)
 
-loop-less : tie.Need-loop-smaller invariant-loop decreases-loop
-loop-less c = omega (arith, inside c.before)
+loop-i-smaller : tie.Need-loop-i-smaller invariant-loop-i decreases-loop-i
+loop-i-smaller c = omega (arith, inside c.before)
 
-loop-again : tie.Need-loop-preserved invariant-loop decreases-loop
-loop-again c =
-    let turn = c.before in
-    let i = turn.before.loop.i in
-    let from = turn.before.before.args.from in
-    let inv = turn.before.loop.invariant in
-    let here = inside turn in
+loop-i-preserved : tie.Need-loop-i-preserved invariant-loop-i decreases-loop-i
+loop-i-preserved c =
+    let i = c.loop-i.i in
+    let from = c.args.from in
+    let inv = c.loop-i.invariant in
+    let here = inside c.before in
     let value : from + (i - from) ≡ i = omega (arith, here) in (
       omega (arith, here),
       omega (arith, here),
@@ -83,30 +82,30 @@ loop-again c =
           (k (i - from) (omega (arith, here)) ∙ ap (λ (j : ℕ). whole_log (get_or v j nan)) value),
     )
 
-same_length_lem : tie.Need-same-length invariant-loop decreases-loop
-same_length_lem c = c.before.loop.invariant.2
+shape_of-words : tie.Need-shape_of-words invariant-loop-i decreases-loop-i
+shape_of-words c = c.loop-i.invariant.2
 
-returns : tie.Need-returns invariant-loop decreases-loop
+returns : tie.Need-returns invariant-loop-i decreases-loop-i
 returns c =
-    let inv = c.before.loop.invariant in
-    let end : c.before.loop.i ≡ c.before.before.args.to = omega (arith, inv.1, c.loop-test.false) in
-    λ v b k w. subst (λ (i : ℕ). Words v c.before.before.args.at i b c.before.loop.words) end (inv.3 v b k w)
+    let inv = c.loop-i.invariant in
+    let end : c.loop-i.i ≡ c.args.to = omega (arith, inv.1, c.loop-i-test.false) in
+    λ v b k w. subst (λ (i : ℕ). Words v c.args.at i b c.loop-i.words) end (inv.3 v b k w)
 
 pub store_spec : {M : Type 1} → statement M
 store_spec =
     tie.close
     (tie.spec
-    invariant-loop
-    decreases-loop
-    loop-holds
-    sub_words
-    mul_words
-    shared-slice-read-words
-    add_words
-    mul-words-2
-    slice-write-words
-    add-i
-    loop-less
-    loop-again
-    same_length_lem
+    invariant-loop-i
+    decreases-loop-i
+    loop-i-init
+    overflow_sub-words
+    offset_bounds-known-i
+    bounds-known-i
+    overflow_add-words
+    offset_bounds-words-at
+    bounds-words-at
+    overflow_step-i
+    loop-i-smaller
+    loop-i-preserved
+    shape_of-words
     returns)

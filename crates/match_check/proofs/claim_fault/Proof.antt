@@ -1,49 +1,43 @@
 -- `claim_fault` meets its contract: each return is the first fault of the chain.
+use Rattle.std.proofs.Common.{rules}
 use borrow.Author.Rules.{rules}
 use borrow.Author.Tests.{not-true, not-false}
 use Rattle.match_check.proofs.Faults.{by_pairing, by_duals, by_sums, by_nothing}
 use Rattle.match_check.proofs.claim_fault.Statement.{statement}
 use Rattle.match_check.proofs.claim_fault.Tie as tie
 
--- places of the proof, each from a later one
-abbrev duals-hold-of-then3 : tie.Then3 → tie.After-duals-hold
-duals-hold-of-then3 c = c.before.before.before
+pairing_fits-requires : tie.Need-pairing_fits-requires
+pairing_fits-requires c κs = search rules
 
-abbrev duals-hold-of-else3 : tie.Else3 → tie.After-duals-hold
-duals-hold-of-else3 c = c.before.before.before
+returns-then-not-pairing_fits : tie.Need-returns-then-not-pairing_fits
+returns-then-not-pairing_fits c = by_pairing _ _ c.pairing_fits.ensures (not-true _ c.if-not-pairing_fits.true)
 
-pairing-fits-requires : tie.Need-pairing-fits-requires
-pairing-fits-requires c κs = search rules
+duals_hold-requires : tie.Need-duals_hold-requires
+duals_hold-requires c κs = search rules
 
-returns : tie.Need-returns
-returns c = by_pairing _ _ c.before.pairing-fits.ensures (not-true _ c.if1.true)
+returns-then-not-duals_hold : tie.Need-returns-then-not-duals_hold
+returns-then-not-duals_hold c = by_duals _ _ c.pairing_fits.ensures (not-false _ c.if-not-pairing_fits.false)
+    c.duals_hold.ensures (not-true _ c.if-not-duals_hold.true)
 
-duals-hold-requires : tie.Need-duals-hold-requires
-duals-hold-requires c κs = search rules
+sums_reached-requires : tie.Need-sums_reached-requires
+sums_reached-requires c κs = search rules
 
-returns-2 : tie.Need-returns-2
-returns-2 c = by_duals _ _ c.before.before.before.pairing-fits.ensures (not-false _ c.before.before.if1.false)
-    c.before.duals_hold_lem.ensures (not-true _ c.if2.true)
+returns-then-sums_reached : tie.Need-returns-then-sums_reached
+returns-then-sums_reached c = by_nothing _ _ c.pairing_fits.ensures (not-false _ c.if-not-pairing_fits.false)
+    c.duals_hold.ensures (not-false _ c.if-not-duals_hold.false) c.sums_reached.ensures c.if-sums_reached.true
 
-sums-reached-requires : tie.Need-sums-reached-requires
-sums-reached-requires c κs = search rules
+returns-else-sums_reached : tie.Need-returns-else-sums_reached
+returns-else-sums_reached c = by_sums _ _ c.pairing_fits.ensures (not-false _ c.if-not-pairing_fits.false)
+    c.duals_hold.ensures (not-false _ c.if-not-duals_hold.false) c.sums_reached.ensures c.if-sums_reached.false
 
-returns-3 : tie.Need-returns-3
-returns-3 c = by_nothing _ _ (duals-hold-of-then3 c).before.before.pairing-fits.ensures (not-false _ (duals-hold-of-then3 c).before.if1.false)
-    (duals-hold-of-then3 c).duals_hold_lem.ensures (not-false _ c.before.before.if2.false) c.before.sums_reached_lem.ensures c.if3.true
-
-returns-4 : tie.Need-returns-4
-returns-4 c = by_sums _ _ (duals-hold-of-else3 c).before.before.pairing-fits.ensures (not-false _ (duals-hold-of-else3 c).before.if1.false)
-    (duals-hold-of-else3 c).duals_hold_lem.ensures (not-false _ c.before.before.if2.false) c.before.sums_reached_lem.ensures c.if3.false
-
-pub claim-fault-spec : {M : Type 1} → statement M
-claim-fault-spec =
+pub claim_fault_spec : {M : Type 1} → statement M
+claim_fault_spec =
     tie.close
     (tie.spec
-    pairing-fits-requires
-    returns
-    duals-hold-requires
-    returns-2
-    sums-reached-requires
-    returns-3
-    returns-4)
+    pairing_fits-requires
+    returns-then-not-pairing_fits
+    duals_hold-requires
+    returns-then-not-duals_hold
+    sums_reached-requires
+    returns-then-sums_reached
+    returns-else-sums_reached)

@@ -10,19 +10,15 @@ use Rattle.match_check.proofs.Every.{Every, every_begins, every_goes_on, every_e
 use Rattle.match_check.proofs.column_reached.Statement.{statement}
 use Rattle.match_check.proofs.column_reached.Tie as tie
 
-abbrev invariant-loop : tie.invariant-loop
-invariant-loop row row-idx cost u dual from to fine₀ k₀ fine k = (from ≤ k) × (k ≤ to) × (to ≤ length row-idx) × (length cost ≡ length row-idx)
+abbrev invariant-loop-k : tie.invariant-loop-k
+invariant-loop-k row row-idx cost u dual from to fine₀ k₀ fine k = (from ≤ k) × (k ≤ to) × (to ≤ length row-idx) × (length cost ≡ length row-idx)
     × Every (λ i. not (eqb (get_or row-idx i 0) row) || le (get_or cost i nan) (add binary64 (get_or u (get_or row-idx i 0) nan) dual)) from to fine k
 
-abbrev decreases-loop : tie.decreases-loop
-decreases-loop row row-idx cost u dual from to fine₀ k₀ fine k = to - k
+abbrev decreases-loop-k : tie.decreases-loop-k
+decreases-loop-k row row-idx cost u dual from to fine₀ k₀ fine k = to - k
 
--- places of the proof, each from a later one
-abbrev loop-of-shared-slice-known2 : tie.After-shared-slice-known2 invariant-loop decreases-loop → tie.At-loop invariant-loop decreases-loop
-loop-of-shared-slice-known2 c = c.before.before.before
-
-loop-holds : tie.Need-loop-init invariant-loop decreases-loop
-loop-holds c = let a = c.args in let p = c.requires in (
+loop-k-init : tie.Need-loop-k-init invariant-loop-k decreases-loop-k
+loop-k-init c = let a = c.args in let p = c.requires in (
   omega arith,
   omega (arith, p.rises),
   p.within,
@@ -31,43 +27,43 @@ loop-holds c = let a = c.args in let p = c.requires in (
       (add binary64 (get_or a.u.now (get_or a.row-idx.now i 0) nan) a.dual)) a.from a.to,
 )
 
-mul-fine : tie.Need-overflow-mul-fine invariant-loop decreases-loop
-mul-fine c = omega arith
+offset_bounds-row_idx-k : tie.Need-offset_bounds-row_idx-k invariant-loop-k decreases-loop-k
+offset_bounds-row_idx-k c = omega arith
 
-shared-slice-read-fine : tie.Need-shared-slice-read-fine invariant-loop decreases-loop
-shared-slice-read-fine c = omega arith
+bounds-row_idx-k : tie.Need-bounds-row_idx-k invariant-loop-k decreases-loop-k
+bounds-row_idx-k c = omega arith
 
-mul-fine-2 : tie.Need-overflow-mul-fine-2 invariant-loop decreases-loop
-mul-fine-2 c = omega arith
+offset_bounds-row_idx-k-in-loop-k : tie.Need-offset_bounds-row_idx-k-in-loop-k invariant-loop-k decreases-loop-k
+offset_bounds-row_idx-k-in-loop-k c = omega arith
 
-shared-slice-read-fine-2 : tie.Need-shared-slice-read-fine-2 invariant-loop decreases-loop
-shared-slice-read-fine-2 c = omega arith
+bounds-row_idx-k-in-loop-k : tie.Need-bounds-row_idx-k-in-loop-k invariant-loop-k decreases-loop-k
+bounds-row_idx-k-in-loop-k c = omega arith
 
-cast-fine : tie.Need-overflow-cast-fine invariant-loop decreases-loop
-cast-fine c = omega (arith, c.shared-slice-known2.given (loop-of-shared-slice-known2 c).loop.k)
+overflow_cast-fine : tie.Need-overflow_cast-fine invariant-loop-k decreases-loop-k
+overflow_cast-fine c = omega (arith, c.shared_slice_known-in-loop-k-1.given c.loop-k.k)
 
-mul-fine-3 : tie.Need-overflow-mul-fine-3 invariant-loop decreases-loop
-mul-fine-3 c = omega (arith, c.shared-slice-known2.given (loop-of-shared-slice-known2 c).loop.k)
+offset_bounds-u-row_idx : tie.Need-offset_bounds-u-row_idx invariant-loop-k decreases-loop-k
+offset_bounds-u-row_idx c = omega (arith, c.shared_slice_known-in-loop-k-1.given c.loop-k.k)
 
-shared-slice-read-fine-3 : tie.Need-shared-slice-read-fine-3 invariant-loop decreases-loop
-shared-slice-read-fine-3 c =
-    omega (arith, (loop-of-shared-slice-known2 c.before).before.pre.rows (loop-of-shared-slice-known2 c.before).loop.k (omega arith))
+bounds-u-row_idx : tie.Need-bounds-u-row_idx invariant-loop-k decreases-loop-k
+bounds-u-row_idx c =
+    omega (arith, c.requires.rows c.loop-k.k (omega arith))
 
-mul-fine-4 : tie.Need-overflow-mul-fine-4 invariant-loop decreases-loop
-mul-fine-4 c = omega arith
+offset_bounds-cost-k : tie.Need-offset_bounds-cost-k invariant-loop-k decreases-loop-k
+offset_bounds-cost-k c = omega arith
 
-shared-slice-read-fine-4 : tie.Need-shared-slice-read-fine-4 invariant-loop decreases-loop
-shared-slice-read-fine-4 c = omega arith
+bounds-cost-k : tie.Need-bounds-cost-k invariant-loop-k decreases-loop-k
+bounds-cost-k c = omega arith
 
-add-k : tie.Need-overflow-add-k invariant-loop decreases-loop
-add-k c = omega arith
+overflow_step-k : tie.Need-overflow_step-k invariant-loop-k decreases-loop-k
+overflow_step-k c = omega arith
 
-loop-less : tie.Need-loop-smaller invariant-loop decreases-loop
-loop-less c = omega arith
+loop-k-smaller : tie.Need-loop-k-smaller invariant-loop-k decreases-loop-k
+loop-k-smaller c = omega arith
 
-loop-again : tie.Need-loop-preserved invariant-loop decreases-loop
-loop-again c =
-    let a = (loop-of-shared-slice-known2 c.before.before).before.args in let l = (loop-of-shared-slice-known2 c.before.before).loop in (
+loop-k-preserved : tie.Need-loop-k-preserved invariant-loop-k decreases-loop-k
+loop-k-preserved c =
+    let a = c.args in let l = c.loop-k in (
       omega arith,
       omega arith,
       omega arith,
@@ -76,28 +72,28 @@ loop-again c =
           (add binary64 (get_or a.u.now (get_or a.row-idx.now i 0) nan) a.dual)) a.from a.to l.fine l.k (omega arith) l.inv.4,
     )
 
-returns : tie.Need-returns invariant-loop decreases-loop
-returns c = let a = c.before.before.args in let l = c.before.loop in
+returns : tie.Need-returns invariant-loop-k decreases-loop-k
+returns c = let a = c.args in let l = c.loop-k in
     every_ends (λ i. not (eqb (get_or a.row-idx.now i 0) a.row) || le (get_or a.cost.now i nan)
     (add binary64 (get_or a.u.now (get_or a.row-idx.now i 0) nan) a.dual)) a.from a.to l.fine l.k (omega arith) l.invariant.4
 
-pub column-reached-spec : {M : Type 1} → statement M
-column-reached-spec =
+pub column_reached_spec : {M : Type 1} → statement M
+column_reached_spec =
     tie.close
     (tie.spec
-    invariant-loop
-    decreases-loop
-    loop-holds
-    mul-fine
-    shared-slice-read-fine
-    mul-fine-2
-    shared-slice-read-fine-2
-    cast-fine
-    mul-fine-3
-    shared-slice-read-fine-3
-    mul-fine-4
-    shared-slice-read-fine-4
-    add-k
-    loop-less
-    loop-again
+    invariant-loop-k
+    decreases-loop-k
+    loop-k-init
+    offset_bounds-row_idx-k
+    bounds-row_idx-k
+    offset_bounds-row_idx-k-in-loop-k
+    bounds-row_idx-k-in-loop-k
+    overflow_cast-fine
+    offset_bounds-u-row_idx
+    bounds-u-row_idx
+    offset_bounds-cost-k
+    bounds-cost-k
+    overflow_step-k
+    loop-k-smaller
+    loop-k-preserved
     returns)

@@ -12,113 +12,100 @@ use Rattle.match_check.proofs.Columns.{rises, within, some_column}
 use Rattle.match_check.proofs.pairs_stand.Statement.{statement}
 use Rattle.match_check.proofs.pairs_stand.Tie as tie
 
-abbrev invariant-loop : tie.invariant-loop
-invariant-loop n col-ptr row-idx perm fine₀ j₀ fine j = (j ≤ n) × Every (pair_stands (pattern n col-ptr row-idx) perm) 0 n fine j
+abbrev invariant-loop-j : tie.invariant-loop-j
+invariant-loop-j n col-ptr row-idx perm fine₀ j₀ fine j = (j ≤ n) × Every (pair_stands (pattern n col-ptr row-idx) perm) 0 n fine j
 
-abbrev decreases-loop : tie.decreases-loop
-decreases-loop n col-ptr row-idx perm fine₀ j₀ fine j = n - j
+abbrev decreases-loop-j : tie.decreases-loop-j
+decreases-loop-j n col-ptr row-idx perm fine₀ j₀ fine j = n - j
 
--- places of the proof, each from a later one
-abbrev entry-of-shared-slice-known3 : tie.After-shared-slice-known3 invariant-loop decreases-loop → tie.Start invariant-loop decreases-loop
-entry-of-shared-slice-known3 c = c.before.before.before
-
-abbrev entry-of-shared-slice-known4 : tie.After-shared-slice-known4 invariant-loop decreases-loop → tie.Start invariant-loop decreases-loop
-entry-of-shared-slice-known4 c = entry-of-shared-slice-known3 c.before.before.before
-
-abbrev entry-of-shared-slice-known5 : tie.After-shared-slice-known5 invariant-loop decreases-loop → tie.Start invariant-loop decreases-loop
-entry-of-shared-slice-known5 c = entry-of-shared-slice-known4 c.before
-
-abbrev loop-of-shared-slice-known6 : tie.After-shared-slice-known6 invariant-loop decreases-loop → tie.At-loop invariant-loop decreases-loop
-loop-of-shared-slice-known6 c = c.before.before.before.before
-
-loop-holds : tie.Need-loop-init invariant-loop decreases-loop
-loop-holds c = let a = (entry-of-shared-slice-known3 c).args in
+loop-j-init : tie.Need-loop-j-init invariant-loop-j decreases-loop-j
+loop-j-init c = let a = c.args in
     (omega arith, every_begins (pair_stands (pattern a.n a.col-ptr.now a.row-idx.now) a.perm.now) 0 a.n)
 
-mul-has-row : tie.Need-overflow-mul-has-row invariant-loop decreases-loop
-mul-has-row c =
-    let p = (entry-of-shared-slice-known3 c.before.before).pre in
-    omega (arith, p.0.few, p.0.pointers, p.1)
+offset_bounds-perm-j : tie.Need-offset_bounds-perm-j invariant-loop-j decreases-loop-j
+offset_bounds-perm-j c =
+    let p = c.requires in
+    omega (arith, p.fact_1.few, p.fact_1.pointers, p.fact_2)
 
-shared-slice-read-has-row : tie.Need-shared-slice-read-has-row invariant-loop decreases-loop
-shared-slice-read-has-row c =
-    let p = (entry-of-shared-slice-known4 c).requires in
-    omega (arith, p.0.few, p.0.pointers, p.1)
+bounds-perm-j : tie.Need-bounds-perm-j invariant-loop-j decreases-loop-j
+bounds-perm-j c =
+    let p = c.requires in
+    omega (arith, p.fact_1.few, p.fact_1.pointers, p.fact_2)
 
-mul-has-row-2 : tie.Need-overflow-mul-has-row-2 invariant-loop decreases-loop
-mul-has-row-2 c =
-    let p = (entry-of-shared-slice-known4 c).requires in
-    omega (arith, p.0.few, p.0.pointers, p.1)
+offset_bounds-col_ptr-j : tie.Need-offset_bounds-col_ptr-j invariant-loop-j decreases-loop-j
+offset_bounds-col_ptr-j c =
+    let p = c.requires in
+    omega (arith, p.fact_1.few, p.fact_1.pointers, p.fact_2)
 
-shared-slice-read-has-row-2 : tie.Need-shared-slice-read-has-row-2 invariant-loop decreases-loop
-shared-slice-read-has-row-2 c =
-    let p = (entry-of-shared-slice-known5 c).requires in
-    omega (arith, p.0.few, p.0.pointers, p.1)
+bounds-col_ptr-j : tie.Need-bounds-col_ptr-j invariant-loop-j decreases-loop-j
+bounds-col_ptr-j c =
+    let p = c.requires in
+    omega (arith, p.fact_1.few, p.fact_1.pointers, p.fact_2)
 
-cast-has-row : tie.Need-overflow-cast-has-row invariant-loop decreases-loop
-cast-has-row c = omega (arith, c.shared-slice-known5.given c.before.before.before.loop.j)
+overflow_cast-col_ptr : tie.Need-overflow_cast-col_ptr invariant-loop-j decreases-loop-j
+overflow_cast-col_ptr c = omega (arith, c.shared_slice_known-in-loop-j-2-1.given c.loop-j.j)
 
-add-has-row : tie.Need-overflow-add-has-row invariant-loop decreases-loop
-add-has-row c = omega (arith, (entry-of-shared-slice-known5 c).requires.0.few)
+overflow_add-j : tie.Need-overflow_add-j invariant-loop-j decreases-loop-j
+overflow_add-j c = omega (arith, c.requires.fact_1.few)
 
-mul-has-row-3 : tie.Need-overflow-mul-has-row-3 invariant-loop decreases-loop
-mul-has-row-3 c =
-    let p = (entry-of-shared-slice-known5 c).requires in
-    omega (arith, p.0.few, p.0.pointers, p.1)
+offset_bounds-col_ptr-j-in-loop-j : tie.Need-offset_bounds-col_ptr-j-in-loop-j invariant-loop-j decreases-loop-j
+offset_bounds-col_ptr-j-in-loop-j c =
+    let p = c.requires in
+    omega (arith, p.fact_1.few, p.fact_1.pointers, p.fact_2)
 
-shared-slice-read-has-row-3 : tie.Need-shared-slice-read-has-row-3 invariant-loop decreases-loop
-shared-slice-read-has-row-3 c =
-    let p = (entry-of-shared-slice-known5 c.before).pre in
-    omega (arith, p.0.few, p.0.pointers, p.1)
+bounds-col_ptr-j-in-loop-j : tie.Need-bounds-col_ptr-j-in-loop-j invariant-loop-j decreases-loop-j
+bounds-col_ptr-j-in-loop-j c =
+    let p = c.requires in
+    omega (arith, p.fact_1.few, p.fact_1.pointers, p.fact_2)
 
-cast-has-row-2 : tie.Need-overflow-cast-has-row-2 invariant-loop decreases-loop
-cast-has-row-2 c = omega (arith, c.shared-slice-known6.given ((loop-of-shared-slice-known6 c).loop.j + 1))
+overflow_cast-col_ptr-in-loop-j : tie.Need-overflow_cast-col_ptr-in-loop-j invariant-loop-j decreases-loop-j
+overflow_cast-col_ptr-in-loop-j c = omega (arith, c.shared_slice_known-in-loop-j-3-1.given (c.loop-j.j + 1))
 
-has-row-requires : tie.Need-has-row-requires invariant-loop decreases-loop
-has-row-requires c κs =
-    let p = (entry-of-shared-slice-known5 c.before).pre in
-    (rises p.0 (loop-of-shared-slice-known6 c).loop.j (omega arith), within p.0 (loop-of-shared-slice-known6 c).loop.j (omega arith))
+has_row-fine-requires : tie.Need-has_row-fine-requires invariant-loop-j decreases-loop-j
+has_row-fine-requires c κs =
+    let p = c.requires in
+    (rises p.fact_1 c.loop-j.j (omega arith), within p.fact_1 c.loop-j.j (omega arith))
 
-add-j : tie.Need-overflow-add-j invariant-loop decreases-loop
-add-j c = omega (arith, (entry-of-shared-slice-known5 c.before.before).pre.0.few)
+overflow_step-j : tie.Need-overflow_step-j invariant-loop-j decreases-loop-j
+overflow_step-j c = omega (arith, c.requires.fact_1.few)
 
-loop-less : tie.Need-loop-smaller invariant-loop decreases-loop
-loop-less c = omega arith
+loop-j-smaller : tie.Need-loop-j-smaller invariant-loop-j decreases-loop-j
+loop-j-smaller c = omega arith
 
-loop-again : tie.Need-loop-preserved invariant-loop decreases-loop
-loop-again c =
-    let a = (entry-of-shared-slice-known5 c.before.before).args in
-    let l = (loop-of-shared-slice-known6 c.before).loop in
+loop-j-preserved : tie.Need-loop-j-preserved invariant-loop-j decreases-loop-j
+loop-j-preserved c =
+    let a = c.args in
+    let l = c.loop-j in
     let test = pair_stands (pattern a.n a.col-ptr.now a.row-idx.now) a.perm.now in
-    let column = some_column a.col-ptr.now (λ k. eqb (get_or a.row-idx.now k 0) (get_or a.perm.now l.j 0)) l.j c.has_row_lem.ensures in (
+    let column = some_column a.col-ptr.now (λ k. eqb (get_or a.row-idx.now k 0) (get_or a.perm.now l.j 0)) l.j c.has_row-fine.ensures in (
       omega arith,
       subst (λ (t : Bool). Every test 0 a.n (l.fine && t) (l.j + 1)) column
           (every_goes_on test 0 a.n l.fine l.j (omega arith) l.inv.1),
     )
 
-returns : tie.Need-returns invariant-loop decreases-loop
+returns : tie.Need-returns invariant-loop-j decreases-loop-j
 unfolding pairs_stand
-returns c = let a = (entry-of-shared-slice-known3 c.before.before).args in let l = c.before.loop in
+returns c = let a = c.args in let l = c.loop-j in
     every_all (pair_stands (pattern a.n a.col-ptr.now a.row-idx.now) a.perm.now) a.n l.fine l.j (omega arith) l.invariant.1
 
-pub pairs-stand-spec : {M : Type 1} → statement M
-pairs-stand-spec =
+pub pairs_stand_spec : {M : Type 1} → statement M
+pairs_stand_spec =
     tie.close
     (tie.spec
-    invariant-loop
-    decreases-loop
-    loop-holds
-    mul-has-row
-    shared-slice-read-has-row
-    mul-has-row-2
-    shared-slice-read-has-row-2
-    cast-has-row
-    add-has-row
-    mul-has-row-3
-    shared-slice-read-has-row-3
-    cast-has-row-2
-    has-row-requires
-    add-j
-    loop-less
-    loop-again
+    invariant-loop-j
+    decreases-loop-j
+    loop-j-init
+    offset_bounds-perm-j
+    bounds-perm-j
+    offset_bounds-col_ptr-j
+    bounds-col_ptr-j
+    overflow_cast-col_ptr
+    overflow_add-j
+    offset_bounds-col_ptr-j-in-loop-j
+    bounds-col_ptr-j-in-loop-j
+    overflow_cast-col_ptr-in-loop-j
+    has_row-fine-requires
+    overflow_step-j
+    loop-j-smaller
+    loop-j-preserved
     returns)

@@ -9,47 +9,47 @@ use Rattle.match_check.proofs.Every.{Every, every_begins, every_goes_on, every_a
 use Rattle.match_check.proofs.rows_below.Statement.{statement}
 use Rattle.match_check.proofs.rows_below.Tie as tie
 
-abbrev invariant-loop : tie.invariant-loop
-invariant-loop n perm fine₀ j₀ j-end fine j = (j ≤ length perm) × Every (λ i. ltb (get_or perm i 0) n) 0 (length perm) fine j
+abbrev invariant-loop-j : tie.invariant-loop-j
+invariant-loop-j n perm fine₀ j₀ j-end fine j = (j ≤ length perm) × Every (λ i. ltb (get_or perm i 0) n) 0 (length perm) fine j
 
-abbrev decreases-loop : tie.decreases-loop
-decreases-loop n perm fine₀ j₀ j-end fine j = length perm - j
+abbrev decreases-loop-j : tie.decreases-loop-j
+decreases-loop-j n perm fine₀ j₀ j-end fine j = length perm - j
 
-loop-holds : tie.Need-loop-init invariant-loop decreases-loop
-loop-holds c = let a = c.args in (omega arith, every_begins (λ i. ltb (get_or a.perm.now i 0) a.n) 0 (length a.perm.now))
+loop-j-init : tie.Need-loop-j-init invariant-loop-j decreases-loop-j
+loop-j-init c = let a = c.args in (omega arith, every_begins (λ i. ltb (get_or a.perm.now i 0) a.n) 0 (length a.perm.now))
 
-mul-fine : tie.Need-overflow-mul-fine invariant-loop decreases-loop
-mul-fine c = omega arith
+offset_bounds-perm-j : tie.Need-offset_bounds-perm-j invariant-loop-j decreases-loop-j
+offset_bounds-perm-j c = omega arith
 
-shared-slice-read-fine : tie.Need-shared-slice-read-fine invariant-loop decreases-loop
-shared-slice-read-fine c = omega arith
+bounds-perm-j : tie.Need-bounds-perm-j invariant-loop-j decreases-loop-j
+bounds-perm-j c = omega arith
 
-add-j : tie.Need-overflow-add-j invariant-loop decreases-loop
-add-j c = omega arith
+overflow_step-j : tie.Need-overflow_step-j invariant-loop-j decreases-loop-j
+overflow_step-j c = omega arith
 
-loop-less : tie.Need-loop-smaller invariant-loop decreases-loop
-loop-less c = omega arith
+loop-j-smaller : tie.Need-loop-j-smaller invariant-loop-j decreases-loop-j
+loop-j-smaller c = omega arith
 
-loop-again : tie.Need-loop-preserved invariant-loop decreases-loop
-loop-again c = let a = c.before.before.before.args in let l = c.before.before.loop in
+loop-j-preserved : tie.Need-loop-j-preserved invariant-loop-j decreases-loop-j
+loop-j-preserved c = let a = c.args in let l = c.loop-j in
     (omega arith, every_goes_on (λ i. ltb (get_or a.perm.now i 0) a.n) 0 (length a.perm.now) l.fine l.j (omega arith) l.invariant.1)
 
-returns : tie.Need-returns invariant-loop decreases-loop
+returns : tie.Need-returns invariant-loop-j decreases-loop-j
 unfolding rows_below
-returns c = let a = c.before.before.args in let l = c.before.loop in
+returns c = let a = c.args in let l = c.loop-j in
     every_all (λ i. ltb (get_or a.perm.now i 0) a.n) (length a.perm.now) l.fine l.j (omega arith) l.invariant.1
-    ∙ ap (λ (m : ℕ). every_of m (λ i. ltb (get_or a.perm.now i 0) a.n) 0) c.before.before.requires
+    ∙ ap (λ (m : ℕ). every_of m (λ i. ltb (get_or a.perm.now i 0) a.n) 0) c.requires
 
-pub rows-below-spec : {M : Type 1} → statement M
-rows-below-spec =
+pub rows_below_spec : {M : Type 1} → statement M
+rows_below_spec =
     tie.close
     (tie.spec
-    invariant-loop
-    decreases-loop
-    loop-holds
-    mul-fine
-    shared-slice-read-fine
-    add-j
-    loop-less
-    loop-again
+    invariant-loop-j
+    decreases-loop-j
+    loop-j-init
+    offset_bounds-perm-j
+    bounds-perm-j
+    overflow_step-j
+    loop-j-smaller
+    loop-j-preserved
     returns)

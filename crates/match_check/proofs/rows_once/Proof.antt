@@ -11,59 +11,52 @@ use Rattle.match_check.proofs.Marks.{Marked, marks_begin, marks_go_on, clear_is,
 use Rattle.match_check.proofs.rows_once.Statement.{statement}
 use Rattle.match_check.proofs.rows_once.Tie as tie
 
-abbrev invariant-loop : tie.invariant-loop
-invariant-loop perm seen₀ fine₀ j₀ j-end seen fine j = (j ≤ length perm) × (length seen ≡ 4096) × Marked perm j seen × Every (row_fresh perm) 0 (length perm) fine j
+abbrev invariant-loop-j : tie.invariant-loop-j
+invariant-loop-j perm seen₀ fine₀ j₀ j-end seen fine j = (j ≤ length perm) × (length seen ≡ 4096) × Marked perm j seen × Every (row_fresh perm) 0 (length perm) fine j
 
-abbrev decreases-loop : tie.decreases-loop
-decreases-loop perm seen₀ fine₀ j₀ j-end seen fine j = length perm - j
+abbrev decreases-loop-j : tie.decreases-loop-j
+decreases-loop-j perm seen₀ fine₀ j₀ j-end seen fine j = length perm - j
 
--- places of the proof, each from a later one
-abbrev loop-of-slice-known : tie.After-slice-known invariant-loop decreases-loop → tie.At-loop invariant-loop decreases-loop
-loop-of-slice-known c = c.before.before.before
-
-abbrev entry-of-slice-known : tie.After-slice-known invariant-loop decreases-loop → tie.Start invariant-loop decreases-loop
-entry-of-slice-known c = (loop-of-slice-known c).before
-
-loop-holds : tie.Need-loop-init invariant-loop decreases-loop
-loop-holds c = let a = c.args in let p = c.requires in (
+loop-j-init : tie.Need-loop-j-init invariant-loop-j decreases-loop-j
+loop-j-init c = let a = c.args in let p = c.requires in (
   omega arith,
-  ap length p.1.1 ∙ length-replicate {A = ℕ} 4096 0,
-  subst (Marked a.perm.now 0) (sym p.1.1)
+  ap length p.perm_len_bound.1 ∙ length-replicate {A = ℕ} 4096 0,
+  subst (Marked a.perm.now 0) (sym p.perm_len_bound.1)
       (marks_begin a.perm.now 4096),
   every_begins (row_fresh a.perm.now) 0 (length a.perm.now),
 )
 
-mul-row : tie.Need-overflow-mul-row invariant-loop decreases-loop
-mul-row c = omega arith
+offset_bounds-perm-j : tie.Need-offset_bounds-perm-j invariant-loop-j decreases-loop-j
+offset_bounds-perm-j c = omega arith
 
-shared-slice-read-row : tie.Need-shared-slice-read-row invariant-loop decreases-loop
-shared-slice-read-row c = omega arith
+bounds-perm-j : tie.Need-bounds-perm-j invariant-loop-j decreases-loop-j
+bounds-perm-j c = omega arith
 
-cast-row : tie.Need-overflow-cast-row invariant-loop decreases-loop
-cast-row c = omega (arith, c.shared-slice-known.given c.before.before.loop.j)
+overflow_cast-row : tie.Need-overflow_cast-row invariant-loop-j decreases-loop-j
+overflow_cast-row c = omega (arith, c.shared_slice_known-1.given c.loop-j.j)
 
-slice-read-fine : tie.Need-slice-read-fine invariant-loop decreases-loop
-slice-read-fine c =
-    let p = (entry-of-slice-known c).requires in
-    omega (arith, row_in (entry-of-slice-known c).args.perm.now p.0 p.1.0 (loop-of-slice-known c).loop.j (omega arith))
+bounds-seen-row : tie.Need-bounds-seen-row invariant-loop-j decreases-loop-j
+bounds-seen-row c =
+    let p = c.requires in
+    omega (arith, row_in c.args.perm.now p.t p.perm_len_bound.0 c.loop-j.j (omega arith))
 
-slice-write-seen : tie.Need-slice-write-seen invariant-loop decreases-loop
-slice-write-seen c =
-    let p = (entry-of-slice-known c).requires in
-    omega (arith, row_in (entry-of-slice-known c).args.perm.now p.0 p.1.0 (loop-of-slice-known c).loop.j (omega arith))
+bounds-seen-row-in-loop-j : tie.Need-bounds-seen-row-in-loop-j invariant-loop-j decreases-loop-j
+bounds-seen-row-in-loop-j c =
+    let p = c.requires in
+    omega (arith, row_in c.args.perm.now p.t p.perm_len_bound.0 c.loop-j.j (omega arith))
 
-add-j : tie.Need-overflow-add-j invariant-loop decreases-loop
-add-j c = omega arith
+overflow_step-j : tie.Need-overflow_step-j invariant-loop-j decreases-loop-j
+overflow_step-j c = omega arith
 
-loop-less : tie.Need-loop-smaller invariant-loop decreases-loop
-loop-less c = omega arith
+loop-j-smaller : tie.Need-loop-j-smaller invariant-loop-j decreases-loop-j
+loop-j-smaller c = omega arith
 
-loop-again : tie.Need-loop-preserved invariant-loop decreases-loop
-loop-again c =
-    let p = (entry-of-slice-known c).requires in
-    let a = (entry-of-slice-known c).args in
-    let l = (loop-of-slice-known c).loop in
-    let b : get_or a.perm.now l.j 0 < length l.seen = omega (arith, row_in a.perm.now p.0 p.1.0 l.j (omega arith)) in
+loop-j-preserved : tie.Need-loop-j-preserved invariant-loop-j decreases-loop-j
+loop-j-preserved c =
+    let p = c.requires in
+    let a = c.args in
+    let l = c.loop-j in
+    let b : get_or a.perm.now l.j 0 < length l.seen = omega (arith, row_in a.perm.now p.t p.perm_len_bound.0 l.j (omega arith)) in
     let test = row_fresh a.perm.now in
     let clear = clear_is a.perm.now l.j l.seen l.inv.2 (get_or a.perm.now l.j 0) b in (
       omega arith,
@@ -73,28 +66,28 @@ loop-again c =
           (every_goes_on test 0 (length a.perm.now) l.fine l.j (omega arith) l.inv.3),
     )
 
-same_length_lem : tie.Need-same-length invariant-loop decreases-loop
-same_length_lem c = let p = c.before.before.requires in c.before.loop.invariant.1 ∙ sym (ap length p.1.1 ∙ length-replicate {A = ℕ} 4096 0)
+shape_of-seen : tie.Need-shape_of-seen invariant-loop-j decreases-loop-j
+shape_of-seen c = let p = c.requires in c.loop-j.invariant.1 ∙ sym (ap length p.perm_len_bound.1 ∙ length-replicate {A = ℕ} 4096 0)
 
-returns : tie.Need-returns invariant-loop decreases-loop
+returns : tie.Need-returns invariant-loop-j decreases-loop-j
 unfolding rows_once
-returns c = let a = c.before.before.args in let l = c.before.loop in
+returns c = let a = c.args in let l = c.loop-j in
     every_all (row_fresh a.perm.now) (length a.perm.now) l.fine l.j (omega arith) l.invariant.3
 
-pub rows-once-spec : {M : Type 1} → statement M
-rows-once-spec =
+pub rows_once_spec : {M : Type 1} → statement M
+rows_once_spec =
     tie.close
     (tie.spec
-    invariant-loop
-    decreases-loop
-    loop-holds
-    mul-row
-    shared-slice-read-row
-    cast-row
-    slice-read-fine
-    slice-write-seen
-    add-j
-    loop-less
-    loop-again
-    same_length_lem
+    invariant-loop-j
+    decreases-loop-j
+    loop-j-init
+    offset_bounds-perm-j
+    bounds-perm-j
+    overflow_cast-row
+    bounds-seen-row
+    bounds-seen-row-in-loop-j
+    overflow_step-j
+    loop-j-smaller
+    loop-j-preserved
+    shape_of-seen
     returns)

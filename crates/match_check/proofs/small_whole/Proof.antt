@@ -6,7 +6,10 @@ use Rattle.match_check.proofs.small_whole.Statement.{statement}
 use Rattle.match_check.proofs.small_whole.Tie as tie
 
 returns : tie.Need-returns
-returns c = test_is c.args.x (subst T (sym c.well-formed.0.1) tt)
+returns c = test_is c.args.x (subst T (sym c.well_formed.0.1) tt)
 
-pub small-whole-spec : {M : Type 1} → statement M
-small-whole-spec = tie.close (tie.spec returns)
+pub small_whole_spec : {M : Type 1} → statement M
+small_whole_spec =
+    tie.close
+    (tie.spec
+    returns)

@@ -9,53 +9,53 @@ use Rattle.match_check.proofs.small_wholes.Statement.{statement}
 use Rattle.match_check.proofs.small_wholes.Tie as tie
 use Rattle.match_check.proofs.small_whole.Reads as small-whole-reads
 
-abbrev invariant-loop : tie.invariant-loop
-invariant-loop list fine₀ i₀ i-end fine i = (i ≤ length list) × Every (λ m. small_whole (get_or list m nan)) 0 (length list) fine i
+abbrev invariant-loop-i : tie.invariant-loop-i
+invariant-loop-i list fine₀ i₀ i-end fine i = (i ≤ length list) × Every (λ m. small_whole (get_or list m nan)) 0 (length list) fine i
 
-abbrev decreases-loop : tie.decreases-loop
-decreases-loop list fine₀ i₀ i-end fine i = length list - i
+abbrev decreases-loop-i : tie.decreases-loop-i
+decreases-loop-i list fine₀ i₀ i-end fine i = length list - i
 
-loop-holds : tie.Need-loop-init invariant-loop decreases-loop
-loop-holds c = let a = c.before.args in (omega arith, every_begins (λ m. small_whole (get_or a.list.now m nan)) 0 (length a.list.now))
+loop-i-init : tie.Need-loop-i-init invariant-loop-i decreases-loop-i
+loop-i-init c = let a = c.args in (omega arith, every_begins (λ m. small_whole (get_or a.list.now m nan)) 0 (length a.list.now))
 
-mul-small-whole : tie.Need-overflow-mul-small-whole invariant-loop decreases-loop
-mul-small-whole c = omega arith
+offset_bounds-list-i : tie.Need-offset_bounds-list-i invariant-loop-i decreases-loop-i
+offset_bounds-list-i c = omega arith
 
-shared-slice-read-small-whole : tie.Need-shared-slice-read-small-whole invariant-loop decreases-loop
-shared-slice-read-small-whole c = omega arith
+bounds-list-i : tie.Need-bounds-list-i invariant-loop-i decreases-loop-i
+bounds-list-i c = omega arith
 
-small-whole-requires : tie.Need-small-whole-requires invariant-loop decreases-loop
-small-whole-requires c κs = tt
+small_whole-fine-requires : tie.Need-small_whole-fine-requires invariant-loop-i decreases-loop-i
+small_whole-fine-requires c κs = tt
 
-add-i : tie.Need-overflow-add-i invariant-loop decreases-loop
-add-i c = omega arith
+overflow_step-i : tie.Need-overflow_step-i invariant-loop-i decreases-loop-i
+overflow_step-i c = omega arith
 
-loop-less : tie.Need-loop-smaller invariant-loop decreases-loop
-loop-less c = omega arith
+loop-i-smaller : tie.Need-loop-i-smaller invariant-loop-i decreases-loop-i
+loop-i-smaller c = omega arith
 
-loop-again : tie.Need-loop-preserved invariant-loop decreases-loop
-loop-again c = let a = c.before.before.before.before.before.args in let l = c.before.before.before.loop in (
+loop-i-preserved : tie.Need-loop-i-preserved invariant-loop-i decreases-loop-i
+loop-i-preserved c = let a = c.args in let l = c.loop-i in (
   omega arith,
-  rw c.small-whole.ensures
+  rw c.small_whole-fine.ensures
       (every_goes_on (λ m. small_whole (get_or a.list.now m nan)) 0 (length a.list.now) l.fine l.i (omega arith) l.invariant.1),
 )
 
-returns : tie.Need-returns invariant-loop decreases-loop
+returns : tie.Need-returns invariant-loop-i decreases-loop-i
 unfolding small_wholes
-returns c = let a = c.before.before.before.args in let l = c.before.loop in
+returns c = let a = c.args in let l = c.loop-i in
     every_all (λ m. small_whole (get_or a.list.now m nan)) (length a.list.now) l.fine l.i (omega arith) l.invariant.1
 
-pub small-wholes-spec : {M : Type 1} → statement M
-small-wholes-spec =
+pub small_wholes_spec : {M : Type 1} → statement M
+small_wholes_spec =
     tie.close
     (tie.spec
-    invariant-loop
-    decreases-loop
-    loop-holds
-    mul-small-whole
-    shared-slice-read-small-whole
-    small-whole-requires
-    add-i
-    loop-less
-    loop-again
+    invariant-loop-i
+    decreases-loop-i
+    loop-i-init
+    offset_bounds-list-i
+    bounds-list-i
+    small_whole-fine-requires
+    overflow_step-i
+    loop-i-smaller
+    loop-i-preserved
     returns)

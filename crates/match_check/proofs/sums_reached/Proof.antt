@@ -10,131 +10,115 @@ use Rattle.match_check.proofs.Columns.{stretch, every_column}
 use Rattle.match_check.proofs.sums_reached.Statement.{statement}
 use Rattle.match_check.proofs.sums_reached.Tie as tie
 
-abbrev invariant-loop : tie.invariant-loop
-invariant-loop n col-ptr row-idx cost perm u v fine₀ j₀ fine j = (j ≤ n) × Every (column_reached (graph_of n col-ptr row-idx cost) (claim perm u v)) 0 n fine j
+abbrev invariant-loop-j : tie.invariant-loop-j
+invariant-loop-j n col-ptr row-idx cost perm u v fine₀ j₀ fine j = (j ≤ n) × Every (column_reached (graph_of n col-ptr row-idx cost) (claim perm u v)) 0 n fine j
 
-abbrev decreases-loop : tie.decreases-loop
-decreases-loop n col-ptr row-idx cost perm u v fine₀ j₀ fine j = n - j
+abbrev decreases-loop-j : tie.decreases-loop-j
+decreases-loop-j n col-ptr row-idx cost perm u v fine₀ j₀ fine j = n - j
 
--- places of the proof, each from a later one
-abbrev entry-of-shared-slice-known6 : tie.After-shared-slice-known6 invariant-loop decreases-loop → tie.Start invariant-loop decreases-loop
-entry-of-shared-slice-known6 c = c.before.before.before.before.before.before
-
-abbrev entry-of-in-loop : tie.In-loop invariant-loop decreases-loop → tie.Start invariant-loop decreases-loop
-entry-of-in-loop c = entry-of-shared-slice-known6 c.before.before
-
-abbrev entry-of-shared-slice-known7 : tie.After-shared-slice-known7 invariant-loop decreases-loop → tie.Start invariant-loop decreases-loop
-entry-of-shared-slice-known7 c = entry-of-in-loop c.before
-
-abbrev entry-of-shared-slice-known9 : tie.After-shared-slice-known9 invariant-loop decreases-loop → tie.Start invariant-loop decreases-loop
-entry-of-shared-slice-known9 c = entry-of-shared-slice-known7 c.before.before
-
-abbrev loop-of-shared-slice-known10 : tie.After-shared-slice-known10 invariant-loop decreases-loop → tie.At-loop invariant-loop decreases-loop
-loop-of-shared-slice-known10 c = c.before.before.before.before.before
-
-loop-holds : tie.Need-loop-init invariant-loop decreases-loop
-loop-holds c = let a = (entry-of-shared-slice-known6 c).args in let g = graph_of a.n a.col-ptr.now a.row-idx.now a.cost.now in let s =
+loop-j-init : tie.Need-loop-j-init invariant-loop-j decreases-loop-j
+loop-j-init c = let a = c.args in let g = graph_of a.n a.col-ptr.now a.row-idx.now a.cost.now in let s =
     claim a.perm.now a.u.now a.v.now in
     (omega arith, every_begins (column_reached g s) 0 a.n)
 
-add-end : tie.Need-overflow-add-end invariant-loop decreases-loop
-add-end c =
-    let p = (entry-of-in-loop c).requires in
+overflow_add-end : tie.Need-overflow_add-end invariant-loop-j decreases-loop-j
+overflow_add-end c =
+    let p = c.requires in
     omega (arith, p.pattern.few, p.pattern.pointers, p.rows, p.column_duals)
 
-mul-end : tie.Need-overflow-mul-end invariant-loop decreases-loop
-mul-end c =
-    let p = (entry-of-in-loop c).requires in
+offset_bounds-col_ptr-j : tie.Need-offset_bounds-col_ptr-j invariant-loop-j decreases-loop-j
+offset_bounds-col_ptr-j c =
+    let p = c.requires in
     omega (arith, p.pattern.few, p.pattern.pointers, p.rows, p.column_duals)
 
-shared-slice-read-end : tie.Need-shared-slice-read-end invariant-loop decreases-loop
-shared-slice-read-end c =
-    let p = (entry-of-shared-slice-known7 c).requires in
+bounds-col_ptr-j : tie.Need-bounds-col_ptr-j invariant-loop-j decreases-loop-j
+bounds-col_ptr-j c =
+    let p = c.requires in
     omega (arith, p.pattern.few, p.pattern.pointers, p.rows, p.column_duals)
 
-cast-end : tie.Need-overflow-cast-end invariant-loop decreases-loop
-cast-end c = omega (arith, c.shared-slice-known7.given (c.before.before.loop.j + 1))
+overflow_cast-end : tie.Need-overflow_cast-end invariant-loop-j decreases-loop-j
+overflow_cast-end c = omega (arith, c.shared_slice_known-in-loop-j-1.given (c.loop-j.j + 1))
 
-mul-column-reached : tie.Need-overflow-mul-column-reached invariant-loop decreases-loop
-mul-column-reached c =
-    let p = (entry-of-shared-slice-known7 c).requires in
+offset_bounds-perm-j : tie.Need-offset_bounds-perm-j invariant-loop-j decreases-loop-j
+offset_bounds-perm-j c =
+    let p = c.requires in
     omega (arith, p.pattern.few, p.pattern.pointers, p.rows, p.column_duals)
 
-shared-slice-read-column-reached : tie.Need-shared-slice-read-column-reached invariant-loop decreases-loop
-shared-slice-read-column-reached c =
-    let p = (entry-of-shared-slice-known7 c.before).pre in
+bounds-perm-j : tie.Need-bounds-perm-j invariant-loop-j decreases-loop-j
+bounds-perm-j c =
+    let p = c.requires in
     omega (arith, p.pattern.few, p.pattern.pointers, p.rows, p.column_duals)
 
-mul-column-reached-2 : tie.Need-overflow-mul-column-reached-2 invariant-loop decreases-loop
-mul-column-reached-2 c =
-    let p = (entry-of-shared-slice-known7 c.before).pre in
+offset_bounds-v-j : tie.Need-offset_bounds-v-j invariant-loop-j decreases-loop-j
+offset_bounds-v-j c =
+    let p = c.requires in
     omega (arith, p.pattern.few, p.pattern.pointers, p.rows, p.column_duals)
 
-shared-slice-read-column-reached-2 : tie.Need-shared-slice-read-column-reached-2 invariant-loop decreases-loop
-shared-slice-read-column-reached-2 c =
-    let p = (entry-of-shared-slice-known9 c).requires in
+bounds-v-j : tie.Need-bounds-v-j invariant-loop-j decreases-loop-j
+bounds-v-j c =
+    let p = c.requires in
     omega (arith, p.pattern.few, p.pattern.pointers, p.rows, p.column_duals)
 
-mul-column-reached-3 : tie.Need-overflow-mul-column-reached-3 invariant-loop decreases-loop
-mul-column-reached-3 c =
-    let p = (entry-of-shared-slice-known9 c).requires in
+offset_bounds-col_ptr-j-in-loop-j : tie.Need-offset_bounds-col_ptr-j-in-loop-j invariant-loop-j decreases-loop-j
+offset_bounds-col_ptr-j-in-loop-j c =
+    let p = c.requires in
     omega (arith, p.pattern.few, p.pattern.pointers, p.rows, p.column_duals)
 
-shared-slice-read-column-reached-3 : tie.Need-shared-slice-read-column-reached-3 invariant-loop decreases-loop
-shared-slice-read-column-reached-3 c =
-    let p = (entry-of-shared-slice-known9 c.before).pre in
+bounds-col_ptr-j-in-loop-j : tie.Need-bounds-col_ptr-j-in-loop-j invariant-loop-j decreases-loop-j
+bounds-col_ptr-j-in-loop-j c =
+    let p = c.requires in
     omega (arith, p.pattern.few, p.pattern.pointers, p.rows, p.column_duals)
 
-cast-column-reached : tie.Need-overflow-cast-column-reached invariant-loop decreases-loop
-cast-column-reached c = omega (arith, c.shared-slice-known10.given (loop-of-shared-slice-known10 c).loop.j)
+overflow_cast-col_ptr : tie.Need-overflow_cast-col_ptr invariant-loop-j decreases-loop-j
+overflow_cast-col_ptr c = omega (arith, c.shared_slice_known-in-loop-j-4-1.given c.loop-j.j)
 
-column-reached-requires : tie.Need-column-reached-requires invariant-loop decreases-loop
-column-reached-requires c κs = stretch (entry-of-shared-slice-known9 c.before).pre (loop-of-shared-slice-known10 c).loop.j (omega arith)
+column_reached-fine-requires : tie.Need-column_reached-fine-requires invariant-loop-j decreases-loop-j
+column_reached-fine-requires c κs = stretch c.requires c.loop-j.j (omega arith)
 
-add-j : tie.Need-overflow-add-j invariant-loop decreases-loop
-add-j c =
-    let p = (entry-of-shared-slice-known9 c.before.before).pre in
+overflow_step-j : tie.Need-overflow_step-j invariant-loop-j decreases-loop-j
+overflow_step-j c =
+    let p = c.requires in
     omega (arith, p.pattern.few, p.pattern.pointers, p.rows, p.column_duals)
 
-loop-less : tie.Need-loop-smaller invariant-loop decreases-loop
-loop-less c = omega arith
+loop-j-smaller : tie.Need-loop-j-smaller invariant-loop-j decreases-loop-j
+loop-j-smaller c = omega arith
 
-loop-again : tie.Need-loop-preserved invariant-loop decreases-loop
-loop-again c = let a = (entry-of-shared-slice-known9 c.before.before).args in let g =
+loop-j-preserved : tie.Need-loop-j-preserved invariant-loop-j decreases-loop-j
+loop-j-preserved c = let a = c.args in let g =
     graph_of a.n a.col-ptr.now a.row-idx.now a.cost.now in let s = claim a.perm.now a.u.now a.v.now in
-    let l = (loop-of-shared-slice-known10 c.before).loop in (
+    let l = c.loop-j in (
       omega arith,
       subst (λ (t : Bool). Every (column_reached g s) 0 a.n (l.fine && t) (l.j + 1))
-          (every_column a.col-ptr.now (sum_reached g s l.j) l.j c.column_reached_lem.ensures)
+          (every_column a.col-ptr.now (sum_reached g s l.j) l.j c.column_reached-fine.ensures)
           (every_goes_on (column_reached g s) 0 a.n l.fine l.j (omega arith) l.inv.1),
     )
 
-returns : tie.Need-returns invariant-loop decreases-loop
+returns : tie.Need-returns invariant-loop-j decreases-loop-j
 unfolding sums_reached
-returns c = let a = (entry-of-shared-slice-known6 c.before.before).args in let g =
+returns c = let a = c.args in let g =
     graph_of a.n a.col-ptr.now a.row-idx.now a.cost.now in let s = claim a.perm.now a.u.now a.v.now in
-    let l = c.before.loop in every_all (column_reached g s) a.n l.fine l.j (omega arith) l.invariant.1
+    let l = c.loop-j in every_all (column_reached g s) a.n l.fine l.j (omega arith) l.invariant.1
 
-pub sums-reached-spec : {M : Type 1} → statement M
-sums-reached-spec =
+pub sums_reached_spec : {M : Type 1} → statement M
+sums_reached_spec =
     tie.close
     (tie.spec
-    invariant-loop
-    decreases-loop
-    loop-holds
-    add-end
-    mul-end
-    shared-slice-read-end
-    cast-end
-    mul-column-reached
-    shared-slice-read-column-reached
-    mul-column-reached-2
-    shared-slice-read-column-reached-2
-    mul-column-reached-3
-    shared-slice-read-column-reached-3
-    cast-column-reached
-    column-reached-requires
-    add-j
-    loop-less
-    loop-again
+    invariant-loop-j
+    decreases-loop-j
+    loop-j-init
+    overflow_add-end
+    offset_bounds-col_ptr-j
+    bounds-col_ptr-j
+    overflow_cast-end
+    offset_bounds-perm-j
+    bounds-perm-j
+    offset_bounds-v-j
+    bounds-v-j
+    offset_bounds-col_ptr-j-in-loop-j
+    bounds-col_ptr-j-in-loop-j
+    overflow_cast-col_ptr
+    column_reached-fine-requires
+    overflow_step-j
+    loop-j-smaller
+    loop-j-preserved
     returns)

@@ -10,59 +10,59 @@ use Rattle.match_gap.specs.Gap.{all_in_steps}
 use Rattle.match_gap.proofs.all_in_steps.Statement.{statement}
 use Rattle.match_gap.proofs.all_in_steps.Tie as tie
 
-abbrev invariant-loop : tie.invariant-loop
-invariant-loop list limit digits fine₀ i₀ i-end fine i = (i ≤ length list) × Every (λ m. in_steps (step digits) (get_or list m nan)) 0 (length list) fine i
+abbrev invariant-loop-i : tie.invariant-loop-i
+invariant-loop-i list limit digits fine₀ i₀ i-end fine i = (i ≤ length list) × Every (λ m. in_steps (step digits) (get_or list m nan)) 0 (length list) fine i
 
-abbrev decreases-loop : tie.decreases-loop
-decreases-loop list limit digits fine₀ i₀ i-end fine i = length list - i
+abbrev decreases-loop-i : tie.decreases-loop-i
+decreases-loop-i list limit digits fine₀ i₀ i-end fine i = length list - i
 
-loop-holds : tie.Need-loop-init invariant-loop decreases-loop
-loop-holds c = let a = c.args in (omega arith, every_begins (λ m. in_steps (step a.digits) (get_or a.list.now m nan)) 0 (length a.list.now))
+loop-i-init : tie.Need-loop-i-init invariant-loop-i decreases-loop-i
+loop-i-init c = let a = c.args in (omega arith, every_begins (λ m. in_steps (step a.digits) (get_or a.list.now m nan)) 0 (length a.list.now))
 
-mul-fine : tie.Need-overflow-mul-fine invariant-loop decreases-loop
-mul-fine c = omega arith
+offset_bounds-list-i : tie.Need-offset_bounds-list-i invariant-loop-i decreases-loop-i
+offset_bounds-list-i c = omega arith
 
-shared-slice-read-fine : tie.Need-shared-slice-read-fine invariant-loop decreases-loop
-shared-slice-read-fine c = omega arith
+bounds-list-i : tie.Need-bounds-list-i invariant-loop-i decreases-loop-i
+bounds-list-i c = omega arith
 
-mul-fine-2 : tie.Need-overflow-mul-fine-2 invariant-loop decreases-loop
-mul-fine-2 c = omega arith
+offset_bounds-list-i-in-loop-i : tie.Need-offset_bounds-list-i-in-loop-i invariant-loop-i decreases-loop-i
+offset_bounds-list-i-in-loop-i c = omega arith
 
-shared-slice-read-fine-2 : tie.Need-shared-slice-read-fine-2 invariant-loop decreases-loop
-shared-slice-read-fine-2 c = omega arith
+bounds-list-i-in-loop-i : tie.Need-bounds-list-i-in-loop-i invariant-loop-i decreases-loop-i
+bounds-list-i-in-loop-i c = omega arith
 
-add-i : tie.Need-overflow-add-i invariant-loop decreases-loop
-add-i c = omega arith
+overflow_step-i : tie.Need-overflow_step-i invariant-loop-i decreases-loop-i
+overflow_step-i c = omega arith
 
-loop-less : tie.Need-loop-smaller invariant-loop decreases-loop
-loop-less c = omega arith
+loop-i-smaller : tie.Need-loop-i-smaller invariant-loop-i decreases-loop-i
+loop-i-smaller c = omega arith
 
-loop-again : tie.Need-loop-preserved invariant-loop decreases-loop
-loop-again c =
-    let s = c.before.before.before.before in let l = c.before.before.before.loop in
-    let f : ℕ → Bool = λ m. in_steps (step s.args.digits) (get_or s.args.list.now m nan) in (
+loop-i-preserved : tie.Need-loop-i-preserved invariant-loop-i decreases-loop-i
+loop-i-preserved c =
+    let l = c.loop-i in
+    let f : ℕ → Bool = λ m. in_steps (step c.args.digits) (get_or c.args.list.now m nan) in (
       omega arith,
-      rw (s.requires.test (get_or s.args.list.now l.i nan) (c.shared-slice-known2.given l.i))
-          (every_goes_on f 0 (length s.args.list.now) l.fine l.i (omega arith) l.invariant.1),
+      rw (c.requires.test (get_or c.args.list.now l.i nan) (c.shared_slice_known-in-loop-i-1.given l.i))
+          (every_goes_on f 0 (length c.args.list.now) l.fine l.i (omega arith) l.invariant.1),
     )
 
-returns : tie.Need-returns invariant-loop decreases-loop
+returns : tie.Need-returns invariant-loop-i decreases-loop-i
 unfolding all_in_steps
-returns c = let a = c.before.before.args in let l = c.before.loop in
+returns c = let a = c.args in let l = c.loop-i in
     every_all (λ m. in_steps (step a.digits) (get_or a.list.now m nan)) (length a.list.now) l.fine l.i (omega arith) l.invariant.1
 
-pub all-in-steps-spec : {M : Type 1} → statement M
-all-in-steps-spec =
+pub all_in_steps_spec : {M : Type 1} → statement M
+all_in_steps_spec =
     tie.close
     (tie.spec
-    invariant-loop
-    decreases-loop
-    loop-holds
-    mul-fine
-    shared-slice-read-fine
-    mul-fine-2
-    shared-slice-read-fine-2
-    add-i
-    loop-less
-    loop-again
+    invariant-loop-i
+    decreases-loop-i
+    loop-i-init
+    offset_bounds-list-i
+    bounds-list-i
+    offset_bounds-list-i-in-loop-i
+    bounds-list-i-in-loop-i
+    overflow_step-i
+    loop-i-smaller
+    loop-i-preserved
     returns)

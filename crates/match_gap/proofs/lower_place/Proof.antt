@@ -1,4 +1,5 @@
 -- `lower_place` meets its contract: by the sign, the steps of the size are taken off the place of zero or added to it.
+use Rattle.std.proofs.Common.{rules}
 use mathlib.Core.Path.{ap, ◌∙◌}
 use Prim.Native.Nat.{ℕ, ◌+◌, ◌-◌}
 use native.Mathlib.Omega.{arith}
@@ -9,38 +10,45 @@ use Rattle.match_gap.proofs.Signs.{measured_clear, measured_raised, lower_clear,
 use Rattle.match_gap.proofs.lower_place.Statement.{statement}
 use Rattle.match_gap.proofs.lower_place.Tie as tie
 
-float-to-bits-bits : tie.Need-float-to-bits-bits
-float-to-bits-bits c = finite_no_nan c.args.x c.requires.0.number.is_finite
+float_to_bits-bits : tie.Need-float_to_bits-bits
+float_to_bits-bits c = finite_no_nan c.args.x c.requires.fact_1.number.is_finite
 
-floor-steps-requires : tie.Need-floor-steps-requires
-floor-steps-requires c κs = let s = c.before in measured_clear s.args.unit s.args.x s.requires.0 s.requires.1 c.if1.true
+floor_steps-requires : tie.Need-floor_steps-requires
+floor_steps-requires c κs = measured_clear c.args.unit c.args.x c.requires.fact_1 c.requires.fact_2 c.if-bits-lt-SIGN.true
 
-add-result : tie.Need-overflow-add-result
-add-result c = search rules
+overflow_add-result : tie.Need-overflow_add-result
+overflow_add-result c = search rules
 
-ceiling-steps-requires : tie.Need-ceiling-steps-requires
-ceiling-steps-requires c κs = let s = c.before in measured_raised s.args.unit s.args.x s.requires.0 s.requires.1 c.if1.false
+ceiling_steps-requires : tie.Need-ceiling_steps-requires
+ceiling_steps-requires c κs = measured_raised c.args.unit c.args.x c.requires.fact_1 c.requires.fact_2 c.if-bits-lt-SIGN.false
 
-sub-result : tie.Need-overflow-sub-result
-sub-result c = search rules
+overflow_sub-result : tie.Need-overflow_sub-result
+overflow_sub-result c = search rules
 
-returns : tie.Need-returns
-returns c =
-    let s = c.before.before in (
-      ap (λ (r : ℕ). zero_step + r) c.floor-steps.ensures.0 ∙ lower_clear s.args.unit s.args.x s.requires.0 s.requires.1
-          c.before.if1.true,
-      omega (arith, c.floor-steps.ensures.1),
+returns-then-bits-lt-SIGN : tie.Need-returns-then-bits-lt-SIGN
+returns-then-bits-lt-SIGN c =
+    (
+      ap (λ (r : ℕ). zero_step + r) c.floor_steps.ensures.0 ∙ lower_clear c.args.unit c.args.x c.requires.fact_1 c.requires.fact_2
+          c.if-bits-lt-SIGN.true,
+      omega (arith, c.floor_steps.ensures.1),
     )
 
-returns-2 : tie.Need-returns-2
-returns-2 c =
-    let s = c.before.before in (
-      ap (λ (r : ℕ). zero_step - r) c.ceiling-steps.ensures.0 ∙ lower_raised s.args.unit s.args.x s.requires.0 s.requires.1
-          c.before.if1.false,
+returns-else-bits-lt-SIGN : tie.Need-returns-else-bits-lt-SIGN
+returns-else-bits-lt-SIGN c =
+    (
+      ap (λ (r : ℕ). zero_step - r) c.ceiling_steps.ensures.0 ∙ lower_raised c.args.unit c.args.x c.requires.fact_1 c.requires.fact_2
+          c.if-bits-lt-SIGN.false,
       omega arith,
     )
 
-pub lower-place-spec : {M : Type 1} → statement M
-lower-place-spec =
+pub lower_place_spec : {M : Type 1} → statement M
+lower_place_spec =
     tie.close
-    (tie.spec float-to-bits-bits floor-steps-requires add-result ceiling-steps-requires sub-result returns returns-2)
+    (tie.spec
+    float_to_bits-bits
+    floor_steps-requires
+    overflow_add-result
+    ceiling_steps-requires
+    overflow_sub-result
+    returns-then-bits-lt-SIGN
+    returns-else-bits-lt-SIGN)

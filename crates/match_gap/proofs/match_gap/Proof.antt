@@ -1,4 +1,5 @@
 -- `match_gap` meets its contract: it refuses by the first fault, or writes the sum; the clauses follow of any answer.
+use Rattle.std.proofs.Common.{rules}
 use mathlib.Core.Path.{sym, ap, ◌∙◌}
 use mathlib.Core.List.{[], ◌∷◌}
 use Prim.Native.Nat.{ℕ}
@@ -16,56 +17,53 @@ use Rattle.match_gap.proofs.match_gap.Statement.{statement}
 use Rattle.match_gap.proofs.match_gap.Tie as tie
 
 -- ---- places
-abbrev lent-of-fault : tie.After-gap-fault → tie.After-shared-slice-known6
-lent-of-fault c = c.before.before.before
+costs : (c : tie.After-gap_fault-fault) → (k : ℕ) → T (fits binary64 (get_or c.args.cost.now k nan))
+costs c k = c.shared_slice_known-3-1.given k
 
-costs : (c : tie.After-gap-fault) → (k : ℕ) → T (fits binary64 (get_or (lent-of-fault c).before.before.before.before.before.before.args.cost.now k nan))
-costs c k = (lent-of-fault c).before.before.before.shared-slice-known3.given k
-
-duals : (c : tie.After-gap-fault) → let a = (lent-of-fault c).before.before.before.before.before.before.args in Doubled
+duals : (c : tie.After-gap_fault-fault) → let a = c.args in Doubled
     (claim a.perm.now a.u.now a.v.now)
-duals c = let l = lent-of-fault c in record { rows = l.before.shared-slice-known5.given; columns = l.shared-slice-known6.given }
+duals c = record { rows = c.shared_slice_known-5-1.given; columns = c.shared_slice_known-6-1.given }
 
-gap-fault-requires : tie.Need-gap-fault-requires
-gap-fault-requires c κs = search rules
+gap_fault-fault-requires : tie.Need-gap_fault-fault-requires
+gap_fault-fault-requires c κs = search rules
 
-same_length_lem : tie.Need-same-length
-same_length_lem c = search rules
+shape_of-gap-then-fault-ne-ACCEPTED : tie.Need-shape_of-gap-then-fault-ne-ACCEPTED
+shape_of-gap-then-fault-ne-ACCEPTED c = search rules
+
+returns-then-fault-ne-ACCEPTED : tie.Need-returns-then-fault-ne-ACCEPTED
+returns-then-fault-ne-ACCEPTED c = all_promised _ _ _ _ (costs c.before) (duals c.before) (refused _ _ _ _ c.gap_fault-fault.ensures c.if-fault-ne-ACCEPTED.true)
+
+overflow_sub-unit : tie.Need-overflow_sub-unit
+overflow_sub-unit c = omega (arith, (passed _ _ _ _ (sym c.gap_fault-fault.ensures ∙ c.if-fault-ne-ACCEPTED.false)).digits_few)
+
+overflow_cast-unit : tie.Need-overflow_cast-unit
+overflow_cast-unit c = search rules
+
+sum_columns-requires : tie.Need-sum_columns-requires
+sum_columns-requires c κs = measurable _ _ _ _ (costs c.before) (duals c.before) (sym c.gap_fault-fault.ensures ∙ c.if-fault-ne-ACCEPTED.false)
+
+bounds-gap-0 : tie.Need-bounds-gap-0
+bounds-gap-0 c = omega (arith, (passed _ _ _ _ (sym c.gap_fault-fault.ensures ∙ c.if-fault-ne-ACCEPTED.false)).room)
+
+shape_of-gap : tie.Need-shape_of-gap
+shape_of-gap c = search rules
 
 returns : tie.Need-returns
-returns c = let k = c.before in all_promised _ _ _ _ (costs k) (duals k) (refused _ _ _ _ k.gap-fault.ensures c.if1.true)
+returns-then-fault-ne-ACCEPTED c = let z = c.if-fault-ne-ACCEPTED.false in all_promised _ _ _ _ (costs c.before.before) (duals c.before.before)
+    (found _ _ _ _ c.gap_fault-fault.ensures z (only c.args.gap.now c.sum_columns.result
+    (passed _ _ _ _ (sym c.gap_fault-fault.ensures ∙ z)).room ∙ ap (λ (x : ℕ). x ∷ [])
+    (c.sum_columns.ensures ∙ steps_are c.args.digits _ _)))
 
-sub-unit : tie.Need-overflow-sub-unit
-sub-unit c = let k = c.before in omega (arith, (passed _ _ _ _ (sym k.gap-fault.ensures ∙ c.if1.false)).digits_few)
-
-cast-unit : tie.Need-overflow-cast-unit
-cast-unit c = search rules
-
-sum-columns-requires : tie.Need-sum-columns-requires
-sum-columns-requires c κs = let k = c.before in measurable _ _ _ _ (costs k) (duals k) (sym k.gap-fault.ensures ∙ c.if1.false)
-
-slice-write-gap : tie.Need-slice-write-gap
-slice-write-gap c = let k = c.before.before in omega (arith, (passed _ _ _ _ (sym k.gap-fault.ensures ∙ c.before.if1.false)).room)
-
-same-length-2 : tie.Need-same-length-2
-same-length-2 c = search rules
-
-returns-2 : tie.Need-returns-2
-returns-2 c = let k = c.before.before in let z = c.before.if1.false in all_promised _ _ _ _ (costs k) (duals k)
-    (found _ _ _ _ k.gap-fault.ensures z (only (lent-of-fault k).before.before.before.before.before.before.args.gap.now c.sum-columns.result
-    (passed _ _ _ _ (sym k.gap-fault.ensures ∙ z)).room ∙ ap (λ (x : ℕ). x ∷ [])
-    (c.sum-columns.ensures ∙ steps_are (lent-of-fault k).before.before.before.before.before.before.args.digits _ _)))
-
-pub match-gap-spec : {M : Type 1} → statement M
-match-gap-spec =
+pub match_gap_spec : {M : Type 1} → statement M
+match_gap_spec =
     tie.close
     (tie.spec
-    gap-fault-requires
-    same_length_lem
-    returns
-    sub-unit
-    cast-unit
-    sum-columns-requires
-    slice-write-gap
-    same-length-2
-    returns-2)
+    gap_fault-fault-requires
+    shape_of-gap-then-fault-ne-ACCEPTED
+    returns-then-fault-ne-ACCEPTED
+    overflow_sub-unit
+    overflow_cast-unit
+    sum_columns-requires
+    bounds-gap-0
+    shape_of-gap
+    returns)

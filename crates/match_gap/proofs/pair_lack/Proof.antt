@@ -1,16 +1,22 @@
 -- `pair_lack` meets its contract: its test is the definition's.
+use Rattle.std.proofs.Common.{rules}
 use borrow.Author.Rules.{rules}
 use Rattle.match_gap.proofs.pair_lack.Statement.{statement}
 use Rattle.match_gap.proofs.pair_lack.Tie as tie
 
-lack-of-requires : tie.Need-lack-of-requires
-lack-of-requires c κs = search rules
+lack_of-requires : tie.Need-lack_of-requires
+lack_of-requires c κs = search rules
 
-returns : tie.Need-returns
-returns c = rw c.before.if1.true c.lack-of.ensures
+returns-then-paired : tie.Need-returns-then-paired
+returns-then-paired c = rw c.if-paired.true c.lack_of.ensures
 
-returns-2 : tie.Need-returns-2
-returns-2 c = search rules
+returns-else-paired : tie.Need-returns-else-paired
+returns-else-paired c = search rules
 
-pub pair-lack-spec : {M : Type 1} → statement M
-pair-lack-spec = tie.close (tie.spec lack-of-requires returns returns-2)
+pub pair_lack_spec : {M : Type 1} → statement M
+pair_lack_spec =
+    tie.close
+    (tie.spec
+    lack_of-requires
+    returns-then-paired
+    returns-else-paired)

@@ -1,4 +1,5 @@
 -- `pairs_fault` meets its contract: each return is the first fault of the chain.
+use Rattle.std.proofs.Common.{rules}
 use borrow.Author.Rules.{rules}
 use borrow.Author.Tests.{not-true, not-false}
 use Rattle.match_gap.proofs.Faults.{by_pairing, by_nothing, by_duals}
@@ -7,35 +8,35 @@ use Rattle.match_gap.proofs.pairs_fault.Tie as tie
 
 -- the test of the pairs, from that of the duals
 
-pairing-fits-requires : tie.Need-pairing-fits-requires
-pairing-fits-requires c κs = search rules
+pairing_fits-requires : tie.Need-pairing_fits-requires
+pairing_fits-requires c κs = search rules
 
-returns : tie.Need-returns
-returns c = by_pairing _ _ _ c.before.pairing-fits.ensures (not-true _ c.if1.true)
+returns-then-not-pairing_fits : tie.Need-returns-then-not-pairing_fits
+returns-then-not-pairing_fits c = by_pairing _ _ _ c.pairing_fits.ensures (not-true _ c.if-not-pairing_fits.true)
 
-all-in-steps-requires : tie.Need-all-in-steps-requires
-all-in-steps-requires c κs = search rules
+all_in_steps-rows-requires : tie.Need-all_in_steps-rows-requires
+all_in_steps-rows-requires c κs = search rules
 
-all-in-steps-requires-2 : tie.Need-all-in-steps-requires-2
-all-in-steps-requires-2 c κs = search rules
+all_in_steps-requires : tie.Need-all_in_steps-requires
+all_in_steps-requires c κs = search rules
 
-returns-2 : tie.Need-returns-2
-returns-2 c = let p = c.before.before.before.before in
-    by_nothing _ _ _ p.pairing-fits.ensures (not-false _ c.before.before.before.if1.false) c.before.before.all-in-steps.ensures
-    c.before.all-in-steps2.ensures c.if2.true
+returns-then-rows-all_in_steps : tie.Need-returns-then-rows-all_in_steps
+returns-then-rows-all_in_steps c = 
+    by_nothing _ _ _ c.pairing_fits.ensures (not-false _ c.if-not-pairing_fits.false) c.all_in_steps-rows.ensures
+    c.all_in_steps.ensures c.if-rows-all_in_steps.true
 
-returns-3 : tie.Need-returns-3
-returns-3 c = let p = c.before.before.before.before in
-    by_duals _ _ _ p.pairing-fits.ensures (not-false _ c.before.before.before.if1.false) c.before.before.all-in-steps.ensures
-    c.before.all-in-steps2.ensures c.if2.false
+returns-else-rows-all_in_steps : tie.Need-returns-else-rows-all_in_steps
+returns-else-rows-all_in_steps c = 
+    by_duals _ _ _ c.pairing_fits.ensures (not-false _ c.if-not-pairing_fits.false) c.all_in_steps-rows.ensures
+    c.all_in_steps.ensures c.if-rows-all_in_steps.false
 
-pub pairs-fault-spec : {M : Type 1} → statement M
-pairs-fault-spec =
+pub pairs_fault_spec : {M : Type 1} → statement M
+pairs_fault_spec =
     tie.close
     (tie.spec
-    pairing-fits-requires
-    returns
-    all-in-steps-requires
-    all-in-steps-requires-2
-    returns-2
-    returns-3)
+    pairing_fits-requires
+    returns-then-not-pairing_fits
+    all_in_steps-rows-requires
+    all_in_steps-requires
+    returns-then-rows-all_in_steps
+    returns-else-rows-all_in_steps)

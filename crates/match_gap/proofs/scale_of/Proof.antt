@@ -1,18 +1,24 @@
 -- `scale_of` meets its contract: its test is the definition's.
+use Rattle.std.proofs.Common.{rules}
 use mathlib.Core.Path.{sym}
 use borrow.Author.Rules.{rules}
 use Rattle.match_gap.proofs.Shifts.{small_digits, large_digits}
 use Rattle.match_gap.proofs.scale_of.Statement.{statement}
 use Rattle.match_gap.proofs.scale_of.Tie as tie
 
-sub-result : tie.Need-overflow-sub-result
-sub-result c = search rules
+overflow_sub-result : tie.Need-overflow_sub-result
+overflow_sub-result c = search rules
 
-returns : tie.Need-returns
-returns c = sym (small_digits c.before.args.bits c.if1.true).1
+returns-then-bits-lt-NORMAL : tie.Need-returns-then-bits-lt-NORMAL
+returns-then-bits-lt-NORMAL c = sym (small_digits c.args.bits c.if-bits-lt-NORMAL.true).1
 
-returns-2 : tie.Need-returns-2
-returns-2 c = sym (large_digits c.before.args.bits c.if1.false).1
+returns-else-bits-lt-NORMAL : tie.Need-returns-else-bits-lt-NORMAL
+returns-else-bits-lt-NORMAL c = sym (large_digits c.args.bits c.if-bits-lt-NORMAL.false).1
 
-pub scale-of-spec : {M : Type 1} → statement M
-scale-of-spec = tie.close (tie.spec sub-result returns returns-2)
+pub scale_of_spec : {M : Type 1} → statement M
+scale_of_spec =
+    tie.close
+    (tie.spec
+    overflow_sub-result
+    returns-then-bits-lt-NORMAL
+    returns-else-bits-lt-NORMAL)

@@ -6,17 +6,23 @@ use Rattle.limits.specs.Limits.{none}
 use Rattle.match_largest.proofs.column_mark.Statement.{statement}
 use Rattle.match_largest.proofs.column_mark.Tie as tie
 
-shared-slice-read-result : tie.Need-shared-slice-read-result
-shared-slice-read-result c = omega (arith, c.before.before.requires.0, c.before.before.requires.1 c.before.if1.false)
+bounds-met-row : tie.Need-bounds-met-row
+bounds-met-row c = omega (arith, c.requires.0, c.requires.1 c.if-row-eq-NONE.false)
 
-cast-result : tie.Need-overflow-cast-result
-cast-result c = record { fits = omega (arith, c.shared-slice-known.given c.before.before.args.row) }
+overflow_cast-result-else-row-eq-NONE : tie.Need-overflow_cast-result-else-row-eq-NONE
+overflow_cast-result-else-row-eq-NONE c = record { fits = omega (arith, c.shared_slice_known-1.given c.args.row) }
 
-returns : tie.Need-returns
-returns c = rw (eq-eqb c.before.args.row none c.if1.true) refl
+returns-then-row-eq-NONE : tie.Need-returns-then-row-eq-NONE
+returns-then-row-eq-NONE c = rw (eq-eqb c.args.row none c.if-row-eq-NONE.true) refl
 
-returns-2 : tie.Need-returns-2
-returns-2 c = rw (ne_eqb c.before.before.args.row none c.before.if1.false) refl
+returns-else-row-eq-NONE : tie.Need-returns-else-row-eq-NONE
+returns-else-row-eq-NONE c = rw (ne_eqb c.args.row none c.if-row-eq-NONE.false) refl
 
-pub column-mark-spec : {M : Type 1} → statement M
-column-mark-spec = tie.close (tie.spec shared-slice-read-result cast-result returns returns-2)
+pub column_mark_spec : {M : Type 1} → statement M
+column_mark_spec =
+    tie.close
+    (tie.spec
+    bounds-met-row
+    overflow_cast-result-else-row-eq-NONE
+    returns-then-row-eq-NONE
+    returns-else-row-eq-NONE)

@@ -14,68 +14,64 @@ use Rattle.match_largest.proofs.Queueing.{byte_most, count_few, count_more, coun
 use Rattle.match_largest.proofs.count_pairs.Statement.{statement}
 use Rattle.match_largest.proofs.count_pairs.Tie as tie
 
-abbrev invariant-loop : tie.invariant-loop
-invariant-loop perm count₀ j₀ j-end count j = (j ≤ length perm) × (count ≡ sum_to j (λ c. or_zero (not (eqb (row_at perm c) none)) 1))
+abbrev invariant-loop-j : tie.invariant-loop-j
+invariant-loop-j perm count₀ j₀ j-end count j = (j ≤ length perm) × (count ≡ sum_to j (λ c. or_zero (not (eqb (row_at perm c) none)) 1))
 
-abbrev decreases-loop : tie.decreases-loop
-decreases-loop perm count₀ j₀ j-end count j = length perm - j
+abbrev decreases-loop-j : tie.decreases-loop-j
+decreases-loop-j perm count₀ j₀ j-end count j = length perm - j
 
--- places of the proof, each from a later one
-abbrev entry-of-shared-slice-known : tie.After-shared-slice-known invariant-loop decreases-loop → tie.Start invariant-loop decreases-loop
-entry-of-shared-slice-known c = c.before.before.before
+loop-j-init : tie.Need-loop-j-init invariant-loop-j decreases-loop-j
+loop-j-init c = (omega arith, counted_none (λ j. not (eqb (row_at c.args.perm.now j) none)))
 
-loop-holds : tie.Need-loop-init invariant-loop decreases-loop
-loop-holds c = (omega arith, counted_none (λ j. not (eqb (row_at c.args.perm.now j) none)))
+offset_bounds-perm-j : tie.Need-offset_bounds-perm-j invariant-loop-j decreases-loop-j
+offset_bounds-perm-j c = omega arith
 
-mul-count : tie.Need-overflow-mul-count invariant-loop decreases-loop
-mul-count c = omega arith
+bounds-perm-j : tie.Need-bounds-perm-j invariant-loop-j decreases-loop-j
+bounds-perm-j c = omega arith
 
-shared-slice-read-count : tie.Need-shared-slice-read-count invariant-loop decreases-loop
-shared-slice-read-count c = omega arith
+overflow_cast-count : tie.Need-overflow_cast-count invariant-loop-j decreases-loop-j
+overflow_cast-count c = tt
 
-cast-count : tie.Need-overflow-cast-count invariant-loop decreases-loop
-cast-count c = tt
-
-add-count : tie.Need-overflow-add-count invariant-loop decreases-loop
-add-count c = let a = (entry-of-shared-slice-known c).args in let l = c.before.before.loop in
+overflow_add-count : tie.Need-overflow_add-count invariant-loop-j decreases-loop-j
+overflow_add-count c = let a = c.args in let l = c.loop-j in
     omega (
       arith,
-      (entry-of-shared-slice-known c).requires,
+      c.requires,
       l.invariant,
       count_few l.j (λ j. not (eqb (row_at a.perm.now j) none)),
       byte_most (not (eqb (get_or a.perm.now l.j 0) none)),
     )
 
-add-j : tie.Need-overflow-add-j invariant-loop decreases-loop
-add-j c = omega (arith, (entry-of-shared-slice-known c).requires)
+overflow_step-j : tie.Need-overflow_step-j invariant-loop-j decreases-loop-j
+overflow_step-j c = omega (arith, c.requires)
 
-loop-less : tie.Need-loop-smaller invariant-loop decreases-loop
-loop-less c = omega arith
+loop-j-smaller : tie.Need-loop-j-smaller invariant-loop-j decreases-loop-j
+loop-j-smaller c = omega arith
 
-loop-again : tie.Need-loop-preserved invariant-loop decreases-loop
-loop-again c = let a = (entry-of-shared-slice-known c).args in let l = c.before.before.loop in (
+loop-j-preserved : tie.Need-loop-j-preserved invariant-loop-j decreases-loop-j
+loop-j-preserved c = let a = c.args in let l = c.loop-j in (
   omega arith,
   ap (λ (m : ℕ). m + bool_byte (not (eqb (get_or a.perm.now l.j 0) none))) l.invariant.1
       ∙ sym (count_more l.j (λ j. not (eqb (row_at a.perm.now j) none))),
 )
 
-returns : tie.Need-returns invariant-loop decreases-loop
+returns : tie.Need-returns invariant-loop-j decreases-loop-j
 unfolding matched_count
-returns c = let a = c.before.before.args in let l = c.before.loop in
+returns c = let a = c.args in let l = c.loop-j in
     l.invariant.1 ∙ ap (λ (m : ℕ). sum_to m (λ j. or_zero (not (eqb (row_at a.perm.now j) none)) 1)) (let e : l.j ≡ length a.perm.now = omega arith in e)
 
-pub count-pairs-spec : {M : Type 1} → statement M
-count-pairs-spec =
+pub count_pairs_spec : {M : Type 1} → statement M
+count_pairs_spec =
     tie.close
     (tie.spec
-    invariant-loop
-    decreases-loop
-    loop-holds
-    mul-count
-    shared-slice-read-count
-    cast-count
-    add-count
-    add-j
-    loop-less
-    loop-again
+    invariant-loop-j
+    decreases-loop-j
+    loop-j-init
+    offset_bounds-perm-j
+    bounds-perm-j
+    overflow_cast-count
+    overflow_add-count
+    overflow_step-j
+    loop-j-smaller
+    loop-j-preserved
     returns)

@@ -13,75 +13,65 @@ use Rattle.match_largest.proofs.Entering.{enter_begins}
 use Rattle.match_largest.proofs.enter_pairs.Statement.{statement}
 use Rattle.match_largest.proofs.enter_pairs.Tie as tie
 
-abbrev invariant-loop : tie.invariant-loop
-invariant-loop n col-ptr row-idx perm inverse₀ fine₀ j₀ inverse fine j =
+abbrev invariant-loop-j : tie.invariant-loop-j
+invariant-loop-j n col-ptr row-idx perm inverse₀ fine₀ j₀ inverse fine j =
     (j ≤ n) × Entered n perm j inverse × Every (pair_fits (pattern n col-ptr row-idx) perm) 0 n fine j
 
-abbrev decreases-loop : tie.decreases-loop
-decreases-loop n col-ptr row-idx perm inverse₀ fine₀ j₀ inverse fine j = n - j
+abbrev decreases-loop-j : tie.decreases-loop-j
+decreases-loop-j n col-ptr row-idx perm inverse₀ fine₀ j₀ inverse fine j = n - j
 
--- places of the proof, each from a later one
-abbrev entry-of-slice-known : tie.After-slice-known invariant-loop decreases-loop → tie.Start invariant-loop decreases-loop
-entry-of-slice-known c = c.before.before.before.before
-
-abbrev entry-of-enter-pair-arg : tie.After-enter-pair-arg invariant-loop decreases-loop → tie.Start invariant-loop decreases-loop
-entry-of-enter-pair-arg c = entry-of-slice-known c.before.before.before
-
-abbrev entry-of-slice-known2 : tie.After-slice-known2 invariant-loop decreases-loop → tie.Start invariant-loop decreases-loop
-entry-of-slice-known2 c = entry-of-enter-pair-arg c.before.before.before
-
-loop-holds : tie.Need-loop-init invariant-loop decreases-loop
-loop-holds c = let a = (entry-of-slice-known c).args in let p = (entry-of-slice-known c).requires in (
+loop-j-init : tie.Need-loop-j-init invariant-loop-j decreases-loop-j
+loop-j-init c = let a = c.args in let p = c.requires in (
   omega arith,
-  enter_begins a.n a.perm.now p.0.few p.1.1,
+  enter_begins a.n a.perm.now p.accepted_pattern_1.few p.inverse_value,
   every_begins (pair_fits (pattern a.n a.col-ptr.now a.row-idx.now) a.perm.now) 0 a.n,
 )
 
-enter-pair-requires : tie.Need-enter-pair-requires invariant-loop decreases-loop
-enter-pair-requires c κs = let p = (entry-of-enter-pair-arg c).requires in
-    (p.0, (p.1.0, (c.before.loop-test.true, c.before.before.loop.invariant.1)))
+enter_pair-fine-requires : tie.Need-enter_pair-fine-requires invariant-loop-j decreases-loop-j
+enter_pair-fine-requires c κs = let p = c.requires in
+    (p.accepted_pattern_1, (p.accepted_pattern_2, (c.loop-j-test.true, c.loop-j.invariant.1)))
 
-add-j : tie.Need-overflow-add-j invariant-loop decreases-loop
-add-j c = omega (arith, (entry-of-slice-known2 c).requires.0.few)
+overflow_step-j : tie.Need-overflow_step-j invariant-loop-j decreases-loop-j
+overflow_step-j c = omega (arith, c.requires.accepted_pattern_1.few)
 
-loop-less : tie.Need-loop-smaller invariant-loop decreases-loop
-loop-less c = omega arith
+loop-j-smaller : tie.Need-loop-j-smaller invariant-loop-j decreases-loop-j
+loop-j-smaller c = omega arith
 
-loop-again : tie.Need-loop-preserved invariant-loop decreases-loop
-loop-again c =
-    let a = (entry-of-slice-known2 c).args in
-    let l = c.before.before.before.before.before.loop in
+loop-j-preserved : tie.Need-loop-j-preserved invariant-loop-j decreases-loop-j
+loop-j-preserved c =
+    let a = c.args in
+    let l = c.loop-j in
     let test = pair_fits (pattern a.n a.col-ptr.now a.row-idx.now) a.perm.now in (
       omega arith,
-      c.before.before.enter-pair.ensures.1,
+      c.enter_pair-fine.ensures.entered,
       subst (λ (t : Bool). Every test 0 a.n (l.fine && t) (l.j + 1))
-          (sym c.before.before.enter-pair.ensures.0) (every_goes_on test 0 a.n l.fine l.j (omega arith) l.invariant.2),
+          (sym c.enter_pair-fine.ensures.result_value) (every_goes_on test 0 a.n l.fine l.j (omega arith) l.invariant.2),
     )
 
-same_length_lem : tie.Need-same-length invariant-loop decreases-loop
-same_length_lem c = c.before.loop.invariant.1.places
-    ∙ sym (ap length (entry-of-slice-known c.before.before).pre.1.1 ∙ length-replicate {A = ℕ} 4096 4096)
+shape_of-inverse : tie.Need-shape_of-inverse invariant-loop-j decreases-loop-j
+shape_of-inverse c = c.loop-j.invariant.1.places
+    ∙ sym (ap length c.requires.inverse_value ∙ length-replicate {A = ℕ} 4096 4096)
 
-returns : tie.Need-returns invariant-loop decreases-loop
+returns : tie.Need-returns invariant-loop-j decreases-loop-j
 unfolding pairs_fit
 returns c =
-    let a = (entry-of-slice-known c.before.before).args in
-    let l = c.before.loop in
+    let a = c.args in
+    let l = c.loop-j in
     let e : l.j ≡ a.n = omega arith in (
       every_all (pair_fits (pattern a.n a.col-ptr.now a.row-idx.now) a.perm.now) a.n l.fine l.j (omega arith) l.invariant.2,
       subst (λ (m : ℕ). Entered a.n a.perm.now m l.inverse) e l.invariant.1,
     )
 
-pub enter-pairs-spec : {M : Type 1} → statement M
-enter-pairs-spec =
+pub enter_pairs_spec : {M : Type 1} → statement M
+enter_pairs_spec =
     tie.close
     (tie.spec
-    invariant-loop
-    decreases-loop
-    loop-holds
-    enter-pair-requires
-    add-j
-    loop-less
-    loop-again
-    same_length_lem
+    invariant-loop-j
+    decreases-loop-j
+    loop-j-init
+    enter_pair-fine-requires
+    overflow_step-j
+    loop-j-smaller
+    loop-j-preserved
+    shape_of-inverse
     returns)

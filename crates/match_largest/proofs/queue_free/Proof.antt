@@ -10,77 +10,73 @@ use Rattle.match_largest.proofs.Queueing.{byte_most, queue_begins, queue_few, qu
 use Rattle.match_largest.proofs.queue_free.Statement.{statement}
 use Rattle.match_largest.proofs.queue_free.Tie as tie
 
-abbrev invariant-loop : tie.invariant-loop
-invariant-loop perm queue₀ free₀ j₀ j-end queue free j = (j ≤ length perm) × Queued perm j queue free
+abbrev invariant-loop-j : tie.invariant-loop-j
+invariant-loop-j perm queue₀ free₀ j₀ j-end queue free j = (j ≤ length perm) × Queued perm j queue free
 
-abbrev decreases-loop : tie.decreases-loop
-decreases-loop perm queue₀ free₀ j₀ j-end queue free j = length perm - j
+abbrev decreases-loop-j : tie.decreases-loop-j
+decreases-loop-j perm queue₀ free₀ j₀ j-end queue free j = length perm - j
 
--- places of the proof, each from a later one
-abbrev entry-of-shared-slice-known : tie.After-shared-slice-known invariant-loop decreases-loop → tie.Start invariant-loop decreases-loop
-entry-of-shared-slice-known c = c.before.before.before
+loop-j-init : tie.Need-loop-j-init invariant-loop-j decreases-loop-j
+loop-j-init c = (omega arith, queue_begins c.args.perm.now c.requires.1)
 
-loop-holds : tie.Need-loop-init invariant-loop decreases-loop
-loop-holds c = (omega arith, queue_begins c.args.perm.now c.requires.1)
+overflow_cast-queue : tie.Need-overflow_cast-queue invariant-loop-j decreases-loop-j
+overflow_cast-queue c = record { fits = omega (arith, c.requires) }
 
-cast-queue : tie.Need-overflow-cast-queue invariant-loop decreases-loop
-cast-queue c = record { fits = omega (arith, c.before.before.requires) }
+offset_bounds-queue-free : tie.Need-offset_bounds-queue-free invariant-loop-j decreases-loop-j
+offset_bounds-queue-free c = omega (arith, c.requires, queue_few c.loop-j.invariant.1)
 
-mul-queue : tie.Need-overflow-mul-queue invariant-loop decreases-loop
-mul-queue c = omega (arith, c.before.before.requires, queue_few c.before.loop.invariant.1)
+bounds-queue-free : tie.Need-bounds-queue-free invariant-loop-j decreases-loop-j
+bounds-queue-free c = omega (arith, c.requires, queue_few c.loop-j.invariant.1, c.loop-j.invariant.1.places)
 
-slice-write-queue : tie.Need-slice-write-queue invariant-loop decreases-loop
-slice-write-queue c = omega (arith, c.before.before.requires, queue_few c.before.loop.invariant.1, c.before.loop.invariant.1.places)
+offset_bounds-perm-j : tie.Need-offset_bounds-perm-j invariant-loop-j decreases-loop-j
+offset_bounds-perm-j c = omega (arith, c.requires)
 
-mul-free : tie.Need-overflow-mul-free invariant-loop decreases-loop
-mul-free c = omega (arith, c.before.before.requires)
+bounds-perm-j : tie.Need-bounds-perm-j invariant-loop-j decreases-loop-j
+bounds-perm-j c = omega (arith, c.requires)
 
-shared-slice-read-free : tie.Need-shared-slice-read-free invariant-loop decreases-loop
-shared-slice-read-free c = omega (arith, (entry-of-shared-slice-known c).requires)
+overflow_cast-free : tie.Need-overflow_cast-free invariant-loop-j decreases-loop-j
+overflow_cast-free c = tt
 
-cast-free : tie.Need-overflow-cast-free invariant-loop decreases-loop
-cast-free c = tt
-
-add_free : tie.Need-overflow-add-free invariant-loop decreases-loop
-add_free c = omega (
+overflow_add-free : tie.Need-overflow_add-free invariant-loop-j decreases-loop-j
+overflow_add-free c = omega (
   arith,
-  (entry-of-shared-slice-known c).requires,
-  queue_few c.before.before.loop.invariant.1,
-  byte_most (eqb (get_or (entry-of-shared-slice-known c).args.perm.now c.before.before.loop.j 0) none),
+  c.requires,
+  queue_few c.loop-j.invariant.1,
+  byte_most (eqb (get_or c.args.perm.now c.loop-j.j 0) none),
 )
 
-add-j : tie.Need-overflow-add-j invariant-loop decreases-loop
-add-j c = omega (arith, (entry-of-shared-slice-known c).requires)
+overflow_step-j : tie.Need-overflow_step-j invariant-loop-j decreases-loop-j
+overflow_step-j c = omega (arith, c.requires)
 
-loop-less : tie.Need-loop-smaller invariant-loop decreases-loop
-loop-less c = omega arith
+loop-j-smaller : tie.Need-loop-j-smaller invariant-loop-j decreases-loop-j
+loop-j-smaller c = omega arith
 
-loop-again : tie.Need-loop-preserved invariant-loop decreases-loop
-loop-again c = (omega arith, queue_next c.before.before.loop.invariant.1 (omega (arith, (entry-of-shared-slice-known c).requires)))
+loop-j-preserved : tie.Need-loop-j-preserved invariant-loop-j decreases-loop-j
+loop-j-preserved c = (omega arith, queue_next c.loop-j.invariant.1 (omega (arith, c.requires)))
 
-same_length_lem : tie.Need-same-length invariant-loop decreases-loop
-same_length_lem c = c.before.loop.invariant.1.places ∙ sym c.before.before.requires.1
+shape_of-queue : tie.Need-shape_of-queue invariant-loop-j decreases-loop-j
+shape_of-queue c = c.loop-j.invariant.1.places ∙ sym c.requires.1
 
-returns : tie.Need-returns invariant-loop decreases-loop
-returns c = let l = c.before.loop in subst (λ (m : ℕ). Queued c.before.before.args.perm.now m l.queue l.free)
-    (let e : l.j ≡ length c.before.before.args.perm.now = omega arith in e) l.invariant.1
+returns : tie.Need-returns invariant-loop-j decreases-loop-j
+returns c = let l = c.loop-j in subst (λ (m : ℕ). Queued c.args.perm.now m l.queue l.free)
+    (let e : l.j ≡ length c.args.perm.now = omega arith in e) l.invariant.1
 
-pub queue-free-spec : {M : Type 1} → statement M
-queue-free-spec =
+pub queue_free_spec : {M : Type 1} → statement M
+queue_free_spec =
     tie.close
     (tie.spec
-    invariant-loop
-    decreases-loop
-    loop-holds
-    cast-queue
-    mul-queue
-    slice-write-queue
-    mul-free
-    shared-slice-read-free
-    cast-free
-    add_free
-    add-j
-    loop-less
-    loop-again
-    same_length_lem
+    invariant-loop-j
+    decreases-loop-j
+    loop-j-init
+    overflow_cast-queue
+    offset_bounds-queue-free
+    bounds-queue-free
+    offset_bounds-perm-j
+    bounds-perm-j
+    overflow_cast-free
+    overflow_add-free
+    overflow_step-j
+    loop-j-smaller
+    loop-j-preserved
+    shape_of-queue
     returns)

@@ -8,71 +8,52 @@ use Rattle.match_largest.proofs.Sweeps.{last_few, sweep_ends}
 use Rattle.match_largest.proofs.sweep.Statement.{statement}
 use Rattle.match_largest.proofs.sweep.Tie as tie
 
-abbrev invariant-loop : tie.invariant-loop
-invariant-loop free n col-ptr row-idx inverse met₀ queue₀ head₀ end₀ met queue head end = Sweeping (pattern n col-ptr row-idx) inverse met queue head 0 end
+abbrev invariant-loop-head : tie.invariant-loop-head
+invariant-loop-head free n col-ptr row-idx inverse met₀ queue₀ head₀ end₀ met queue head end = Sweeping (pattern n col-ptr row-idx) inverse met queue head 0 end
 
-abbrev decreases-loop : tie.decreases-loop
-decreases-loop free n col-ptr row-idx inverse met₀ queue₀ head₀ end₀ met queue head end = n - head
+abbrev decreases-loop-head : tie.decreases-loop-head
+decreases-loop-head free n col-ptr row-idx inverse met₀ queue₀ head₀ end₀ met queue head end = n - head
 
--- places of the proof, each from a later one
-abbrev entry-of-slice-known2 : tie.After-slice-known2 invariant-loop decreases-loop → tie.Start invariant-loop decreases-loop
-entry-of-slice-known2 c = c.before.before.before.before.before
+loop-head-init : tie.Need-loop-head-init invariant-loop-head decreases-loop-head
+loop-head-init c = c.requires.fact
 
-abbrev entry-of-after-loop : tie.After-loop invariant-loop decreases-loop → tie.Start invariant-loop decreases-loop
-entry-of-after-loop c = entry-of-slice-known2 c.before.before
+scan-end-requires : tie.Need-scan-end-requires invariant-loop-head decreases-loop-head
+scan-end-requires c κs = let p = c.requires in
+    (p.accepted_pattern_1, ((p.accepted_pattern_2, c.loop-head-test.true), c.loop-head.invariant))
 
-abbrev loop-of-scan-arg2 : tie.After-scan-arg2 invariant-loop decreases-loop → tie.At-loop invariant-loop decreases-loop
-loop-of-scan-arg2 c = c.before.before.before
-
-abbrev entry-of-scan-arg2 : tie.After-scan-arg2 invariant-loop decreases-loop → tie.Start invariant-loop decreases-loop
-entry-of-scan-arg2 c = entry-of-slice-known2 c.before.before.before.before
-
-abbrev loop-of-slice-known4 : tie.After-slice-known4 invariant-loop decreases-loop → tie.At-loop invariant-loop decreases-loop
-loop-of-slice-known4 c = loop-of-scan-arg2 c.before.before.before.before.before
-
-abbrev entry-of-slice-known4 : tie.After-slice-known4 invariant-loop decreases-loop → tie.Start invariant-loop decreases-loop
-entry-of-slice-known4 c = entry-of-scan-arg2 c.before.before.before.before.before
-
-loop-holds : tie.Need-loop-init invariant-loop decreases-loop
-loop-holds c = (entry-of-slice-known2 c).requires.1.1
-
-scan-requires : tie.Need-scan-requires invariant-loop decreases-loop
-scan-requires c κs = let p = (entry-of-scan-arg2 c).requires in
-    (p.0, ((p.1.0, c.before.before.loop-test.true), (loop-of-scan-arg2 c).loop.invariant))
-
-add-head : tie.Need-overflow-add-head invariant-loop decreases-loop
-add-head c = omega (
+overflow_add-head : tie.Need-overflow_add-head invariant-loop-head decreases-loop-head
+overflow_add-head c = omega (
   arith,
-  (entry-of-slice-known4 c).requires.0.few,
-  last_few (loop-of-slice-known4 c).loop.invariant,
+  c.requires.accepted_pattern_1.few,
+  last_few c.loop-head.invariant,
 )
 
-loop-less : tie.Need-loop-smaller invariant-loop decreases-loop
-loop-less c = omega (arith, last_few (loop-of-slice-known4 c).loop.invariant)
+loop-head-smaller : tie.Need-loop-head-smaller invariant-loop-head decreases-loop-head
+loop-head-smaller c = omega (arith, last_few c.loop-head.invariant)
 
-loop-again : tie.Need-loop-preserved invariant-loop decreases-loop
-loop-again c = c.before.before.before.before.scan.ensures
+loop-head-preserved : tie.Need-loop-head-preserved invariant-loop-head decreases-loop-head
+loop-head-preserved c = c.scan-end.ensures
 
-same_length_lem : tie.Need-same-length invariant-loop decreases-loop
-same_length_lem c = c.before.loop.invariant.marks ∙ sym (entry-of-after-loop c).requires.1.1.marks
+shape_of-met : tie.Need-shape_of-met invariant-loop-head decreases-loop-head
+shape_of-met c = c.loop-head.invariant.marks ∙ sym c.requires.fact.marks
 
-same-length-2 : tie.Need-same-length-2 invariant-loop decreases-loop
-same-length-2 c = c.before.loop.invariant.places ∙ sym (entry-of-after-loop c).requires.1.1.places
+shape_of-queue : tie.Need-shape_of-queue invariant-loop-head decreases-loop-head
+shape_of-queue c = c.loop-head.invariant.places ∙ sym c.requires.fact.places
 
-returns : tie.Need-returns invariant-loop decreases-loop
-returns c = sweep_ends (entry-of-after-loop c).requires.0.columns c.before.loop.invariant c.loop-test.false
+returns : tie.Need-returns invariant-loop-head decreases-loop-head
+returns c = sweep_ends c.requires.accepted_pattern_1.columns c.loop-head.invariant c.loop-head-test.false
 
-pub sweep-spec : {M : Type 1} → statement M
-sweep-spec =
+pub sweep_spec : {M : Type 1} → statement M
+sweep_spec =
     tie.close
     (tie.spec
-    invariant-loop
-    decreases-loop
-    loop-holds
-    scan-requires
-    add-head
-    loop-less
-    loop-again
-    same_length_lem
-    same-length-2
+    invariant-loop-head
+    decreases-loop-head
+    loop-head-init
+    scan-end-requires
+    overflow_add-head
+    loop-head-smaller
+    loop-head-preserved
+    shape_of-met
+    shape_of-queue
     returns)

@@ -12,87 +12,74 @@ use Rattle.match_largest.proofs.Writing.{write_goes_on, write_ends}
 use Rattle.match_largest.proofs.write_columns.Statement.{statement}
 use Rattle.match_largest.proofs.write_columns.Tie as tie
 
-abbrev invariant-loop : tie.invariant-loop
-invariant-loop perm met columns₀ j₀ j-end columns j =
+abbrev invariant-loop-j : tie.invariant-loop-j
+invariant-loop-j perm met columns₀ j₀ j-end columns j =
     (j ≤ length perm) × (length columns ≡ length perm)
     × (take j columns ≡ take j (tabulate (length perm) (λ c. cond (eqb (row_at perm c) none) 1 (get_or met (row_at perm c) 0))))
 
-abbrev decreases-loop : tie.decreases-loop
-decreases-loop perm met columns₀ j₀ j-end columns j = length perm - j
+abbrev decreases-loop-j : tie.decreases-loop-j
+decreases-loop-j perm met columns₀ j₀ j-end columns j = length perm - j
 
--- places of the proof, each from a later one
-abbrev entry-of-slice-known : tie.After-slice-known invariant-loop decreases-loop → tie.Start invariant-loop decreases-loop
-entry-of-slice-known c = c.before.before.before
+loop-j-init : tie.Need-loop-j-init invariant-loop-j decreases-loop-j
+loop-j-init c = (omega arith, c.requires.columns_len.0, refl)
 
-abbrev entry-of-after-loop : tie.After-loop invariant-loop decreases-loop → tie.Start invariant-loop decreases-loop
-entry-of-after-loop c = entry-of-slice-known c.before.before
+offset_bounds-perm-j : tie.Need-offset_bounds-perm-j invariant-loop-j decreases-loop-j
+offset_bounds-perm-j c = omega (arith, c.requires.columns_len)
 
-abbrev entry-of-shared-slice-known3 : tie.After-shared-slice-known3 invariant-loop decreases-loop → tie.Start invariant-loop decreases-loop
-entry-of-shared-slice-known3 c = entry-of-slice-known c.before.before.before
+bounds-perm-j : tie.Need-bounds-perm-j invariant-loop-j decreases-loop-j
+bounds-perm-j c = omega (arith, c.requires.columns_len)
 
-abbrev entry-of-column-mark : tie.After-column-mark invariant-loop decreases-loop → tie.Start invariant-loop decreases-loop
-entry-of-column-mark c = entry-of-shared-slice-known3 c.before
-
-loop-holds : tie.Need-loop-init invariant-loop decreases-loop
-loop-holds c = (omega arith, (entry-of-slice-known c).requires.0.0, refl)
-
-mul-column-mark : tie.Need-overflow-mul-column-mark invariant-loop decreases-loop
-mul-column-mark c = omega (arith, (entry-of-slice-known c.before.before).pre.0)
-
-shared-slice-read-column-mark : tie.Need-shared-slice-read-column-mark invariant-loop decreases-loop
-shared-slice-read-column-mark c = omega (arith, (entry-of-shared-slice-known3 c).requires.0)
-
-column-mark-requires : tie.Need-column-mark-requires invariant-loop decreases-loop
-column-mark-requires c κs = (
-  (entry-of-shared-slice-known3 c).requires.0.1,
-  (entry-of-shared-slice-known3 c).requires.1
-      c.before.before.loop.j (omega (arith, (entry-of-shared-slice-known3 c).requires.0)),
+column_mark-requires : tie.Need-column_mark-requires invariant-loop-j decreases-loop-j
+column_mark-requires c κs = (
+  c.requires.columns_len.1,
+  c.requires.by_index
+      c.loop-j.j (omega (arith, c.requires.columns_len)),
 )
 
-mul-columns : tie.Need-overflow-mul-columns invariant-loop decreases-loop
-mul-columns c = omega (arith, (entry-of-column-mark c).requires.0)
+offset_bounds-columns-j : tie.Need-offset_bounds-columns-j invariant-loop-j decreases-loop-j
+offset_bounds-columns-j c = omega (arith, c.requires.columns_len)
 
-slice-write-columns : tie.Need-slice-write-columns invariant-loop decreases-loop
-slice-write-columns c = omega (arith, (entry-of-column-mark c).requires.0, c.before.before.before.loop.invariant)
+bounds-columns-j : tie.Need-bounds-columns-j invariant-loop-j decreases-loop-j
+bounds-columns-j c = omega (arith, c.requires.columns_len, c.loop-j.invariant)
 
-add-j : tie.Need-overflow-add-j invariant-loop decreases-loop
-add-j c = omega (arith, (entry-of-column-mark c).requires.0)
+overflow_step-j : tie.Need-overflow_step-j invariant-loop-j decreases-loop-j
+overflow_step-j c = omega (arith, c.requires.columns_len)
 
-loop-less : tie.Need-loop-smaller invariant-loop decreases-loop
-loop-less c = omega (arith, (entry-of-column-mark c).requires.0)
+loop-j-smaller : tie.Need-loop-j-smaller invariant-loop-j decreases-loop-j
+loop-j-smaller c = omega (arith, c.requires.columns_len)
 
-loop-again : tie.Need-loop-preserved invariant-loop decreases-loop
-loop-again c = let a = (entry-of-column-mark c).args in let l = c.before.before.before.loop in (
-  omega (arith, (entry-of-column-mark c).requires.0),
-  length-set l.columns l.j c.column-mark.result
+loop-j-preserved : tie.Need-loop-j-preserved invariant-loop-j decreases-loop-j
+loop-j-preserved c = let a = c.args in let l = c.loop-j in (
+  omega (arith, c.requires.columns_len),
+  length-set l.columns l.j c.column_mark.result
       ∙ l.invariant.1,
   write_goes_on (length a.perm.now)
       (λ i. cond (eqb (row_at a.perm.now i) none) 1 (get_or a.met.now (row_at a.perm.now i) 0)) l.columns l.j
-      (omega (arith, (entry-of-column-mark c).requires.0)) l.invariant.1 c.column-mark.ensures l.invariant.2,
+      (omega (arith, c.requires.columns_len)) l.invariant.1 c.column_mark.ensures l.invariant.2,
 )
 
-same_length_lem : tie.Need-same-length invariant-loop decreases-loop
-same_length_lem c = c.before.loop.invariant.1 ∙ sym (entry-of-after-loop c).requires.0.0
+shape_of-columns : tie.Need-shape_of-columns invariant-loop-j decreases-loop-j
+shape_of-columns c = c.loop-j.invariant.1 ∙ sym c.requires.columns_len.0
 
-returns : tie.Need-returns invariant-loop decreases-loop
-returns c = let a = (entry-of-after-loop c).args in let l = c.before.loop in
+returns : tie.Need-returns invariant-loop-j decreases-loop-j
+returns c = let a = c.args in let l = c.loop-j in
     write_ends (length a.perm.now) (λ i. cond (eqb (row_at a.perm.now i) none) 1 (get_or a.met.now (row_at a.perm.now i) 0)) l.columns
-    l.j (omega (arith, (entry-of-after-loop c).requires.0)) l.invariant.1 l.invariant.2
+    l.j (omega (arith, c.requires.columns_len)) l.invariant.1 l.invariant.2
 
-pub write-columns-spec : {M : Type 1} → statement M
-write-columns-spec =
+pub write_columns_spec : {M : Type 1} → statement M
+write_columns_spec =
     tie.close
     (tie.spec
-    invariant-loop
-    decreases-loop
-    loop-holds
-    mul-column-mark
-    shared-slice-read-column-mark
-    column-mark-requires
-    mul-columns
-    slice-write-columns
-    add-j
-    loop-less
-    loop-again
-    same_length_lem
+    invariant-loop-j
+    decreases-loop-j
+    loop-j-init
+    offset_bounds-perm-j
+    bounds-perm-j
+    column_mark-requires
+    offset_bounds-columns-j
+    bounds-columns-j
+    overflow_step-j
+    loop-j-smaller
+    loop-j-preserved
+    shape_of-columns
     returns)

@@ -8,65 +8,61 @@ use Rattle.match_largest.proofs.Writing.{write_goes_on, write_ends}
 use Rattle.match_largest.proofs.write_rows.Statement.{statement}
 use Rattle.match_largest.proofs.write_rows.Tie as tie
 
-abbrev invariant-loop : tie.invariant-loop
-invariant-loop met rows₀ i₀ i-end rows i = (i ≤ length rows₀) × (length rows ≡ length rows₀) × (take i rows ≡ take i (tabulate (length rows₀) (λ r. get_or met r 0)))
+abbrev invariant-loop-i : tie.invariant-loop-i
+invariant-loop-i met rows₀ i₀ i-end rows i = (i ≤ length rows₀) × (length rows ≡ length rows₀) × (take i rows ≡ take i (tabulate (length rows₀) (λ r. get_or met r 0)))
 
-abbrev decreases-loop : tie.decreases-loop
-decreases-loop met rows₀ i₀ i-end rows i = length rows₀ - i
+abbrev decreases-loop-i : tie.decreases-loop-i
+decreases-loop-i met rows₀ i₀ i-end rows i = length rows₀ - i
 
--- places of the proof, each from a later one
-abbrev entry-of-shared-slice-known : tie.After-shared-slice-known invariant-loop decreases-loop → tie.Start invariant-loop decreases-loop
-entry-of-shared-slice-known c = c.before.before.before
+loop-i-init : tie.Need-loop-i-init invariant-loop-i decreases-loop-i
+loop-i-init c = (omega arith, refl, refl)
 
-loop-holds : tie.Need-loop-init invariant-loop decreases-loop
-loop-holds c = (omega arith, refl, refl)
+bounds-met-i : tie.Need-bounds-met-i invariant-loop-i decreases-loop-i
+bounds-met-i c = omega (arith, c.requires)
 
-shared-slice-read-rows : tie.Need-shared-slice-read-rows invariant-loop decreases-loop
-shared-slice-read-rows c = omega (arith, (entry-of-shared-slice-known c).requires)
+overflow_cast-rows : tie.Need-overflow_cast-rows invariant-loop-i decreases-loop-i
+overflow_cast-rows c = record { fits = omega (arith, c.shared_slice_known-1.given c.loop-i.i) }
 
-cast-rows : tie.Need-overflow-cast-rows invariant-loop decreases-loop
-cast-rows c = record { fits = omega (arith, c.shared-slice-known.given c.before.before.loop.i) }
+offset_bounds-rows-i : tie.Need-offset_bounds-rows-i invariant-loop-i decreases-loop-i
+offset_bounds-rows-i c = omega (arith, c.requires)
 
-mul-rows : tie.Need-overflow-mul-rows invariant-loop decreases-loop
-mul-rows c = omega (arith, (entry-of-shared-slice-known c).requires)
+bounds-rows-i : tie.Need-bounds-rows-i invariant-loop-i decreases-loop-i
+bounds-rows-i c = omega (arith, c.loop-i.invariant)
 
-slice-write-rows : tie.Need-slice-write-rows invariant-loop decreases-loop
-slice-write-rows c = omega (arith, c.before.before.loop.invariant)
+overflow_step-i : tie.Need-overflow_step-i invariant-loop-i decreases-loop-i
+overflow_step-i c = omega (arith, c.requires)
 
-add-i : tie.Need-overflow-add-i invariant-loop decreases-loop
-add-i c = omega (arith, (entry-of-shared-slice-known c).requires)
+loop-i-smaller : tie.Need-loop-i-smaller invariant-loop-i decreases-loop-i
+loop-i-smaller c = omega arith
 
-loop-less : tie.Need-loop-smaller invariant-loop decreases-loop
-loop-less c = omega arith
-
-loop-again : tie.Need-loop-preserved invariant-loop decreases-loop
-loop-again c = let a = (entry-of-shared-slice-known c).args in let l = c.before.before.loop in (
+loop-i-preserved : tie.Need-loop-i-preserved invariant-loop-i decreases-loop-i
+loop-i-preserved c = let a = c.args in let l = c.loop-i in (
   omega arith,
   length-set l.rows l.i (get_or a.met.now l.i 0) ∙ l.invariant.1,
   write_goes_on (length a.rows.now)
       (λ r. get_or a.met.now r 0) l.rows l.i (omega arith) l.invariant.1 refl l.invariant.2,
 )
 
-same_length_lem : tie.Need-same-length invariant-loop decreases-loop
-same_length_lem c = c.before.loop.invariant.1
+shape_of-rows : tie.Need-shape_of-rows invariant-loop-i decreases-loop-i
+shape_of-rows c = c.loop-i.invariant.1
 
-returns : tie.Need-returns invariant-loop decreases-loop
-returns c = let a = c.before.before.args in let l = c.before.loop in
+returns : tie.Need-returns invariant-loop-i decreases-loop-i
+returns c = let a = c.args in let l = c.loop-i in
     write_ends (length a.rows.now) (λ r. get_or a.met.now r 0) l.rows l.i (omega arith) l.invariant.1 l.invariant.2
 
-pub write-rows-spec : {M : Type 1} → statement M
-write-rows-spec =
+pub write_rows_spec : {M : Type 1} → statement M
+write_rows_spec =
     tie.close
     (tie.spec
-    invariant-loop
-    decreases-loop
-    loop-holds
-    shared-slice-read-rows
-    cast-rows
-    mul-rows
-    slice-write-rows
-    add-i
-    loop-less
-    loop-again
-    same_length_lem
+    invariant-loop-i
+    decreases-loop-i
+    loop-i-init
+    bounds-met-i
+    overflow_cast-rows
+    offset_bounds-rows-i
+    bounds-rows-i
+    overflow_step-i
+    loop-i-smaller
+    loop-i-preserved
+    shape_of-rows
     returns)

@@ -1,4 +1,5 @@
 -- `entry_log` meets its contract: by the two sources of a log.
+use Rattle.std.proofs.Common.{rules}
 use mathlib.Core.Path.{◌≡◌, sym, ap, ◌∙◌, subst}
 use borrow.Author.Rules.{rules}
 use Rattle.whole_log.specs.Log.{whole_log, double_of}
@@ -8,25 +9,30 @@ use Rattle.mc64_columns.specs.inner.Steps.{entry_log, WordOf}
 use Rattle.mc64_columns.proofs.entry_log.Statement.{statement}
 use Rattle.mc64_columns.proofs.entry_log.Tie as tie
 
-enum_told : tie.Need-enum-told
-enum_told c = search rules
+enum_told-1 : tie.Need-enum_told-1
+enum_told-1 c = search rules
 
-enum-told-2 : tie.Need-enum-told-2
-enum-told-2 c = search rules
+enum_told-in-Own : tie.Need-enum_told-in-Own
+enum_told-in-Own c = search rules
 
-double-of-requires : tie.Need-double-of-requires
-double-of-requires c κs = search rules
+double_of-requires : tie.Need-double_of-requires
+double_of-requires c κs = search rules
 
-returns : tie.Need-returns
-returns c = sym (ap (λ (s : LogSource). entry_log s c.before.before.args.lent) c.enum_told.given.1)
+returns-in-Lent : tie.Need-returns-in-Lent
+returns-in-Lent c = sym (ap (λ (s : LogSource). entry_log s c.args.lent) c.enum_told-1.given.1)
 
-returns-2 : tie.Need-returns-2
-returns-2 c =
-    let told = c.before in
-    let start = told.before.before in
-    let word : answer_of start.args.word ≡ whole_log start.args.lent =
-    subst (λ (s : LogSource). WordOf s start.args.lent start.args.word) told.enum-told2.given.1 start.requires in
-    c.double-of.ensures ∙ ap double_of word ∙ sym (ap (λ (s : LogSource). entry_log s told.before.before.args.lent) told.enum-told2.given.1)
+returns-in-Own : tie.Need-returns-in-Own
+returns-in-Own c =
+    let word : answer_of c.args.word ≡ whole_log c.args.lent =
+    subst (λ (s : LogSource). WordOf s c.args.lent c.args.word) c.enum_told-in-Own-1.given.1 c.requires in
+    c.double_of.ensures ∙ ap double_of word ∙ sym (ap (λ (s : LogSource). entry_log s c.args.lent) c.enum_told-in-Own-1.given.1)
 
-pub entry-log-spec : {M : Type 1} → statement M
-entry-log-spec = tie.close (tie.spec enum_told enum-told-2 double-of-requires returns returns-2)
+pub entry_log_spec : {M : Type 1} → statement M
+entry_log_spec =
+    tie.close
+    (tie.spec
+    enum_told-1
+    enum_told-in-Own
+    double_of-requires
+    returns-in-Lent
+    returns-in-Own)

@@ -8,59 +8,55 @@ use Rattle.mc64_columns.proofs.Loops.{Largest, largest_begins, largest_goes_on, 
 use Rattle.mc64_columns.proofs.top_of.Statement.{statement}
 use Rattle.mc64_columns.proofs.top_of.Tie as tie
 
-abbrev invariant-loop : tie.invariant-loop
-invariant-loop column top₀ k₀ k-end top k = (k ≤ length column) × Largest column top k
+abbrev invariant-loop-k : tie.invariant-loop-k
+invariant-loop-k column top₀ k₀ k-end top k = (k ≤ length column) × Largest column top k
 
-abbrev decreases-loop : tie.decreases-loop
-decreases-loop column top₀ k₀ k-end top k = length column - k
+abbrev decreases-loop-k : tie.decreases-loop-k
+decreases-loop-k column top₀ k₀ k-end top k = length column - k
 
--- places of the proof, each from a later one
-abbrev loop-of-joined1 : tie.Joined1 invariant-loop decreases-loop → tie.At-loop invariant-loop decreases-loop
-loop-of-joined1 c = c.before.before.before
+bounds-column-0 : tie.Need-bounds-column-0 invariant-loop-k decreases-loop-k
+bounds-column-0 c = omega arith
 
-shared-slice-read-top : tie.Need-shared-slice-read-top invariant-loop decreases-loop
-shared-slice-read-top c = omega arith
+loop-k-init : tie.Need-loop-k-init invariant-loop-k decreases-loop-k
+loop-k-init c = (omega arith, largest_begins _ (omega arith))
 
-loop-holds : tie.Need-loop-init invariant-loop decreases-loop
-loop-holds c = (omega arith, largest_begins _ (omega arith))
+offset_bounds-column-k : tie.Need-offset_bounds-column-k invariant-loop-k decreases-loop-k
+offset_bounds-column-k c = omega arith
 
-mul-log : tie.Need-overflow-mul-log invariant-loop decreases-loop
-mul-log c = omega arith
+bounds-column-k : tie.Need-bounds-column-k invariant-loop-k decreases-loop-k
+bounds-column-k c = omega arith
 
-shared-slice-read-log : tie.Need-shared-slice-read-log invariant-loop decreases-loop
-shared-slice-read-log c = omega arith
+overflow_step-k : tie.Need-overflow_step-k invariant-loop-k decreases-loop-k
+overflow_step-k c = omega arith
 
-add-k : tie.Need-overflow-add-k invariant-loop decreases-loop
-add-k c = omega arith
+loop-k-smaller : tie.Need-loop-k-smaller invariant-loop-k decreases-loop-k
+loop-k-smaller c = omega arith
 
-loop-less : tie.Need-loop-smaller invariant-loop decreases-loop
-loop-less c = omega arith
-
-loop-again : tie.Need-loop-preserved invariant-loop decreases-loop
-loop-again c = (
+loop-k-preserved : tie.Need-loop-k-preserved invariant-loop-k decreases-loop-k
+loop-k-preserved c = (
   omega arith,
-  ⊎_elim (λ x. rw x.1 (largest_goes_on (loop-of-joined1 c).before.before.args.column.now
-      (loop-of-joined1 c).loop.top (loop-of-joined1 c).loop.k (omega arith)
-      (loop-of-joined1 c).loop.invariant.1 true x.0.taken))
-      (λ x. rw x.1 (largest_goes_on (loop-of-joined1 c).before.before.args.column.now
-      (loop-of-joined1 c).loop.top (loop-of-joined1 c).loop.k (omega arith)
-      (loop-of-joined1 c).loop.invariant.1 false x.0.left)) c.if1.branch,
+  ⊎_elim (λ x. rw x.1 (largest_goes_on c.args.column.now
+      c.loop-k.top c.loop-k.k (omega arith)
+      c.loop-k.invariant.1 true x.0.taken))
+      (λ x. rw x.1 (largest_goes_on c.args.column.now
+      c.loop-k.top c.loop-k.k (omega arith)
+      c.loop-k.invariant.1 false x.0.left)) c.if-log-top.branch,
 )
 
-returns : tie.Need-returns invariant-loop decreases-loop
-returns c = largest_ends _ _ c.before.loop.k (omega arith) c.before.loop.invariant.1
+returns : tie.Need-returns invariant-loop-k decreases-loop-k
+returns c = largest_ends _ _ c.loop-k.k (omega arith) c.loop-k.invariant.1
 
-pub top-of-spec : {M : Type 1} → statement M
-top-of-spec =
+pub top_of_spec : {M : Type 1} → statement M
+top_of_spec =
     tie.close
     (tie.spec
-    invariant-loop
-    decreases-loop
-    shared-slice-read-top
-    loop-holds
-    mul-log
-    shared-slice-read-log
-    add-k
-    loop-less
-    loop-again
+    invariant-loop-k
+    decreases-loop-k
+    bounds-column-0
+    loop-k-init
+    offset_bounds-column-k
+    bounds-column-k
+    overflow_step-k
+    loop-k-smaller
+    loop-k-preserved
     returns)

@@ -13,61 +13,23 @@ use Rattle.mc64_general.proofs.Building.{kept_below, built_none, built_next, bui
 use Rattle.mc64_general.proofs.build.Statement.{statement}
 use Rattle.mc64_general.proofs.build.Tie as tie
 
-abbrev invariant-loop : tie.invariant-loop
-invariant-loop n col_ptr rows values logs words graph_ptr₀ graph_idx₀ cost₀ cmax₀ source next₀ c₀ graph_ptr graph_idx cost cmax next c = (c ≤ n) ×
+abbrev invariant-loop-c : tie.invariant-loop-c
+invariant-loop-c n col_ptr rows values logs words graph_ptr₀ graph_idx₀ cost₀ cmax₀ source next₀ c₀ graph_ptr graph_idx cost cmax next c = (c ≤ n) ×
     (length graph_ptr ≡ length graph_ptr₀) × (length graph_idx ≡ length graph_idx₀) × (length cost ≡ length cost₀) ×
     (length cmax ≡ length cmax₀) × BuiltTo c (matrix n col_ptr rows values) (entry_logs source logs) graph_ptr₀ graph_idx₀ cost₀ cmax₀ graph_ptr graph_idx
     cost cmax next
 
-abbrev decreases-loop : tie.decreases-loop
-decreases-loop n col_ptr rows values logs words graph_ptr₀ graph_idx₀ cost₀ cmax₀ source next₀ c₀ graph_ptr graph_idx cost cmax next c = n - c
-
--- places of the proof, each from a later one
-abbrev entry-of-slice-known4 : tie.After-slice-known4 invariant-loop decreases-loop → tie.Start invariant-loop decreases-loop
-entry-of-slice-known4 c = c.before.before.before.before.before.before.before.before.before
-
-abbrev entry-of-loop : tie.At-loop invariant-loop decreases-loop → tie.Start invariant-loop decreases-loop
-entry-of-loop c = entry-of-slice-known4 c.before
-
-abbrev entry-of-in-loop : tie.In-loop invariant-loop decreases-loop → tie.Start invariant-loop decreases-loop
-entry-of-in-loop c = entry-of-loop c.before
-
-abbrev entry-of-after-loop : tie.After-loop invariant-loop decreases-loop → tie.Start invariant-loop decreases-loop
-entry-of-after-loop c = entry-of-loop c.before
-
-abbrev entry-of-shared-slice-known7 : tie.After-shared-slice-known7 invariant-loop decreases-loop → tie.Start invariant-loop decreases-loop
-entry-of-shared-slice-known7 c = entry-of-in-loop c.before.before
-
-abbrev in-loop-of-keep-column-arg2 : tie.After-keep-column-arg2 invariant-loop decreases-loop → tie.In-loop invariant-loop decreases-loop
-in-loop-of-keep-column-arg2 c = c.before.before.before.before
-
-abbrev in-loop-of-keep-column : tie.After-keep-column invariant-loop decreases-loop → tie.In-loop invariant-loop decreases-loop
-in-loop-of-keep-column c = in-loop-of-keep-column-arg2 c.before
-
-abbrev keep-column-of-slice-known6 : tie.After-slice-known6 invariant-loop decreases-loop → tie.After-keep-column invariant-loop decreases-loop
-keep-column-of-slice-known6 c = c.before.before.before.before
-
-abbrev keep-column-of-slice-known7 : tie.After-slice-known7 invariant-loop decreases-loop → tie.After-keep-column invariant-loop decreases-loop
-keep-column-of-slice-known7 c = keep-column-of-slice-known6 c.before.before.before.before
-
-abbrev in-loop-of-slice-known7 : tie.After-slice-known7 invariant-loop decreases-loop → tie.In-loop invariant-loop decreases-loop
-in-loop-of-slice-known7 c = in-loop-of-keep-column (keep-column-of-slice-known7 c)
-
-abbrev loop-of-slice-known7 : tie.After-slice-known7 invariant-loop decreases-loop → tie.At-loop invariant-loop decreases-loop
-loop-of-slice-known7 c = (in-loop-of-slice-known7 c).before
-
-abbrev entry-of-slice-known7 : tie.After-slice-known7 invariant-loop decreases-loop → tie.Start invariant-loop decreases-loop
-entry-of-slice-known7 c = entry-of-in-loop (in-loop-of-slice-known7 c)
+abbrev decreases-loop-c : tie.decreases-loop-c
+decreases-loop-c n col_ptr rows values logs words graph_ptr₀ graph_idx₀ cost₀ cmax₀ source next₀ c₀ graph_ptr graph_idx cost cmax next c = n - c
 
 -- the next entry goes no further than the column's first place
-next_below : (c : tie.At-loop invariant-loop decreases-loop) → let a = (entry-of-loop c).args in let l = c.loop in
+next_below : (c : tie.At-loop-c invariant-loop-c decreases-loop-c) → let a = c.args in let l = c.loop-c in
     (l.next ≤ get_or a.col-ptr.now l.c 0) × (get_or a.col-ptr.now l.c 0 ≤ length a.row-idx.now) × (length a.row-idx.now ≤ 262144)
     × (a.n ≤ 4096)
 next_below c =
-    let p = entry-of-loop c in
-    let l = c.loop in
-    let a = p.pre.0 in
-    let m = matrix p.args.n p.args.col-ptr.now p.args.row-idx.now p.args.values.now in (
+    let l = c.loop-c in
+    let a = c.requires.accepted in
+    let m = matrix c.args.n c.args.col-ptr.now c.args.row-idx.now c.args.values.now in (
       omega (arith, l.invariant.5.count, kept_below m a.pointers l.c l.invariant.0),
       pointer_below a.pointers l.c l.invariant.0,
       a.sizes.entries,
@@ -75,16 +37,16 @@ next_below c =
     )
 
 -- the pointers of column c
-pointers : (c : tie.In-loop invariant-loop decreases-loop) → let a = (entry-of-in-loop c).args in let l = c.before.loop in
+pointers : (c : tie.In-loop-c invariant-loop-c decreases-loop-c) → let a = c.args in let l = c.loop-c in
     (get_or a.col-ptr.now l.c 0 ≤ get_or a.col-ptr.now (l.c + 1) 0) × (get_or a.col-ptr.now (l.c + 1) 0 ≤ length a.row-idx.now)
 pointers c =
-    let a = (entry-of-in-loop c).requires.0 in
-    let l = c.before.loop in
-    rw (add-one l.c) (a.pointers.rises l.c c.loop-test.true, pointer_below a.pointers _ c.loop-test.true)
+    let a = c.requires.accepted in
+    let l = c.loop-c in
+    rw (add-one l.c) (a.pointers.rises l.c c.loop-c-test.true, pointer_below a.pointers _ c.loop-c-test.true)
 
-loop-holds : tie.Need-loop-init invariant-loop decreases-loop
-loop-holds c =
-    let args = (entry-of-slice-known4 c).args in (
+loop-c-init : tie.Need-loop-c-init invariant-loop-c decreases-loop-c
+loop-c-init c =
+    let args = c.args in (
       omega arith,
       refl,
       refl,
@@ -94,192 +56,187 @@ loop-holds c =
           (entry_logs args.source args.logs.now) args.graph-ptr.now args.graph-rows.now args.cost.now args.cmax.now,
     )
 
-cast-graph-ptr : tie.Need-overflow-cast-graph-ptr invariant-loop decreases-loop
-cast-graph-ptr c = omega (arith, next_below c.before)
+overflow_cast-graph_ptr : tie.Need-overflow_cast-graph_ptr invariant-loop-c decreases-loop-c
+overflow_cast-graph_ptr c = omega (arith, next_below c.before)
 
-mul-graph-ptr : tie.Need-overflow-mul-graph-ptr invariant-loop decreases-loop
-mul-graph-ptr c = omega (arith, c.loop-test.true, next_below c.before)
+offset_bounds-graph_ptr-c : tie.Need-offset_bounds-graph_ptr-c invariant-loop-c decreases-loop-c
+offset_bounds-graph_ptr-c c = omega (arith, c.loop-c-test.true, next_below c.before)
 
-slice-write-graph-ptr : tie.Need-slice-write-graph-ptr invariant-loop decreases-loop
-slice-write-graph-ptr c = omega (arith, c.loop-test.true, c.before.loop.invariant.1, (entry-of-in-loop c).requires.1.0.pointer_room)
+bounds-graph_ptr-c : tie.Need-bounds-graph_ptr-c invariant-loop-c decreases-loop-c
+bounds-graph_ptr-c c = omega (arith, c.loop-c-test.true, c.loop-c.invariant.1, c.requires.roomy.pointer_room)
 
-mul-from : tie.Need-overflow-mul-from invariant-loop decreases-loop
-mul-from c = omega (arith, c.loop-test.true, next_below c.before)
+offset_bounds-col_ptr-c : tie.Need-offset_bounds-col_ptr-c invariant-loop-c decreases-loop-c
+offset_bounds-col_ptr-c c = omega (arith, c.loop-c-test.true, next_below c.before)
 
-shared-slice-read-from : tie.Need-shared-slice-read-from invariant-loop decreases-loop
-shared-slice-read-from c = omega (arith, c.before.loop-test.true, (entry-of-in-loop c.before).pre.0.sizes.colptrs)
+bounds-col_ptr-c : tie.Need-bounds-col_ptr-c invariant-loop-c decreases-loop-c
+bounds-col_ptr-c c = omega (arith, c.loop-c-test.true, c.requires.accepted.sizes.colptrs)
 
-cast-from : tie.Need-overflow-cast-from invariant-loop decreases-loop
-cast-from c = omega (arith, next_below c.before.before)
+overflow_cast-from : tie.Need-overflow_cast-from invariant-loop-c decreases-loop-c
+overflow_cast-from c = omega (arith, next_below c.before.before)
 
-add-to : tie.Need-overflow-add-to invariant-loop decreases-loop
-add-to c = omega (arith, c.before.loop-test.true, next_below c.before.before)
+overflow_add-to : tie.Need-overflow_add-to invariant-loop-c decreases-loop-c
+overflow_add-to c = omega (arith, c.loop-c-test.true, next_below c.before.before)
 
-mul-to : tie.Need-overflow-mul-to invariant-loop decreases-loop
-mul-to c = omega (arith, c.before.loop-test.true, next_below c.before.before)
+offset_bounds-col_ptr-c-in-loop-c : tie.Need-offset_bounds-col_ptr-c-in-loop-c invariant-loop-c decreases-loop-c
+offset_bounds-col_ptr-c-in-loop-c c = omega (arith, c.loop-c-test.true, next_below c.before.before)
 
-shared-slice-read-to : tie.Need-shared-slice-read-to invariant-loop decreases-loop
-shared-slice-read-to c = omega (arith, c.before.before.loop-test.true, (entry-of-shared-slice-known7 c).requires.0.sizes.colptrs)
+bounds-col_ptr-c-in-loop-c : tie.Need-bounds-col_ptr-c-in-loop-c invariant-loop-c decreases-loop-c
+bounds-col_ptr-c-in-loop-c c = omega (arith, c.loop-c-test.true, c.requires.accepted.sizes.colptrs)
 
-cast-to : tie.Need-overflow-cast-to invariant-loop decreases-loop
-cast-to c = omega (arith, pointers c.before.before, next_below c.before.before.before)
+overflow_cast-to : tie.Need-overflow_cast-to invariant-loop-c decreases-loop-c
+overflow_cast-to c = omega (arith, pointers c.before.before, next_below c.before.before.before)
 
-keep-column-requires : tie.Need-keep-column-requires invariant-loop decreases-loop
-keep-column-requires c κs =
-    let pre = (entry-of-shared-slice-known7 c.before.before).pre in
-    let loop = (in-loop-of-keep-column-arg2 c).before in (
-      ((pointers (in-loop-of-keep-column-arg2 c)).0, (pointers (in-loop-of-keep-column-arg2 c)).1, (next_below (loop)).0),
-      ((pre.0.sizes.stored, pre.0.logged), ((loop.loop.inv.2 ∙ pre.1.0.row_room, loop.loop.inv.3 ∙ pre.1.0.cost_room), pre.1.1)),
+keep_column-kept-requires : tie.Need-keep_column-kept-requires invariant-loop-c decreases-loop-c
+keep_column-kept-requires c κs =
+    let pre = c.requires in
+    (
+      ((pointers c.before.before.before.before).0, (pointers c.before.before.before.before).1, (next_below (c.before.before.before.before.before)).0),
+      ((pre.accepted.sizes.stored, pre.accepted.logged), ((c.loop-c.inv.2 ∙ pre.roomy.row_room, c.loop-c.inv.3 ∙ pre.roomy.cost_room), pre.worded)),
     )
 
 -- the column's stretch lies in the buffer
-stretch-fits : (c : tie.After-keep-column invariant-loop decreases-loop) → let a = (entry-of-in-loop (in-loop-of-keep-column c)).args in
-    let next = c.keep-column.result.next in
-    ((in-loop-of-keep-column c).before.loop.next ≤ next) × (next ≤ length a.cost.now) × (length a.cost.now ≤ 262144)
+stretch-fits : (c : tie.After-keep_column-kept invariant-loop-c decreases-loop-c) → let a = c.args in
+    let next = c.keep_column-kept.result.next in
+    (c.loop-c.next ≤ next) × (next ≤ length a.cost.now) × (length a.cost.now ≤ 262144)
 stretch-fits c =
-    let start = entry-of-in-loop (in-loop-of-keep-column c) in
-    let loop = (in-loop-of-keep-column c).before in
-    let from = get_or start.args.col-ptr.now loop.loop.c 0 in
-    let few = kept_few start.args.values.now from (get_or start.args.col-ptr.now (loop.loop.c + 1) 0 - from) in (
-      omega (arith, c.keep-column.ensures.count),
-      omega (arith, c.keep-column.ensures.count, few, pointers (in-loop-of-keep-column c), next_below loop, start.pre.1.0.cost_room),
-      omega (arith, next_below loop, start.pre.1.0.cost_room),
+    let from = get_or c.args.col-ptr.now c.loop-c.c 0 in
+    let few = kept_few c.args.values.now from (get_or c.args.col-ptr.now (c.loop-c.c + 1) 0 - from) in (
+      omega (arith, c.keep_column-kept.ensures.count),
+      omega (arith, c.keep_column-kept.ensures.count, few, pointers c.before.before.before.before.before, next_below c.before.before.before.before.before.before, c.requires.roomy.cost_room),
+      omega (arith, next_below c.before.before.before.before.before.before, c.requires.roomy.cost_room),
     )
 
-mul-subtract : tie.Need-overflow-mul-subtract invariant-loop decreases-loop
-mul-subtract c = omega (arith, stretch-fits (keep-column-of-slice-known6 c))
+offset_bounds-cost-next : tie.Need-offset_bounds-cost-next invariant-loop-c decreases-loop-c
+offset_bounds-cost-next c = omega (arith, stretch-fits c.before.before.before.before)
 
-sub-subtract : tie.Need-overflow-sub-subtract invariant-loop decreases-loop
-sub-subtract c = omega (arith, stretch-fits (keep-column-of-slice-known6 c))
+slice_bounds-subtract-count : tie.Need-slice_bounds-subtract-count invariant-loop-c decreases-loop-c
+slice_bounds-subtract-count c = omega (arith, stretch-fits c.before.before.before.before)
 
-part-subtract-start : tie.Need-slice-bounds-subtract-start invariant-loop decreases-loop
-part-subtract-start c = omega (arith, stretch-fits (keep-column-of-slice-known6 c))
+slice_bounds-subtract-start : tie.Need-slice_bounds-subtract-start invariant-loop-c decreases-loop-c
+slice_bounds-subtract-start c = omega (arith, stretch-fits c.before.before.before.before)
 
-part-subtract-end : tie.Need-slice-bounds-subtract-end invariant-loop decreases-loop
-part-subtract-end c =
-    let keep-column = keep-column-of-slice-known6 c in
-    omega (arith, stretch-fits keep-column, keep-column.keep-column.kept.1.1.1.1.1.1.1.1.0, (in-loop-of-keep-column keep-column).before.loop.inv.3)
+slice_bounds-subtract-end : tie.Need-slice_bounds-subtract-end invariant-loop-c decreases-loop-c
+slice_bounds-subtract-end c =
+    omega (arith, stretch-fits c.before.before.before.before, c.keep_column-kept.kept.1.1.1.1.1.1.1.1.0, c.loop-c.inv.3)
 
-subtract-requires : tie.Need-subtract-requires invariant-loop decreases-loop
+subtract-requires : tie.Need-subtract-requires invariant-loop-c decreases-loop-c
 subtract-requires c κs = tt
 
-mul-cmax : tie.Need-overflow-mul-cmax invariant-loop decreases-loop
-mul-cmax c = omega (arith, (in-loop-of-slice-known7 c).loop-test.true, next_below (loop-of-slice-known7 c))
+offset_bounds-cmax-c : tie.Need-offset_bounds-cmax-c invariant-loop-c decreases-loop-c
+offset_bounds-cmax-c c = omega (arith, c.loop-c-test.true, next_below c.before.before.before.before.before.before.before.before.before.before.before.before.before.before)
 
-slice-write-cmax : tie.Need-slice-write-cmax invariant-loop decreases-loop
-slice-write-cmax c =
-    omega (arith, (in-loop-of-slice-known7 c).loop-test.true, (loop-of-slice-known7 c).loop.invariant.4, (entry-of-slice-known7 c).requires.1.0.cmax_room)
+bounds-cmax-c : tie.Need-bounds-cmax-c invariant-loop-c decreases-loop-c
+bounds-cmax-c c =
+    omega (arith, c.loop-c-test.true, c.loop-c.invariant.4, c.requires.roomy.cmax_room)
 
-add-c : tie.Need-overflow-add-c invariant-loop decreases-loop
-add-c c = omega (arith, (in-loop-of-slice-known7 c).loop-test.true, next_below (loop-of-slice-known7 c))
+overflow_step-c : tie.Need-overflow_step-c invariant-loop-c decreases-loop-c
+overflow_step-c c = omega (arith, c.loop-c-test.true, next_below c.before.before.before.before.before.before.before.before.before.before.before.before.before.before)
 
-loop-less : tie.Need-loop-smaller invariant-loop decreases-loop
-loop-less c = omega (arith, (in-loop-of-slice-known7 c).loop-test.true, next_below (loop-of-slice-known7 c))
+loop-c-smaller : tie.Need-loop-c-smaller invariant-loop-c decreases-loop-c
+loop-c-smaller c = omega (arith, c.loop-c-test.true, next_below c.before.before.before.before.before.before.before.before.before.before.before.before.before.before)
 
-loop-again : tie.Need-loop-preserved invariant-loop decreases-loop
-loop-again c =
-    let keep-column = keep-column-of-slice-known7 c in
-    let args = (entry-of-slice-known7 c).args in
-    let pre = (entry-of-slice-known7 c).requires in
-    let In-loop = in-loop-of-slice-known7 c in
-    let loop = loop-of-slice-known7 c in (
-      omega (arith, In-loop.loop-test.taken),
-      simp length-set loop.loop.inv.1,
-      keep-column.keep-column.kept.1.1.1.1.1.1.1.0 ∙ loop.loop.inv.2,
-      c.before.cost2.given.1 ∙ keep-column.keep-column.kept.1.1.1.1.1.1.1.1.0 ∙
-          loop.loop.inv.3,
-      simp length-set loop.loop.inv.4,
+loop-c-preserved : tie.Need-loop-c-preserved invariant-loop-c decreases-loop-c
+loop-c-preserved c =
+    let args = c.args in
+    let pre = c.requires in
+    (
+      omega (arith, c.loop-c-test.taken),
+      simp length-set c.loop-c.inv.1,
+      c.keep_column-kept.kept.1.1.1.1.1.1.1.0 ∙ c.loop-c.inv.2,
+      c.cost-in-loop-c-1.given.1 ∙ c.keep_column-kept.kept.1.1.1.1.1.1.1.1.0 ∙
+          c.loop-c.inv.3,
+      simp length-set c.loop-c.inv.4,
       built_next
           (matrix args.n args.col-ptr.now args.row-idx.now args.values.now) (entry_logs args.source args.logs.now) args.graph-ptr.now
-          args.graph-rows.now args.cost.now args.cmax.now loop.loop.inv.5
-          (omega (arith, In-loop.loop-test.taken, pre.1.0.pointer_room))
-          (omega (arith, In-loop.loop-test.taken, pre.1.0.cmax_room)) keep-column.keep-column.ensures
-          c.before.before.subtract.ensures,
+          args.graph-rows.now args.cost.now args.cmax.now c.loop-c.inv.5
+          (omega (arith, c.loop-c-test.taken, pre.roomy.pointer_room))
+          (omega (arith, c.loop-c-test.taken, pre.roomy.cmax_room)) c.keep_column-kept.ensures
+          c.subtract.ensures,
     )
 
-cast-graph-ptr-2 : tie.Need-overflow-cast-graph-ptr-2 invariant-loop decreases-loop
-cast-graph-ptr-2 c = omega (arith, next_below c.before)
+overflow_cast-graph_ptr-2 : tie.Need-overflow_cast-graph_ptr-2 invariant-loop-c decreases-loop-c
+overflow_cast-graph_ptr-2 c = omega (arith, next_below c.before)
 
-mul-graph-ptr-2 : tie.Need-overflow-mul-graph-ptr-2 invariant-loop decreases-loop
-mul-graph-ptr-2 c = omega (arith, next_below c.before)
+offset_bounds-graph_ptr-n : tie.Need-offset_bounds-graph_ptr-n invariant-loop-c decreases-loop-c
+offset_bounds-graph_ptr-n c = omega (arith, next_below c.before)
 
-slice-write-graph-ptr-2 : tie.Need-slice-write-graph-ptr-2 invariant-loop decreases-loop
-slice-write-graph-ptr-2 c = omega (arith, c.before.loop.invariant.1, (entry-of-after-loop c).requires.1.0.pointer_room)
+bounds-graph_ptr-n : tie.Need-bounds-graph_ptr-n invariant-loop-c decreases-loop-c
+bounds-graph_ptr-n c = omega (arith, c.loop-c.invariant.1, c.requires.roomy.pointer_room)
 
-cast-result : tie.Need-overflow-cast-result invariant-loop decreases-loop
-cast-result c = omega (arith, next_below c.before)
+overflow_cast-result : tie.Need-overflow_cast-result invariant-loop-c decreases-loop-c
+overflow_cast-result c = omega (arith, next_below c.before)
 
-same_length_lem : tie.Need-same-length invariant-loop decreases-loop
-same_length_lem c = simp length-set c.before.loop.invariant.1
+shape_of-graph_ptr : tie.Need-shape_of-graph_ptr invariant-loop-c decreases-loop-c
+shape_of-graph_ptr c = simp length-set c.loop-c.invariant.1
 
-same-length-2 : tie.Need-same-length-2 invariant-loop decreases-loop
-same-length-2 c = c.before.loop.invariant.2
+shape_of-graph_rows : tie.Need-shape_of-graph_rows invariant-loop-c decreases-loop-c
+shape_of-graph_rows c = c.loop-c.invariant.2
 
-same-length-3 : tie.Need-same-length-3 invariant-loop decreases-loop
-same-length-3 c = c.before.loop.invariant.3
+shape_of-cost : tie.Need-shape_of-cost invariant-loop-c decreases-loop-c
+shape_of-cost c = c.loop-c.invariant.3
 
-same-length-4 : tie.Need-same-length-4 invariant-loop decreases-loop
-same-length-4 c = c.before.loop.invariant.4
+shape_of-cmax : tie.Need-shape_of-cmax invariant-loop-c decreases-loop-c
+shape_of-cmax c = c.loop-c.invariant.4
 
-returns : tie.Need-returns invariant-loop decreases-loop
-returns c = let e : c.before.loop.c ≡ (entry-of-after-loop c).args.n
-    = omega (arith, c.before.loop.invariant.0, c.loop-test.false) in
-    built_last (matrix (entry-of-after-loop c).args.n (entry-of-after-loop c).args.col-ptr.now
-    (entry-of-after-loop c).args.row-idx.now
-    (entry-of-after-loop c).args.values.now)
-    (entry_logs (entry-of-after-loop c).args.source
-    (entry-of-after-loop c).args.logs.now)
-    (entry-of-after-loop c).args.graph-ptr.now
-    (entry-of-after-loop c).args.graph-rows.now
-    (entry-of-after-loop c).args.cost.now
-    (entry-of-after-loop c).args.cmax.now
-    (subst (λ (i : ℕ). BuiltTo i (matrix (entry-of-after-loop c).args.n (entry-of-after-loop c).args.col-ptr.now
-    (entry-of-after-loop c).args.row-idx.now
-    (entry-of-after-loop c).args.values.now)
-    (entry_logs (entry-of-after-loop c).args.source
-    (entry-of-after-loop c).args.logs.now)
-    (entry-of-after-loop c).args.graph-ptr.now
-    (entry-of-after-loop c).args.graph-rows.now
-    (entry-of-after-loop c).args.cost.now
-    (entry-of-after-loop c).args.cmax.now
-    c.before.loop.graph-ptr c.before.loop.graph-rows c.before.loop.cost c.before.loop.cmax
-    c.before.loop.next) e c.before.loop.invariant.5) (entry-of-after-loop c).requires.1.0.pointer_room
-    (entry-of-after-loop c).requires.1.0.cmax_room
+returns : tie.Need-returns invariant-loop-c decreases-loop-c
+returns c = let e : c.loop-c.c ≡ c.args.n
+    = omega (arith, c.loop-c.invariant.0, c.loop-c-test.false) in
+    built_last (matrix c.args.n c.args.col-ptr.now
+    c.args.row-idx.now
+    c.args.values.now)
+    (entry_logs c.args.source
+    c.args.logs.now)
+    c.args.graph-ptr.now
+    c.args.graph-rows.now
+    c.args.cost.now
+    c.args.cmax.now
+    (subst (λ (i : ℕ). BuiltTo i (matrix c.args.n c.args.col-ptr.now
+    c.args.row-idx.now
+    c.args.values.now)
+    (entry_logs c.args.source
+    c.args.logs.now)
+    c.args.graph-ptr.now
+    c.args.graph-rows.now
+    c.args.cost.now
+    c.args.cmax.now
+    c.loop-c.graph-ptr c.loop-c.graph-rows c.loop-c.cost c.loop-c.cmax
+    c.loop-c.next) e c.loop-c.invariant.5) c.requires.roomy.pointer_room
+    c.requires.roomy.cmax_room
 
-pub build-spec : {M : Type 1} → statement M
-build-spec =
+pub build_spec : {M : Type 1} → statement M
+build_spec =
     tie.close
     (tie.spec
-    invariant-loop
-    decreases-loop
-    loop-holds
-    cast-graph-ptr
-    mul-graph-ptr
-    slice-write-graph-ptr
-    mul-from
-    shared-slice-read-from
-    cast-from
-    add-to
-    mul-to
-    shared-slice-read-to
-    cast-to
-    keep-column-requires
-    mul-subtract
-    sub-subtract
-    part-subtract-start
-    part-subtract-end
+    invariant-loop-c
+    decreases-loop-c
+    loop-c-init
+    overflow_cast-graph_ptr
+    offset_bounds-graph_ptr-c
+    bounds-graph_ptr-c
+    offset_bounds-col_ptr-c
+    bounds-col_ptr-c
+    overflow_cast-from
+    overflow_add-to
+    offset_bounds-col_ptr-c-in-loop-c
+    bounds-col_ptr-c-in-loop-c
+    overflow_cast-to
+    keep_column-kept-requires
+    offset_bounds-cost-next
+    slice_bounds-subtract-count
+    slice_bounds-subtract-start
+    slice_bounds-subtract-end
     subtract-requires
-    mul-cmax
-    slice-write-cmax
-    add-c
-    loop-less
-    loop-again
-    cast-graph-ptr-2
-    mul-graph-ptr-2
-    slice-write-graph-ptr-2
-    cast-result
-    same_length_lem
-    same-length-2
-    same-length-3
-    same-length-4
+    offset_bounds-cmax-c
+    bounds-cmax-c
+    overflow_step-c
+    loop-c-smaller
+    loop-c-preserved
+    overflow_cast-graph_ptr-2
+    offset_bounds-graph_ptr-n
+    bounds-graph_ptr-n
+    overflow_cast-result
+    shape_of-graph_ptr
+    shape_of-graph_rows
+    shape_of-cost
+    shape_of-cmax
     returns)

@@ -1,4 +1,5 @@
 -- `build_general_graph` meets its contract: the tests establish what the building requires.
+use Rattle.std.proofs.Common.{rules}
 use mathlib.Core.Path.{refl, sym, ap, ◌∙◌}
 use borrow.Author.Rules.{rules}
 use Rattle.sparse.specs.Matrix.{matrix}
@@ -11,151 +12,100 @@ use Rattle.mc64_general.proofs.Theorems.{promised}
 use Rattle.mc64_general.proofs.build_general_graph.Statement.{statement}
 use Rattle.mc64_general.proofs.build_general_graph.Tie as tie
 
--- places of the proof, each from a later one
-abbrev entry-of-slice-known5 : tie.After-slice-known5 → tie.Start
-entry-of-slice-known5 c = c.before.before.before.before.before.before.before.before.before
+lengths_fit-fit-requires : tie.Need-lengths_fit-fit-requires
+lengths_fit-fit-requires c κs = search rules
 
-abbrev entry-of-lengths-fit : tie.After-lengths-fit → tie.Start
-entry-of-lengths-fit c = entry-of-slice-known5 c.before.before.before.before.before.before
-
-abbrev lengths-fit-of-input-fault : tie.After-input-fault → tie.After-lengths-fit
-lengths-fit-of-input-fault c = c.before
-
-abbrev entry-of-input-fault : tie.After-input-fault → tie.Start
-entry-of-input-fault c = entry-of-lengths-fit (lengths-fit-of-input-fault c)
-
-abbrev input-fault-of-Else1 : tie.Else1 → tie.After-input-fault
-input-fault-of-Else1 c = c.before
-
-abbrev lengths-fit-of-Else1 : tie.Else1 → tie.After-lengths-fit
-lengths-fit-of-Else1 c = lengths-fit-of-input-fault (input-fault-of-Else1 c)
-
-abbrev entry-of-Else1 : tie.Else1 → tie.Start
-entry-of-Else1 c = entry-of-input-fault (input-fault-of-Else1 c)
-
-abbrev Else1-of-build : tie.After-build → tie.Else1
-Else1-of-build c = c.before.before.before.before.before.before
-
-abbrev input-fault-of-build : tie.After-build → tie.After-input-fault
-input-fault-of-build c = input-fault-of-Else1 (Else1-of-build c)
-
-abbrev lengths-fit-of-build : tie.After-build → tie.After-lengths-fit
-lengths-fit-of-build c = lengths-fit-of-Else1 (Else1-of-build c)
-
-abbrev entry-of-build : tie.After-build → tie.Start
-entry-of-build c = entry-of-Else1 (Else1-of-build c)
-
-abbrev build-of-slice-known10 : tie.After-slice-known10 → tie.After-build
-build-of-slice-known10 c = c.before.before.before.before.before.before.before.before.before.before.before.before
-
-abbrev Else1-of-slice-known10 : tie.After-slice-known10 → tie.Else1
-Else1-of-slice-known10 c = Else1-of-build (build-of-slice-known10 c)
-
-abbrev input-fault-of-slice-known10 : tie.After-slice-known10 → tie.After-input-fault
-input-fault-of-slice-known10 c = input-fault-of-build (build-of-slice-known10 c)
-
-abbrev lengths-fit-of-slice-known10 : tie.After-slice-known10 → tie.After-lengths-fit
-lengths-fit-of-slice-known10 c = lengths-fit-of-build (build-of-slice-known10 c)
-
-abbrev entry-of-slice-known10 : tie.After-slice-known10 → tie.Start
-entry-of-slice-known10 c = entry-of-build (build-of-slice-known10 c)
-
-lengths-fit-requires : tie.Need-lengths-fit-requires
-lengths-fit-requires c κs = search rules
-
-input-fault-requires : tie.Need-input-fault-requires
-input-fault-requires c κs =
-    let args = (entry-of-lengths-fit c).args in
+input_fault-fault-requires : tie.Need-input_fault-fault-requires
+input_fault-fault-requires c κs =
+    let args = c.args in
     λ t. let f = lengths_fitting _ (matrix args.n args.col-ptr.now args.row-idx.now args.values.now)
     args.logs.now (slices args.graph-ptr.now args.graph-rows.now args.cost.now args.cmax.now
-    args.work.now) (sym c.lengths_fit_lem.ensures ∙ t) in
+    args.work.now) (sym c.lengths_fit-fit.ensures ∙ t) in
     f.logged ∙ sym f.valued
 
-same_length_lem : tie.Need-same-length
-same_length_lem c = refl
+shape_of-graph_ptr-then-fault-ne-ACCEPTED : tie.Need-shape_of-graph_ptr-then-fault-ne-ACCEPTED
+shape_of-graph_ptr-then-fault-ne-ACCEPTED c = refl
 
-same-length-2 : tie.Need-same-length-2
-same-length-2 c = refl
+shape_of-graph_rows-then-fault-ne-ACCEPTED : tie.Need-shape_of-graph_rows-then-fault-ne-ACCEPTED
+shape_of-graph_rows-then-fault-ne-ACCEPTED c = refl
 
-same-length-3 : tie.Need-same-length-3
-same-length-3 c = refl
+shape_of-cost-then-fault-ne-ACCEPTED : tie.Need-shape_of-cost-then-fault-ne-ACCEPTED
+shape_of-cost-then-fault-ne-ACCEPTED c = refl
 
-same-length-4 : tie.Need-same-length-4
-same-length-4 c = refl
+shape_of-cmax-then-fault-ne-ACCEPTED : tie.Need-shape_of-cmax-then-fault-ne-ACCEPTED
+shape_of-cmax-then-fault-ne-ACCEPTED c = refl
 
-same-length-5 : tie.Need-same-length-5
-same-length-5 c = refl
+shape_of-work-then-fault-ne-ACCEPTED : tie.Need-shape_of-work-then-fault-ne-ACCEPTED
+shape_of-work-then-fault-ne-ACCEPTED c = refl
 
-returns : tie.Need-returns
-returns c =
-    let args = (entry-of-input-fault c.before).args in
+returns-then-fault-ne-ACCEPTED : tie.Need-returns-then-fault-ne-ACCEPTED
+returns-then-fault-ne-ACCEPTED c =
+    let args = c.args in
     let m = matrix args.n args.col-ptr.now args.row-idx.now args.values.now in
     let lent = slices args.graph-ptr.now args.graph-rows.now args.cost.now args.cmax.now args.work.now in
     promised m args.logs.now lent
     (refused args.n (kept_columns m) args.logs.now lent _ _
-    (c.before.input-fault.ensures ∙ ap (input_fault m args.logs.now)
-    c.before.before.lengths_fit_lem.ensures) c.if1.true)
+    (c.input_fault-fault.ensures ∙ ap (input_fault m args.logs.now)
+    c.lengths_fit-fit.ensures) c.if-fault-ne-ACCEPTED.true)
 
-build-requires : tie.Need-build-requires
-build-requires c κs =
-    let other = c.before.before.before.before.before in
-    let args = (entry-of-Else1 other).args in
+build-kept-requires : tie.Need-build-kept-requires
+build-kept-requires c κs =
+    let args = c.args in
     let r = ready (matrix args.n args.col-ptr.now args.row-idx.now args.values.now) args.logs.now
     (slices args.graph-ptr.now args.graph-rows.now args.cost.now args.cmax.now args.work.now)
-    (sym ((input-fault-of-Else1 other).input-fault.ensures ∙ ap
+    (sym (c.input_fault-fault.ensures ∙ ap
     (input_fault (matrix args.n args.col-ptr.now args.row-idx.now args.values.now) args.logs.now)
-    (lengths-fit-of-Else1 other).lengths_fit_lem.ensures) ∙
-    other.if1.false) in
+    c.lengths_fit-fit.ensures) ∙
+    c.if-fault-ne-ACCEPTED.false) in
     (r.0, (r.1, (λ k h. tt, r.2)))
 
 clear-requires : tie.Need-clear-requires
 clear-requires c κs = tt
 
-same-length-6 : tie.Need-same-length-6
-same-length-6 c = (build-of-slice-known10 c).build.kept.1.1.1.1.1.1.0
+shape_of-graph_ptr : tie.Need-shape_of-graph_ptr
+shape_of-graph_ptr c = c.build-kept.kept.1.1.1.1.1.1.0
 
-same-length-7 : tie.Need-same-length-7
-same-length-7 c = (build-of-slice-known10 c).build.kept.1.1.1.1.1.1.1.0
+shape_of-graph_rows : tie.Need-shape_of-graph_rows
+shape_of-graph_rows c = c.build-kept.kept.1.1.1.1.1.1.1.0
 
-same-length-8 : tie.Need-same-length-8
-same-length-8 c = (build-of-slice-known10 c).build.kept.1.1.1.1.1.1.1.1.0
+shape_of-cost : tie.Need-shape_of-cost
+shape_of-cost c = c.build-kept.kept.1.1.1.1.1.1.1.1.0
 
-same-length-9 : tie.Need-same-length-9
-same-length-9 c = (build-of-slice-known10 c).build.kept.1.1.1.1.1.1.1.1.1.0
+shape_of-cmax : tie.Need-shape_of-cmax
+shape_of-cmax c = c.build-kept.kept.1.1.1.1.1.1.1.1.1.0
 
-same-length-10 : tie.Need-same-length-10
-same-length-10 c = c.before.before.clear.auto.0
+shape_of-work : tie.Need-shape_of-work
+shape_of-work c = c.clear.auto.list
 
-returns-2 : tie.Need-returns-2
-returns-2 c =
-    let args = (entry-of-slice-known10 c).args in
+returns : tie.Need-returns
+returns-then-fault-ne-ACCEPTED c =
+    let args = c.args in
     let m = matrix args.n args.col-ptr.now args.row-idx.now args.values.now in
     let lent = slices args.graph-ptr.now args.graph-rows.now args.cost.now args.cmax.now args.work.now in
-    let build = build-of-slice-known10 c in
     promised m args.logs.now lent
     (accepted m args.logs.now lent _
-    build.build.result _ (sym (Else1-of-slice-known10 c).if1.left ∙
-    ((input-fault-of-slice-known10 c).input-fault.ensures ∙ ap
+    c.build-kept.result _ (sym c.if-fault-ne-ACCEPTED.left ∙
+    (c.input_fault-fault.ensures ∙ ap
     (input_fault m args.logs.now)
-    (lengths-fit-of-slice-known10 c).lengths_fit_lem.ensures)) build.build.ensures c.before.before.clear.ensures)
+    c.lengths_fit-fit.ensures)) c.build-kept.ensures c.clear.ensures)
 
-pub build-general-graph-spec : {M : Type 1} → statement M
-build-general-graph-spec =
+pub build_general_graph_spec : {M : Type 1} → statement M
+build_general_graph_spec =
     tie.close
     (tie.spec
-    lengths-fit-requires
-    input-fault-requires
-    same_length_lem
-    same-length-2
-    same-length-3
-    same-length-4
-    same-length-5
-    returns
-    build-requires
+    lengths_fit-fit-requires
+    input_fault-fault-requires
+    shape_of-graph_ptr-then-fault-ne-ACCEPTED
+    shape_of-graph_rows-then-fault-ne-ACCEPTED
+    shape_of-cost-then-fault-ne-ACCEPTED
+    shape_of-cmax-then-fault-ne-ACCEPTED
+    shape_of-work-then-fault-ne-ACCEPTED
+    returns-then-fault-ne-ACCEPTED
+    build-kept-requires
     clear-requires
-    same-length-6
-    same-length-7
-    same-length-8
-    same-length-9
-    same-length-10
-    returns-2)
+    shape_of-graph_ptr
+    shape_of-graph_rows
+    shape_of-cost
+    shape_of-cmax
+    shape_of-work
+    returns)

@@ -1,4 +1,5 @@
 -- `is_kept` meets its contract: it is the definition's two tests.
+use Rattle.std.proofs.Common.{rules}
 use mathlib.Core.Path.{ap}
 use mathlib.Core.Bool.{Bool, ◌&&◌}
 use lib.Ieee.{ne}
@@ -8,12 +9,16 @@ use borrow.Author.Rules.{rules}
 use Rattle.mc64_general.proofs.is_kept.Statement.{statement}
 use Rattle.mc64_general.proofs.is_kept.Tie as tie
 
-is-finite-requires : tie.Need-is-finite-requires
-is-finite-requires c κs = search rules
+is_finite-requires : tie.Need-is_finite-requires
+is_finite-requires c κs = search rules
 
 returns : tie.Need-returns
 unfolding is_kept
-returns c = ap (λ (b : Bool). b && ne c.before.args.value Constants.zero) c.is_finite.ensures
+returns c = ap (λ (b : Bool). b && ne c.args.value Constants.zero) c.is_finite.ensures
 
-pub is-kept-spec : {M : Type 1} → statement M
-is-kept-spec = tie.close (tie.spec is-finite-requires returns)
+pub is_kept_spec : {M : Type 1} → statement M
+is_kept_spec =
+    tie.close
+    (tie.spec
+    is_finite-requires
+    returns)

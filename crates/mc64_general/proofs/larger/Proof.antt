@@ -4,11 +4,15 @@ use mathlib.Core.Bool.{Bool, cond}
 use Rattle.mc64_general.proofs.larger.Statement.{statement}
 use Rattle.mc64_general.proofs.larger.Tie as tie
 
-returns : tie.Need-returns
-returns c = sym (ap (λ (b : Bool). cond b c.before.args.log c.before.args.top) c.if1.true)
+returns-then-first-log : tie.Need-returns-then-first-log
+returns-then-first-log c = sym (ap (λ (b : Bool). cond b c.args.log c.args.top) c.if-first-log.true)
 
-returns-2 : tie.Need-returns-2
-returns-2 c = sym (ap (λ (b : Bool). cond b c.before.args.log c.before.args.top) c.if1.false)
+returns-else-first-log : tie.Need-returns-else-first-log
+returns-else-first-log c = sym (ap (λ (b : Bool). cond b c.args.log c.args.top) c.if-first-log.false)
 
-pub larger-spec : {M : Type 1} → statement M
-larger-spec = tie.close (tie.spec returns returns-2)
+pub larger_spec : {M : Type 1} → statement M
+larger_spec =
+    tie.close
+    (tie.spec
+    returns-then-first-log
+    returns-else-first-log)

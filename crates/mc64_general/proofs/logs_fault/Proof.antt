@@ -24,94 +24,75 @@ ends : (n : ℕ) (values logs : List Float) (fine : Bool) (k : ℕ) → length v
 unfolding logs_fault
 ends n values logs = test_ends (fits n values logs) cost_range (length values) some
 
-abbrev invariant-loop : tie.invariant-loop
-invariant-loop n values logs limit fine₀ k₀ k-end fine k = (k ≤ length values) × Tested (fits n values logs) cost_range (length values) some fine k
+abbrev invariant-loop-k : tie.invariant-loop-k
+invariant-loop-k n values logs limit fine₀ k₀ k-end fine k = (k ≤ length values) × Tested (fits n values logs) cost_range (length values) some fine k
 
-abbrev decreases-loop : tie.decreases-loop
-decreases-loop n values logs limit fine₀ k₀ k-end fine k = length values - k
+abbrev decreases-loop-k : tie.decreases-loop-k
+decreases-loop-k n values logs limit fine₀ k₀ k-end fine k = length values - k
 
--- places of the proof, each from a later one
-abbrev entry-of-log-limit : tie.After-log-limit invariant-loop decreases-loop → tie.Start invariant-loop decreases-loop
-entry-of-log-limit c = c.before.before.before
+log_limit-limit-requires : tie.Need-log_limit-limit-requires invariant-loop-k decreases-loop-k
+log_limit-limit-requires c κs = c.requires.0
 
-abbrev entry-of-shared-slice-known3 : tie.After-shared-slice-known3 invariant-loop decreases-loop → tie.Start invariant-loop decreases-loop
-entry-of-shared-slice-known3 c = entry-of-log-limit c.before.before.before
-
-abbrev entry-of-then1 : tie.Then1 invariant-loop decreases-loop → tie.Start invariant-loop decreases-loop
-entry-of-then1 c = entry-of-log-limit c.before.before.before
-
-abbrev entry-of-else1 : tie.Else1 invariant-loop decreases-loop → tie.Start invariant-loop decreases-loop
-entry-of-else1 c = entry-of-log-limit c.before.before.before
-
-abbrev loop-of-log-fits : tie.After-log-fits invariant-loop decreases-loop → tie.At-loop invariant-loop decreases-loop
-loop-of-log-fits c = c.before.before.before.before
-
-abbrev entry-of-log-fits : tie.After-log-fits invariant-loop decreases-loop → tie.Start invariant-loop decreases-loop
-entry-of-log-fits c = entry-of-shared-slice-known3 c.before.before
-
-log-limit-requires : tie.Need-log-limit-requires invariant-loop decreases-loop
-log-limit-requires c κs = c.before.before.requires.0
-
-loop-holds : tie.Need-loop-init invariant-loop decreases-loop
-loop-holds c = (
+loop-k-init : tie.Need-loop-k-init invariant-loop-k decreases-loop-k
+loop-k-init c = (
   omega arith,
-  test_begins (fits (entry-of-log-limit c).args.n (entry-of-log-limit c).args.values.now (entry-of-log-limit c).args.logs.now) cost_range
-      (length (entry-of-log-limit c).args.values.now) some,
+  test_begins (fits c.args.n c.args.values.now c.args.logs.now) cost_range
+      (length c.args.values.now) some,
 )
 
-mul-log-fits : tie.Need-overflow-mul-log-fits invariant-loop decreases-loop
-mul-log-fits c = omega (arith, (entry-of-log-limit c.before.before).pre.1)
+offset_bounds-values-k : tie.Need-offset_bounds-values-k invariant-loop-k decreases-loop-k
+offset_bounds-values-k c = omega (arith, c.requires.1)
 
-shared-slice-read-log-fits : tie.Need-shared-slice-read-log-fits invariant-loop decreases-loop
-shared-slice-read-log-fits c = omega (arith, (entry-of-shared-slice-known3 c).requires.1)
+bounds-values-k : tie.Need-bounds-values-k invariant-loop-k decreases-loop-k
+bounds-values-k c = omega (arith, c.requires.1)
 
-mul-log-fits-2 : tie.Need-overflow-mul-log-fits-2 invariant-loop decreases-loop
-mul-log-fits-2 c = omega (arith, (entry-of-shared-slice-known3 c).requires.1)
+offset_bounds-logs-k : tie.Need-offset_bounds-logs-k invariant-loop-k decreases-loop-k
+offset_bounds-logs-k c = omega (arith, c.requires.1)
 
-shared-slice-read-log-fits-2 : tie.Need-shared-slice-read-log-fits-2 invariant-loop decreases-loop
-shared-slice-read-log-fits-2 c = omega (arith, (entry-of-shared-slice-known3 c.before).pre.1)
+bounds-logs-k : tie.Need-bounds-logs-k invariant-loop-k decreases-loop-k
+bounds-logs-k c = omega (arith, c.requires.1)
 
-log-fits-requires : tie.Need-log-fits-requires invariant-loop decreases-loop
-log-fits-requires c κs = tt
+log_fits-fine-requires : tie.Need-log_fits-fine-requires invariant-loop-k decreases-loop-k
+log_fits-fine-requires c κs = tt
 
-add-k : tie.Need-overflow-add-k invariant-loop decreases-loop
-add-k c = omega (arith, (entry-of-log-fits c).requires.1)
+overflow_step-k : tie.Need-overflow_step-k invariant-loop-k decreases-loop-k
+overflow_step-k c = omega (arith, c.requires.1)
 
-loop-less : tie.Need-loop-smaller invariant-loop decreases-loop
-loop-less c = omega (arith, (entry-of-log-fits c).requires.1)
+loop-k-smaller : tie.Need-loop-k-smaller invariant-loop-k decreases-loop-k
+loop-k-smaller c = omega (arith, c.requires.1)
 
-loop-again : tie.Need-loop-preserved invariant-loop decreases-loop
-loop-again c = (
+loop-k-preserved : tie.Need-loop-k-preserved invariant-loop-k decreases-loop-k
+loop-k-preserved c = (
   omega arith,
-  rw (c.log-fits.ensures (entry-of-log-fits c).args.n (loop-of-log-fits c).before.log_limit.ensures)
-      (test_goes_on (fits (entry-of-log-fits c).args.n (entry-of-log-fits c).args.values.now
-      (entry-of-log-fits c).args.logs.now) cost_range (length (entry-of-log-fits c).args.values.now) some
-      (loop-of-log-fits c).loop.fine (loop-of-log-fits c).loop.k (omega arith) (loop-of-log-fits c).loop.invariant.1),
+  rw (c.log_fits-fine.ensures c.args.n c.log_limit-limit.ensures)
+      (test_goes_on (fits c.args.n c.args.values.now
+      c.args.logs.now) cost_range (length c.args.values.now) some
+      c.loop-k.fine c.loop-k.k (omega arith) c.loop-k.invariant.1),
 )
 
-returns : tie.Need-returns invariant-loop decreases-loop
-returns c = sym (ends (entry-of-then1 c).args.n (entry-of-then1 c).args.values.now (entry-of-then1 c).args.logs.now
-    c.before.before.loop.fine c.before.before.loop.k (omega arith) c.before.before.loop.invariant.1 ∙ rw c.if1.true refl)
+returns-then-fine : tie.Need-returns-then-fine invariant-loop-k decreases-loop-k
+returns-then-fine c = sym (ends c.args.n c.args.values.now c.args.logs.now
+    c.loop-k.fine c.loop-k.k (omega arith) c.loop-k.invariant.1 ∙ rw c.if-fine.true refl)
 
-returns-2 : tie.Need-returns-2 invariant-loop decreases-loop
-returns-2 c = sym (ends (entry-of-else1 c).args.n (entry-of-else1 c).args.values.now (entry-of-else1 c).args.logs.now
-    c.before.before.loop.fine c.before.before.loop.k (omega arith) c.before.before.loop.invariant.1 ∙ rw c.if1.false refl)
+returns-else-fine : tie.Need-returns-else-fine invariant-loop-k decreases-loop-k
+returns-else-fine c = sym (ends c.args.n c.args.values.now c.args.logs.now
+    c.loop-k.fine c.loop-k.k (omega arith) c.loop-k.invariant.1 ∙ rw c.if-fine.false refl)
 
-pub logs-fault-spec : {M : Type 1} → statement M
-logs-fault-spec =
+pub logs_fault_spec : {M : Type 1} → statement M
+logs_fault_spec =
     tie.close
     (tie.spec
-    invariant-loop
-    decreases-loop
-    log-limit-requires
-    loop-holds
-    mul-log-fits
-    shared-slice-read-log-fits
-    mul-log-fits-2
-    shared-slice-read-log-fits-2
-    log-fits-requires
-    add-k
-    loop-less
-    loop-again
-    returns
-    returns-2)
+    invariant-loop-k
+    decreases-loop-k
+    log_limit-limit-requires
+    loop-k-init
+    offset_bounds-values-k
+    bounds-values-k
+    offset_bounds-logs-k
+    bounds-logs-k
+    log_fits-fine-requires
+    overflow_step-k
+    loop-k-smaller
+    loop-k-preserved
+    returns-then-fine
+    returns-else-fine)

@@ -7,16 +7,21 @@ use Rattle.root_blocks.proofs.Blocks.{own_bits}
 use Rattle.root_blocks.proofs.bits_above_zero.Statement.{statement}
 use Rattle.root_blocks.proofs.bits_above_zero.Tie as tie
 
-float-to-bits-result : tie.Need-float-to-bits-result
-float-to-bits-result c = above_no_nan (above c.before.args.x c.if1.true)
+float_to_bits-result : tie.Need-float_to_bits-result
+float_to_bits-result c = above_no_nan (above c.args.x c.if-x.true)
+
+returns-then-x : tie.Need-returns-then-x
+returns-then-x c =
+    let t : T (fits binary64 c.args.x) = search rules in
+    (own_bits c.args.x c.if-x.true t, λ h. (refl, t))
 
 returns : tie.Need-returns
-returns c =
-    let t : T (fits binary64 c.before.args.x) = search rules in
-    (own_bits c.before.args.x c.if1.true t, λ h. (refl, t))
+returns-then-x c = (no_nan _ (omega arith), λ h. absurd (true≢false (sym h ∙ c.if-x.false)))
 
-returns-2 : tie.Need-returns-2
-returns-2 c = (no_nan _ (omega arith), λ h. absurd (true≢false (sym h ∙ c.if1.false)))
-
-pub bits-above-zero-spec : {M : Type 1} → statement M
-bits-above-zero-spec = tie.close (tie.spec float-to-bits-result returns returns-2)
+pub bits_above_zero_spec : {M : Type 1} → statement M
+bits_above_zero_spec =
+    tie.close
+    (tie.spec
+    float_to_bits-result
+    returns-then-x
+    returns)

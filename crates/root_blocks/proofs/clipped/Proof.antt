@@ -4,11 +4,15 @@ use Rattle.std.proofs.Common.{rules}
 use Rattle.root_blocks.proofs.clipped.Statement.{statement}
 use Rattle.root_blocks.proofs.clipped.Tie as tie
 
-returns : tie.Need-returns
-returns c = less_no_nan _ _ c.if1.true
+returns-then-c : tie.Need-returns-then-c
+returns-then-c c = less_no_nan _ _ c.if-c.true
 
-returns-2 : tie.Need-returns-2
-returns-2 c = search rules
+returns-else-c : tie.Need-returns-else-c
+returns-else-c c = search rules
 
-pub clipped-spec : {M : Type 1} → statement M
-clipped-spec = tie.close (tie.spec returns returns-2)
+pub clipped_spec : {M : Type 1} → statement M
+clipped_spec =
+    tie.close
+    (tie.spec
+    returns-then-c
+    returns-else-c)

@@ -4,41 +4,41 @@ use Rattle.root_blocks.proofs.Check.{products, checked}
 use Rattle.root_blocks.proofs.excess.Statement.{statement}
 use Rattle.root_blocks.proofs.excess.Tie as tie
 
-mul-q : tie.Need-overflow-mul-q
-mul-q c = search rules
+overflow_mul-q : tie.Need-overflow_mul-q
+overflow_mul-q c = search rules
 
-sub-q : tie.Need-overflow-sub-q
-sub-q c = search rules
+overflow_sub-q : tie.Need-overflow_sub-q
+overflow_sub-q c = search rules
 
-under-root-requires : tie.Need-under-root-requires
-under-root-requires c κs = search rules
+under_root-n-requires : tie.Need-under_root-n-requires
+under_root-n-requires c κs = search rules
 
-mul-wrapping-sub-u64 : tie.Need-overflow-mul-wrapping-sub-u64
-mul-wrapping-sub-u64 c = omega (arith, products c.before.args.p c.before.requires.1)
+overflow_mul-a : tie.Need-overflow_mul-a
+overflow_mul-a c = omega (arith, products c.args.p c.requires.1)
 
-wrapping-sub-u64-requires : tie.Need-wrapping-sub-u64-requires
-wrapping-sub-u64-requires c κs = search rules
+wrapping_sub_u64-over-requires : tie.Need-wrapping_sub_u64-over-requires
+wrapping_sub_u64-over-requires c κs = search rules
 
-mul-wrapping-sub-u64-2 : tie.Need-overflow-mul-wrapping-sub-u64-2
-mul-wrapping-sub-u64-2 c = omega (arith, products c.before.before.args.p c.before.before.requires.1)
+overflow_mul-a-2 : tie.Need-overflow_mul-a-2
+overflow_mul-a-2 c = omega (arith, products c.args.p c.requires.1)
 
-wrapping-sub-u64-requires-2 : tie.Need-wrapping-sub-u64-requires-2
-wrapping-sub-u64-requires-2 c κs = search rules
+wrapping_sub_u64-t-requires : tie.Need-wrapping_sub_u64-t-requires
+wrapping_sub_u64-t-requires c κs = search rules
 
-mul-wrapping-sub-u64-3 : tie.Need-overflow-mul-wrapping-sub-u64-3
-mul-wrapping-sub-u64-3 c = omega (arith, products c.before.before.before.args.p c.before.before.before.requires.1)
+overflow_mul-b : tie.Need-overflow_mul-b
+overflow_mul-b c = omega (arith, products c.args.p c.requires.1)
 
-wrapping-sub-u64-requires-3 : tie.Need-wrapping-sub-u64-requires-3
-wrapping-sub-u64-requires-3 c κs = search rules
+wrapping_sub_u64-d-requires : tie.Need-wrapping_sub_u64-d-requires
+wrapping_sub_u64-d-requires c κs = search rules
 
-mul-wrapping-sub-u64-4 : tie.Need-overflow-mul-wrapping-sub-u64-4
-mul-wrapping-sub-u64-4 c = search rules
+overflow_mul-q-2 : tie.Need-overflow_mul-q-2
+overflow_mul-q-2 c = search rules
 
-add-wrapping-sub-u64 : tie.Need-overflow-add-wrapping-sub-u64
-add-wrapping-sub-u64 c = search rules
+overflow_add-q : tie.Need-overflow_add-q
+overflow_add-q c = search rules
 
-wrapping-sub-u64-requires-4 : tie.Need-wrapping-sub-u64-requires-4
-wrapping-sub-u64-requires-4 c κs = search rules
+wrapping_sub_u64-left-requires : tie.Need-wrapping_sub_u64-left-requires
+wrapping_sub_u64-left-requires c κs = search rules
 
 far-requires : tie.Need-far-requires
 far-requires c κs = search rules
@@ -46,36 +46,29 @@ far-requires c κs = search rules
 wide-requires : tie.Need-wide-requires
 wide-requires c κs = search rules
 
-add-result : tie.Need-overflow-add-result
-add-result c = search rules
+overflow_add-result : tie.Need-overflow_add-result
+overflow_add-result c = search rules
 
-not-normal-requires : tie.Need-not-normal-requires
-not-normal-requires c κs = search rules
+not_normal-requires : tie.Need-not_normal-requires
+not_normal-requires c κs = search rules
 
-add-result-2 : tie.Need-overflow-add-result-2
-add-result-2 c = search rules
+overflow_add-result-2 : tie.Need-overflow_add-result-2
+overflow_add-result-2 c = search rules
 
 returns : tie.Need-returns
 returns c =
-    let wide = c.before in
-    let far = wide.before in
-    let left = far.before in
-    let d = left.before in
-    let t = d.before in
-    let over = t.before in
-    let n = over.before in
-    let entry = n.before in (
+    (
       omega arith,
-      λ e. let f = far.far.ensures.1 (omega arith) in
-          let w = wide.wide.ensures.1 (omega arith) in
-          let o = c.not-normal.ensures.1 (omega arith) in
-          checked entry.args.bits entry.args.p n.under-root.ensures.0 (omega (arith, o.0)) (omega (arith, o.1))
+      λ e. let f = c.far.ensures.1 (omega arith) in
+          let w = c.wide.ensures.1 (omega arith) in
+          let o = c.not_normal.ensures.1 (omega arith) in
+          checked c.args.bits c.args.p c.under_root-n.ensures.0 (omega (arith, o.0)) (omega (arith, o.1))
           (omega arith) (omega arith) (omega arith)
           (record {
-            over-is = over.wrapping-sub-u64.ensures;
-            t_is = t.wrapping-sub-u642.ensures;
-            d_is = d.wrapping-sub-u643.ensures;
-            left_is = left.wrapping-sub-u644.ensures ∙ omega arith;
+            over-is = c.wrapping_sub_u64-over.ensures;
+            t_is = c.wrapping_sub_u64-t.ensures;
+            d_is = c.wrapping_sub_u64-d.ensures;
+            left_is = c.wrapping_sub_u64-left.ensures ∙ omega arith;
             over_small = f.0;
             t_small = f.1;
             d_small = w.0;
@@ -83,25 +76,25 @@ returns c =
           }),
     )
 
-pub excess-spec : {M : Type 1} → statement M
-excess-spec =
+pub excess_spec : {M : Type 1} → statement M
+excess_spec =
     tie.close
     (tie.spec
-    mul-q
-    sub-q
-    under-root-requires
-    mul-wrapping-sub-u64
-    wrapping-sub-u64-requires
-    mul-wrapping-sub-u64-2
-    wrapping-sub-u64-requires-2
-    mul-wrapping-sub-u64-3
-    wrapping-sub-u64-requires-3
-    mul-wrapping-sub-u64-4
-    add-wrapping-sub-u64
-    wrapping-sub-u64-requires-4
+    overflow_mul-q
+    overflow_sub-q
+    under_root-n-requires
+    overflow_mul-a
+    wrapping_sub_u64-over-requires
+    overflow_mul-a-2
+    wrapping_sub_u64-t-requires
+    overflow_mul-b
+    wrapping_sub_u64-d-requires
+    overflow_mul-q-2
+    overflow_add-q
+    wrapping_sub_u64-left-requires
     far-requires
     wide-requires
-    add-result
-    not-normal-requires
-    add-result-2
+    overflow_add-result
+    not_normal-requires
+    overflow_add-result-2
     returns)

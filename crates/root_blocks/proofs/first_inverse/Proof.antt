@@ -4,21 +4,27 @@ use Rattle.float64.proofs.Bits.{no_nan}
 use Rattle.root_blocks.proofs.first_inverse.Statement.{statement}
 use Rattle.root_blocks.proofs.first_inverse.Tie as tie
 
-above-one-requires : tie.Need-above-one-requires
-above-one-requires c κs = search rules
+above_one-requires : tie.Need-above_one-requires
+above_one-requires c κs = search rules
 
-add-result : tie.Need-overflow-add-result
-add-result c = search rules
+overflow_add-result : tie.Need-overflow_add-result
+overflow_add-result c = search rules
 
-sub-result : tie.Need-overflow-sub-result
-sub-result c = search rules
+overflow_sub-result : tie.Need-overflow_sub-result
+overflow_sub-result c = search rules
 
-float-from-bits-result : tie.Need-float-from-bits-result
-float-from-bits-result c = no_nan _ (omega arith)
+float_from_bits-result : tie.Need-float_from_bits-result
+float_from_bits-result c = no_nan _ (omega arith)
 
 returns : tie.Need-returns
 returns c = search rules
 
-pub first-inverse-spec : {M : Type 1} → statement M
-first-inverse-spec =
-    tie.close (tie.spec above-one-requires add-result sub-result float-from-bits-result returns)
+pub first_inverse_spec : {M : Type 1} → statement M
+first_inverse_spec =
+    tie.close
+    (tie.spec
+    above_one-requires
+    overflow_add-result
+    overflow_sub-result
+    float_from_bits-result
+    returns)

@@ -3,80 +3,80 @@ use Rattle.std.proofs.Common.{◌≡◌, ◌-◌, ◌≤◌, length, refl, arith
 use Rattle.root_blocks.proofs.guess_roots.Statement.{statement}
 use Rattle.root_blocks.proofs.guess_roots.Tie as tie
 
-abbrev invariant-loop : tie.invariant-loop
-invariant-loop bits inverses candidates₀ i₀ candidates i = (i ≤ 16) × (length bits ≡ 16) × (length inverses ≡ 16) × (length candidates ≡ 16)
+abbrev invariant-loop-i : tie.invariant-loop-i
+invariant-loop-i bits inverses candidates₀ i₀ candidates i = (i ≤ 16) × (length bits ≡ 16) × (length inverses ≡ 16) × (length candidates ≡ 16)
     × (length candidates ≡ length candidates₀)
 
-abbrev decreases-loop : tie.decreases-loop
-decreases-loop bits inverses candidates₀ i₀ candidates i = 16 - i
+abbrev decreases-loop-i : tie.decreases-loop-i
+decreases-loop-i bits inverses candidates₀ i₀ candidates i = 16 - i
 
-loop-holds : tie.Need-loop-init invariant-loop decreases-loop
-loop-holds c = (omega arith, omega arith, omega arith, omega arith, refl)
+loop-i-init : tie.Need-loop-i-init invariant-loop-i decreases-loop-i
+loop-i-init c = (omega arith, omega arith, omega arith, omega arith, refl)
 
-mul-from-one-to-four : tie.Need-overflow-mul-from-one-to-four invariant-loop decreases-loop
-mul-from-one-to-four c = omega arith
+offset_bounds-bits-i : tie.Need-offset_bounds-bits-i invariant-loop-i decreases-loop-i
+offset_bounds-bits-i c = omega arith
 
-shared-slice-read-from-one-to-four : tie.Need-shared-slice-read-from-one-to-four invariant-loop decreases-loop
-shared-slice-read-from-one-to-four c = omega arith
+bounds-bits-i : tie.Need-bounds-bits-i invariant-loop-i decreases-loop-i
+bounds-bits-i c = omega arith
 
-from-one-to-four-requires : tie.Need-from-one-to-four-requires invariant-loop decreases-loop
-from-one-to-four-requires c κs = tt
+from_one_to_four-requires : tie.Need-from_one_to_four-requires invariant-loop-i decreases-loop-i
+from_one_to_four-requires c κs = tt
 
-mul-candidate : tie.Need-overflow-mul-candidate invariant-loop decreases-loop
-mul-candidate c = omega arith
+offset_bounds-inverses-i : tie.Need-offset_bounds-inverses-i invariant-loop-i decreases-loop-i
+offset_bounds-inverses-i c = omega arith
 
-shared-slice-read-candidate : tie.Need-shared-slice-read-candidate invariant-loop decreases-loop
-shared-slice-read-candidate c = omega arith
+bounds-inverses-i : tie.Need-bounds-inverses-i invariant-loop-i decreases-loop-i
+bounds-inverses-i c = omega arith
 
-candidate-requires : tie.Need-candidate-requires invariant-loop decreases-loop
+candidate-requires : tie.Need-candidate-requires invariant-loop-i decreases-loop-i
 candidate-requires c κs = tt
 
-clipped-requires : tie.Need-clipped-requires invariant-loop decreases-loop
+clipped-requires : tie.Need-clipped-requires invariant-loop-i decreases-loop-i
 clipped-requires c κs = tt
 
-float-to-bits-candidates : tie.Need-float-to-bits-candidates invariant-loop decreases-loop
-float-to-bits-candidates c = c.clipped.ensures
+float_to_bits-candidates : tie.Need-float_to_bits-candidates invariant-loop-i decreases-loop-i
+float_to_bits-candidates c = c.clipped.ensures
 
-mul-candidates : tie.Need-overflow-mul-candidates invariant-loop decreases-loop
-mul-candidates c = omega arith
+offset_bounds-candidates-i : tie.Need-offset_bounds-candidates-i invariant-loop-i decreases-loop-i
+offset_bounds-candidates-i c = omega arith
 
-slice-write-candidates : tie.Need-slice-write-candidates invariant-loop decreases-loop
-slice-write-candidates c = omega arith
+bounds-candidates-i : tie.Need-bounds-candidates-i invariant-loop-i decreases-loop-i
+bounds-candidates-i c = omega arith
 
-add-i : tie.Need-overflow-add-i invariant-loop decreases-loop
-add-i c = omega arith
+overflow_step-i : tie.Need-overflow_step-i invariant-loop-i decreases-loop-i
+overflow_step-i c = omega arith
 
-loop-less : tie.Need-loop-smaller invariant-loop decreases-loop
-loop-less c = omega arith
+loop-i-smaller : tie.Need-loop-i-smaller invariant-loop-i decreases-loop-i
+loop-i-smaller c = omega arith
 
-loop-again : tie.Need-loop-preserved invariant-loop decreases-loop
-loop-again c = (omega arith, omega arith, omega arith, simp length-set (omega arith), simp length-set (omega arith))
+loop-i-preserved : tie.Need-loop-i-preserved invariant-loop-i decreases-loop-i
+loop-i-preserved c = (omega arith, omega arith, omega arith, simp length-set (omega arith), simp length-set (omega arith))
 
-same_length_lem : tie.Need-same-length invariant-loop decreases-loop
-same_length_lem c = omega arith
+shape_of-candidates : tie.Need-shape_of-candidates invariant-loop-i decreases-loop-i
+shape_of-candidates c = omega arith
 
-returns : tie.Need-returns invariant-loop decreases-loop
+returns : tie.Need-returns invariant-loop-i decreases-loop-i
 returns c = tt
 
-pub guess-roots-spec : {M : Type 1} → statement M
-guess-roots-spec =
+pub guess_roots_spec : {M : Type 1} → statement M
+guess_roots_spec =
     tie.close
     (tie.spec
-    invariant-loop
-    decreases-loop
-    loop-holds
-    mul-from-one-to-four
-    shared-slice-read-from-one-to-four
-    from-one-to-four-requires
-    mul-candidate
-    shared-slice-read-candidate
+    invariant-loop-i
+    decreases-loop-i
+    loop-i-init
+    offset_bounds-bits-i
+    bounds-bits-i
+    from_one_to_four-requires
+    offset_bounds-inverses-i
+    bounds-inverses-i
     candidate-requires
     clipped-requires
-    float-to-bits-candidates
-    mul-candidates
-    slice-write-candidates
-    add-i
-    loop-less
-    loop-again
-    same_length_lem
+    float_to_bits-candidates
+    offset_bounds-candidates-i
+    bounds-candidates-i
+    overflow_step-i
+    loop-i-smaller
+    loop-i-preserved
+    shape_of-candidates
     returns)

@@ -3,55 +3,55 @@ use Rattle.std.proofs.Common.{◌≡◌, ◌-◌, ◌*◌, ◌^◌, ◌≤◌, l
 use Rattle.root_blocks.proofs.off_line.Statement.{statement}
 use Rattle.root_blocks.proofs.off_line.Tie as tie
 
-abbrev invariant-loop : tie.invariant-loop
-invariant-loop bits off₀ i₀ off i = (i ≤ 16) × (length bits ≡ 16) × (off ≤ i * 2 ^ 26)
+abbrev invariant-loop-i : tie.invariant-loop-i
+invariant-loop-i bits off₀ i₀ off i = (i ≤ 16) × (length bits ≡ 16) × (off ≤ i * 2 ^ 26)
 
-abbrev decreases-loop : tie.decreases-loop
-decreases-loop bits off₀ i₀ off i = 16 - i
+abbrev decreases-loop-i : tie.decreases-loop-i
+decreases-loop-i bits off₀ i₀ off i = 16 - i
 
-loop-holds : tie.Need-loop-init invariant-loop decreases-loop
-loop-holds c = (omega arith, omega arith, omega arith)
+loop-i-init : tie.Need-loop-i-init invariant-loop-i decreases-loop-i
+loop-i-init c = (omega arith, omega arith, omega arith)
 
-mul-above-one : tie.Need-overflow-mul-above-one invariant-loop decreases-loop
-mul-above-one c = omega arith
+offset_bounds-bits-i : tie.Need-offset_bounds-bits-i invariant-loop-i decreases-loop-i
+offset_bounds-bits-i c = omega arith
 
-shared-slice-read-above-one : tie.Need-shared-slice-read-above-one invariant-loop decreases-loop
-shared-slice-read-above-one c = omega arith
+bounds-bits-i : tie.Need-bounds-bits-i invariant-loop-i decreases-loop-i
+bounds-bits-i c = omega arith
 
-above-one-requires : tie.Need-above-one-requires invariant-loop decreases-loop
-above-one-requires c κs = tt
+above_one-requires : tie.Need-above_one-requires invariant-loop-i decreases-loop-i
+above_one-requires c κs = tt
 
-add-off : tie.Need-overflow-add-off invariant-loop decreases-loop
-add-off c = omega arith
+overflow_add-off : tie.Need-overflow_add-off invariant-loop-i decreases-loop-i
+overflow_add-off c = omega arith
 
-add-off-2 : tie.Need-overflow-add-off-2 invariant-loop decreases-loop
-add-off-2 c = omega arith
+overflow_add-off-in-loop-i : tie.Need-overflow_add-off-in-loop-i invariant-loop-i decreases-loop-i
+overflow_add-off-in-loop-i c = omega arith
 
-add-i : tie.Need-overflow-add-i invariant-loop decreases-loop
-add-i c = omega arith
+overflow_step-i : tie.Need-overflow_step-i invariant-loop-i decreases-loop-i
+overflow_step-i c = omega arith
 
-loop-less : tie.Need-loop-smaller invariant-loop decreases-loop
-loop-less c = omega arith
+loop-i-smaller : tie.Need-loop-i-smaller invariant-loop-i decreases-loop-i
+loop-i-smaller c = omega arith
 
-loop-again : tie.Need-loop-preserved invariant-loop decreases-loop
-loop-again c = (omega arith, omega arith, omega arith)
+loop-i-preserved : tie.Need-loop-i-preserved invariant-loop-i decreases-loop-i
+loop-i-preserved c = (omega arith, omega arith, omega arith)
 
-returns : tie.Need-returns invariant-loop decreases-loop
+returns : tie.Need-returns invariant-loop-i decreases-loop-i
 returns c = tt
 
-pub off-line-spec : {M : Type 1} → statement M
-off-line-spec =
+pub off_line_spec : {M : Type 1} → statement M
+off_line_spec =
     tie.close
     (tie.spec
-    invariant-loop
-    decreases-loop
-    loop-holds
-    mul-above-one
-    shared-slice-read-above-one
-    above-one-requires
-    add-off
-    add-off-2
-    add-i
-    loop-less
-    loop-again
+    invariant-loop-i
+    decreases-loop-i
+    loop-i-init
+    offset_bounds-bits-i
+    bounds-bits-i
+    above_one-requires
+    overflow_add-off
+    overflow_add-off-in-loop-i
+    overflow_step-i
+    loop-i-smaller
+    loop-i-preserved
     returns)

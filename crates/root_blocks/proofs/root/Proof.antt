@@ -7,22 +7,28 @@ use Rattle.root_blocks.proofs.root.Tie as tie
 sqrt-requires : tie.Need-sqrt-requires
 sqrt-requires c κs = search rules
 
-enum-known-y : tie.Need-enum-known-y
-enum-known-y c = search rules
+enum_known-y : tie.Need-enum_known-y
+enum_known-y c = search rules
 
-enum_told : tie.Need-enum-told
-enum_told c = search rules
+enum_told-1 : tie.Need-enum_told-1
+enum_told-1 c = search rules
 
-quiet-nan-requires : tie.Need-quiet-nan-requires
-quiet-nan-requires c κs = search rules
+quiet_nan-requires : tie.Need-quiet_nan-requires
+quiet_nan-requires c κs = search rules
 
-returns : tie.Need-returns
-returns c = ap value_of (sym c.before.y.given.1 ∙ c.before.before.before.sqrt.ensures.0)
+returns-in-Is : tie.Need-returns-in-Is
+returns-in-Is c = ap value_of (sym c.y-1.given.1 ∙ c.sqrt.ensures.root)
 
-returns-2 : tie.Need-returns-2
-returns-2 c = c.quiet-nan.ensures ∙ ap value_of (sym c.before.enum_told.given.1 ∙ c.before.before.before.sqrt.ensures.0)
+returns-in-Refused : tie.Need-returns-in-Refused
+returns-in-Refused c = c.quiet_nan.ensures ∙ ap value_of (sym c.enum_told-1.given.1 ∙ c.sqrt.ensures.root)
 
-pub root-spec : {M : Type 1} → statement M
-root-spec =
+pub root_spec : {M : Type 1} → statement M
+root_spec =
     tie.close
-    (tie.spec sqrt-requires enum-known-y enum_told quiet-nan-requires returns returns-2)
+    (tie.spec
+    sqrt-requires
+    enum_known-y
+    enum_told-1
+    quiet_nan-requires
+    returns-in-Is
+    returns-in-Refused)

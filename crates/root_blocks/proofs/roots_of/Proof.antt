@@ -4,54 +4,47 @@ use Rattle.root_blocks.proofs.Blocks.{lanes}
 use Rattle.root_blocks.proofs.roots_of.Statement.{statement}
 use Rattle.root_blocks.proofs.roots_of.Tie as tie
 
--- places of the proof, each from a later one
-abbrev take-bits-of-try-block : tie.After-try-block → tie.After-take-bits
-take-bits-of-try-block c = c.before.before.before.before
+slice_bounds-take_bits-end : tie.Need-slice_bounds-take_bits-end
+slice_bounds-take_bits-end c = search rules
 
-abbrev take-bits-of-one-by-one-arg : tie.After-one-by-one-arg → tie.After-take-bits
-take-bits-of-one-by-one-arg c = take-bits-of-try-block c.before.before.before.before.before
+take_bits-requires : tie.Need-take_bits-requires
+take_bits-requires c κs = search rules
 
-slice-aggregate-take-bits : tie.Need-slice-aggregate-take-bits
-slice-aggregate-take-bits c = search rules
+slice_bounds-try_block-end : tie.Need-slice_bounds-try_block-end
+slice_bounds-try_block-end c = search rules
 
-take-bits-requires : tie.Need-take-bits-requires
-take-bits-requires c κs = search rules
+try_block-requires : tie.Need-try_block-requires
+try_block-requires c κs = search rules
 
-slice-aggregate-try-block : tie.Need-slice-aggregate-try-block
-slice-aggregate-try-block c = search rules
+slice_bounds-one_by_one-end : tie.Need-slice_bounds-one_by_one-end
+slice_bounds-one_by_one-end c = search rules
 
-try-block-requires : tie.Need-try-block-requires
-try-block-requires c κs = search rules
+one_by_one-requires : tie.Need-one_by_one-requires
+one_by_one-requires c κs = (search rules, search rules, λ i h. (c.take_bits.ensures.at i h).0)
 
-slice-aggregate-one-by-one : tie.Need-slice-aggregate-one-by-one
-slice-aggregate-one-by-one c = search rules
+shape_of-roots-then-try_block-ne0 : tie.Need-shape_of-roots-then-try_block-ne0
+shape_of-roots-then-try_block-ne0 c = search rules
 
-one-by-one-requires : tie.Need-one-by-one-requires
-one-by-one-requires c κs = (search rules, search rules, λ i h. ((take-bits-of-one-by-one-arg c).take-bits.ensures.at i h).0)
+returns-then-try_block-ne0 : tie.Need-returns-then-try_block-ne0
+returns-then-try_block-ne0 c = lanes c.take_bits.ensures c.one_by_one.ensures
 
-same_length_lem : tie.Need-same-length
-same_length_lem c = search rules
+shape_of-roots-else-try_block-ne0 : tie.Need-shape_of-roots-else-try_block-ne0
+shape_of-roots-else-try_block-ne0 c = search rules
 
-returns : tie.Need-returns
-returns c = let called = c.before.before in lanes (take-bits-of-one-by-one-arg called.before).take-bits.ensures called.one_by_one.ensures
+returns-else-try_block-ne0 : tie.Need-returns-else-try_block-ne0
+returns-else-try_block-ne0 c = lanes c.take_bits.ensures (c.try_block.ensures c.if-try_block-ne0.false)
 
-same-length-2 : tie.Need-same-length-2
-same-length-2 c = search rules
-
-returns-2 : tie.Need-returns-2
-returns-2 c = let tried = c.before.before.before in lanes (take-bits-of-try-block tried).take-bits.ensures (tried.try-block.ensures c.if1.false)
-
-pub roots-of-spec : {M : Type 1} → statement M
-roots-of-spec =
+pub roots_of_spec : {M : Type 1} → statement M
+roots_of_spec =
     tie.close
     (tie.spec
-    slice-aggregate-take-bits
-    take-bits-requires
-    slice-aggregate-try-block
-    try-block-requires
-    slice-aggregate-one-by-one
-    one-by-one-requires
-    same_length_lem
-    returns
-    same-length-2
-    returns-2)
+    slice_bounds-take_bits-end
+    take_bits-requires
+    slice_bounds-try_block-end
+    try_block-requires
+    slice_bounds-one_by_one-end
+    one_by_one-requires
+    shape_of-roots-then-try_block-ne0
+    returns-then-try_block-ne0
+    shape_of-roots-else-try_block-ne0
+    returns-else-try_block-ne0)

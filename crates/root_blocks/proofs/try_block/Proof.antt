@@ -3,51 +3,51 @@ use Rattle.std.proofs.Common.{arith, rules}
 use Rattle.root_blocks.proofs.try_block.Statement.{statement}
 use Rattle.root_blocks.proofs.try_block.Tie as tie
 
-off-line-requires : tie.Need-off-line-requires
-off-line-requires c κs = search rules
+off_line-requires : tie.Need-off_line-requires
+off_line-requires c κs = search rules
+
+returns-then-off_line-eq0 : tie.Need-returns-then-off_line-eq0
+returns-then-off_line-eq0 c = λ e. absurd (omega arith)
+
+slice_bounds-guess_inverses-end : tie.Need-slice_bounds-guess_inverses-end
+slice_bounds-guess_inverses-end c = search rules
+
+guess_inverses-requires : tie.Need-guess_inverses-requires
+guess_inverses-requires c κs = search rules
+
+slice_bounds-guess_roots-end : tie.Need-slice_bounds-guess_roots-end
+slice_bounds-guess_roots-end c = search rules
+
+slice_bounds-guess_roots-end-2 : tie.Need-slice_bounds-guess_roots-end-2
+slice_bounds-guess_roots-end-2 c = search rules
+
+guess_roots-requires : tie.Need-guess_roots-requires
+guess_roots-requires c κs = search rules
+
+slice_bounds-check_roots-end : tie.Need-slice_bounds-check_roots-end
+slice_bounds-check_roots-end c = search rules
+
+check_roots-requires : tie.Need-check_roots-requires
+check_roots-requires c κs = search rules
+
+shape_of-roots : tie.Need-shape_of-roots
+shape_of-roots c = search rules
 
 returns : tie.Need-returns
-returns c = λ e. absurd (omega arith)
+returns-then-off_line-eq0 c = search rules
 
-slice-aggregate-guess-inverses : tie.Need-slice-aggregate-guess-inverses
-slice-aggregate-guess-inverses c = search rules
-
-guess-inverses-requires : tie.Need-guess-inverses-requires
-guess-inverses-requires c κs = search rules
-
-slice-aggregate-guess-roots : tie.Need-slice-aggregate-guess-roots
-slice-aggregate-guess-roots c = search rules
-
-slice-aggregate-guess-roots-2 : tie.Need-slice-aggregate-guess-roots-2
-slice-aggregate-guess-roots-2 c = search rules
-
-guess-roots-requires : tie.Need-guess-roots-requires
-guess-roots-requires c κs = search rules
-
-slice-aggregate-check-roots : tie.Need-slice-aggregate-check-roots
-slice-aggregate-check-roots c = search rules
-
-check-roots-requires : tie.Need-check-roots-requires
-check-roots-requires c κs = search rules
-
-same_length_lem : tie.Need-same-length
-same_length_lem c = search rules
-
-returns-2 : tie.Need-returns-2
-returns-2 c = search rules
-
-pub try-block-spec : {M : Type 1} → statement M
-try-block-spec =
+pub try_block_spec : {M : Type 1} → statement M
+try_block_spec =
     tie.close
     (tie.spec
-    off-line-requires
-    returns
-    slice-aggregate-guess-inverses
-    guess-inverses-requires
-    slice-aggregate-guess-roots
-    slice-aggregate-guess-roots-2
-    guess-roots-requires
-    slice-aggregate-check-roots
-    check-roots-requires
-    same_length_lem
-    returns-2)
+    off_line-requires
+    returns-then-off_line-eq0
+    slice_bounds-guess_inverses-end
+    guess_inverses-requires
+    slice_bounds-guess_roots-end
+    slice_bounds-guess_roots-end-2
+    guess_roots-requires
+    slice_bounds-check_roots-end
+    check_roots-requires
+    shape_of-roots
+    returns)

@@ -1,4 +1,5 @@
 -- `compute_scaling` meets its contract: each choice by its own call.
+use Rattle.std.proofs.Common.{rules}
 use mathlib.Core.Path.{refl}
 use Rattle.sparse.specs.Matrix.{matrix}
 use Rattle.mc64_columns.specs.Graphs as Graphs
@@ -10,277 +11,189 @@ use borrow.Author.Rules.{rules}
 use Rattle.scaling.proofs.compute_scaling.Statement.{statement}
 use Rattle.scaling.proofs.compute_scaling.Tie as tie
 
--- places of the proof, each from a later one
-abbrev known6-of-known13 : tie.After-slice-known13 → tie.After-slice-known6
-known6-of-known13 c = c.before.before.before.before.before.before.before
+enum_told-1 : tie.Need-enum_told-1
+enum_told-1 c = search rules
 
-abbrev logs-of-known13 : tie.After-slice-known13 → tie.After-shared-slice-known5
-logs-of-known13 c = (known6-of-known13 c).before.before.before.before.before.before
-
-abbrev entry-of-known13 : tie.After-slice-known13 → tie.Start
-entry-of-known13 c = (logs-of-known13 c).before.before.before.before.before
-
-abbrev known13-of-enum-told : tie.After-enum-told → tie.After-slice-known13
-known13-of-enum-told c = c.before.before
-
-abbrev entry-of-enum-told : tie.After-enum-told → tie.Start
-entry-of-enum-told c = entry-of-known13 (known13-of-enum-told c)
-
-abbrev known13-of-enum-told2 : tie.After-enum-told2 → tie.After-slice-known13
-known13-of-enum-told2 c = c.before.before
-
-abbrev entry-of-enum-told2 : tie.After-enum-told2 → tie.Start
-entry-of-enum-told2 c = entry-of-known13 (known13-of-enum-told2 c)
-
-abbrev known13-of-enum-told3 : tie.After-enum-told3 → tie.After-slice-known13
-known13-of-enum-told3 c = c.before.before
-
-abbrev entry-of-enum-told3 : tie.After-enum-told3 → tie.Start
-entry-of-enum-told3 c = entry-of-known13 (known13-of-enum-told3 c)
-
-abbrev known13-of-enum-told4 : tie.After-enum-told4 → tie.After-slice-known13
-known13-of-enum-told4 c = c.before.before
-
-abbrev entry-of-enum-told4 : tie.After-enum-told4 → tie.Start
-entry-of-enum-told4 c = entry-of-known13 (known13-of-enum-told4 c)
-
-abbrev known13-of-enum-told5 : tie.After-enum-told5 → tie.After-slice-known13
-known13-of-enum-told5 c = c.before.before
-
-abbrev entry-of-enum-told5 : tie.After-enum-told5 → tie.Start
-entry-of-enum-told5 c = entry-of-known13 (known13-of-enum-told5 c)
-
-abbrev enum-told2-of-compute-onepass : tie.After-compute-onepass → tie.After-enum-told2
-enum-told2-of-compute-onepass c = c.before.before
-
-abbrev enum-told4-of-identity-factors : tie.After-identity-factors → tie.After-enum-told4
-enum-told4-of-identity-factors c = c.before.before
-
-abbrev enum-told5-of-external-fault : tie.After-external-fault → tie.After-enum-told5
-enum-told5-of-external-fault c = c.before
-
-abbrev entry-of-compute-onepass : tie.After-compute-onepass → tie.Start
-entry-of-compute-onepass c = entry-of-enum-told2 (enum-told2-of-compute-onepass c)
-
-abbrev entry-of-identity-factors : tie.After-identity-factors → tie.Start
-entry-of-identity-factors c = entry-of-enum-told4 (enum-told4-of-identity-factors c)
-
-abbrev entry-of-external-fault : tie.After-external-fault → tie.Start
-entry-of-external-fault c = entry-of-enum-told5 (enum-told5-of-external-fault c)
-
-abbrev enum-told-of-compute-infnorm : tie.After-compute-infnorm → tie.After-enum-told
-enum-told-of-compute-infnorm c = c.before.before.before
-
-abbrev entry-of-compute-infnorm : tie.After-compute-infnorm → tie.Start
-entry-of-compute-infnorm c = entry-of-enum-told (enum-told-of-compute-infnorm c)
-
-abbrev enum-told3-of-compute-symmetric-arg6 : tie.After-compute-symmetric-arg6 → tie.After-enum-told3
-enum-told3-of-compute-symmetric-arg6 c = c.before.before.before.before.before.before
-
-abbrev enum-told3-of-compute-symmetric : tie.After-compute-symmetric → tie.After-enum-told3
-enum-told3-of-compute-symmetric c = enum-told3-of-compute-symmetric-arg6 c.before.before.before.before.before.before.before
-
-abbrev entry-of-compute-symmetric : tie.After-compute-symmetric → tie.Start
-entry-of-compute-symmetric c = entry-of-enum-told3 (enum-told3-of-compute-symmetric c)
-
-abbrev known23-of-of-scaled : tie.After-of-scaled → tie.After-slice-known23
-known23-of-of-scaled c = c.before.before.before.before.before.before.before.before.before.before.before
-
-abbrev known17-of-known23 : tie.After-slice-known23 → tie.After-slice-known17
-known17-of-known23 c = c.before.before.before.before.before.before.before.before.before.before.before.before
-
-abbrev compute-symmetric-of-of-scaled : tie.After-of-scaled → tie.After-compute-symmetric
-compute-symmetric-of-of-scaled c = (known17-of-known23 (known23-of-of-scaled c)).before.before
-
-abbrev enum-told3-of-of-scaled : tie.After-of-scaled → tie.After-enum-told3
-enum-told3-of-of-scaled c = enum-told3-of-compute-symmetric (compute-symmetric-of-of-scaled c)
-
-abbrev entry-of-of-scaled : tie.After-of-scaled → tie.Start
-entry-of-of-scaled c = entry-of-compute-symmetric (compute-symmetric-of-of-scaled c)
-
-enum_told : tie.Need-enum-told
-enum_told c = search rules
-
-compute-infnorm-requires : tie.Need-compute-infnorm-requires
-compute-infnorm-requires c κs = search rules
+compute_infnorm-requires : tie.Need-compute_infnorm-requires
+compute_infnorm-requires c κs = search rules
 
 applied-requires : tie.Need-applied-requires
 applied-requires c κs = search rules
 
-enum-told-2 : tie.Need-enum-told-2
-enum-told-2 c = search rules
+enum_told-in-OnePassInfNorm : tie.Need-enum_told-in-OnePassInfNorm
+enum_told-in-OnePassInfNorm c = search rules
 
-compute-onepass-requires : tie.Need-compute-onepass-requires
-compute-onepass-requires c κs = search rules
+compute_onepass-requires : tie.Need-compute_onepass-requires
+compute_onepass-requires c κs = search rules
 
-applied-requires-2 : tie.Need-applied-requires-2
-applied-requires-2 c κs = search rules
+applied-requires-in-OnePassInfNorm : tie.Need-applied-requires-in-OnePassInfNorm
+applied-requires-in-OnePassInfNorm c κs = search rules
 
-enum-told-3 : tie.Need-enum-told-3
-enum-told-3 c = search rules
+enum_told-in-Mc64Symmetric : tie.Need-enum_told-in-Mc64Symmetric
+enum_told-in-Mc64Symmetric c = search rules
 
-compute-symmetric-requires : tie.Need-compute-symmetric-requires
-compute-symmetric-requires c κs = search rules
+compute_symmetric-requires : tie.Need-compute_symmetric-requires
+compute_symmetric-requires c κs = search rules
 
-of-scaled-requires : tie.Need-of-scaled-requires
-of-scaled-requires c κs = search rules
+of_scaled-requires : tie.Need-of_scaled-requires
+of_scaled-requires c κs = search rules
 
-enum-told-4 : tie.Need-enum-told-4
-enum-told-4 c = search rules
+enum_told-in-Identity : tie.Need-enum_told-in-Identity
+enum_told-in-Identity c = search rules
 
-identity-factors-requires : tie.Need-identity-factors-requires
-identity-factors-requires c κs = search rules
+identity_factors-requires : tie.Need-identity_factors-requires
+identity_factors-requires c κs = search rules
 
-not-applied-requires : tie.Need-not-applied-requires
-not-applied-requires c κs = search rules
+not_applied-requires : tie.Need-not_applied-requires
+not_applied-requires c κs = search rules
 
-enum-told-5 : tie.Need-enum-told-5
-enum-told-5 c = search rules
+enum_told-in-External : tie.Need-enum_told-in-External
+enum_told-in-External c = search rules
 
-external-fault-requires : tie.Need-external-fault-requires
-external-fault-requires c κs = search rules
+external_fault-requires : tie.Need-external_fault-requires
+external_fault-requires c κs = search rules
 
-same_length_lem : tie.Need-same-length
-same_length_lem c = search rules
+shape_of-factors-in-InfNorm : tie.Need-shape_of-factors-in-InfNorm
+shape_of-factors-in-InfNorm c = search rules
 
-same-length-2 : tie.Need-same-length-2
-same-length-2 c = search rules
+shape_of-maxima : tie.Need-shape_of-maxima
+shape_of-maxima c = search rules
 
-returns : tie.Need-returns
-returns c =
-    let args = (entry-of-compute-infnorm c.before.before.before.before.before).args in
+returns-in-InfNorm : tie.Need-returns-in-InfNorm
+returns-in-InfNorm c =
+    let args = c.args in
     promised _ _ _ _ (λ k h. (logs-of-known13 (known13-of-enum-told
-    (enum-told-of-compute-infnorm c.before.before.before.before.before))).shared-slice-known5.given k) _
+    c.before.before.before.before.before.before.before.before)).shared-slice-known5.given k) _
     (infnorm_chosen (matrix args.n args.col-ptr.now args.row-idx.now args.values.now)
     args.external.now args.logs.now (slices args.factors.now args.maxima.now
     (Graphs.slices args.graph-ptr.now args.graph-rows.now args.cost.now args.cmax.now args.graph-work.now)
     (Match.slices args.perm.now args.u.now args.v.now args.match_work.now args.distances.now)
-    args.factor-work.now) (enum-told-of-compute-infnorm c.before.before.before.before.before).enum_told.given.1
-    c.applied.ensures c.before.before.before.before.before.compute-infnorm.ensures.outcome)
+    args.factor-work.now) c.enum_told-1.given.1
+    c.applied.ensures c.compute_infnorm.ensures.outcome)
 
-same-length-3 : tie.Need-same-length-3
-same-length-3 c = search rules
+shape_of-factors-in-OnePassInfNorm : tie.Need-shape_of-factors-in-OnePassInfNorm
+shape_of-factors-in-OnePassInfNorm c = search rules
 
-returns-2 : tie.Need-returns-2
-returns-2 c =
-    let args = (entry-of-compute-onepass c.before.before.before).args in
+returns-in-OnePassInfNorm : tie.Need-returns-in-OnePassInfNorm
+returns-in-OnePassInfNorm c =
+    let args = c.args in
     promised _ _ _ _ (λ k h. (logs-of-known13 (known13-of-enum-told2
-    (enum-told2-of-compute-onepass c.before.before.before))).shared-slice-known5.given k) _
+    c.before.before.before.before.before)).shared-slice-known5.given k) _
     (onepass_chosen (matrix args.n args.col-ptr.now args.row-idx.now args.values.now)
     args.external.now args.logs.now (slices args.factors.now args.maxima.now
     (Graphs.slices args.graph-ptr.now args.graph-rows.now args.cost.now args.cmax.now args.graph-work.now)
     (Match.slices args.perm.now args.u.now args.v.now args.match_work.now args.distances.now)
-    args.factor-work.now) (enum-told2-of-compute-onepass c.before.before.before).enum-told2.given.1
-    c.applied2.ensures c.before.before.before.compute-onepass.ensures.outcome)
+    args.factor-work.now) c.enum_told-in-OnePassInfNorm-1.given.1
+    c.applied-in-OnePassInfNorm.ensures c.compute_onepass.ensures.outcome)
 
-same-length-4 : tie.Need-same-length-4
-same-length-4 c = search rules
+shape_of-factors-in-Mc64Symmetric : tie.Need-shape_of-factors-in-Mc64Symmetric
+shape_of-factors-in-Mc64Symmetric c = search rules
 
-same-length-5 : tie.Need-same-length-5
-same-length-5 c = search rules
+shape_of-graph_ptr : tie.Need-shape_of-graph_ptr
+shape_of-graph_ptr c = search rules
 
-same-length-6 : tie.Need-same-length-6
-same-length-6 c = search rules
+shape_of-graph_rows : tie.Need-shape_of-graph_rows
+shape_of-graph_rows c = search rules
 
-same-length-7 : tie.Need-same-length-7
-same-length-7 c = search rules
+shape_of-cost : tie.Need-shape_of-cost
+shape_of-cost c = search rules
 
-same-length-8 : tie.Need-same-length-8
-same-length-8 c = search rules
+shape_of-cmax : tie.Need-shape_of-cmax
+shape_of-cmax c = search rules
 
-same-length-9 : tie.Need-same-length-9
-same-length-9 c = search rules
+shape_of-graph_work : tie.Need-shape_of-graph_work
+shape_of-graph_work c = search rules
 
-same-length-10 : tie.Need-same-length-10
-same-length-10 c = search rules
+shape_of-perm : tie.Need-shape_of-perm
+shape_of-perm c = search rules
 
-same-length-11 : tie.Need-same-length-11
-same-length-11 c = search rules
+shape_of-u : tie.Need-shape_of-u
+shape_of-u c = search rules
 
-same-length-12 : tie.Need-same-length-12
-same-length-12 c = search rules
+shape_of-v : tie.Need-shape_of-v
+shape_of-v c = search rules
 
-same-length-13 : tie.Need-same-length-13
-same-length-13 c = search rules
+shape_of-match_work : tie.Need-shape_of-match_work
+shape_of-match_work c = search rules
 
-same-length-14 : tie.Need-same-length-14
-same-length-14 c = search rules
+shape_of-distances : tie.Need-shape_of-distances
+shape_of-distances c = search rules
 
-same-length-15 : tie.Need-same-length-15
-same-length-15 c = search rules
+shape_of-factor_work : tie.Need-shape_of-factor_work
+shape_of-factor_work c = search rules
 
-returns-3 : tie.Need-returns-3
-returns-3 c =
-    let args = (entry-of-of-scaled c).args in
-    promised _ _ _ _ (λ k h. (logs-of-known13 (known13-of-enum-told3 (enum-told3-of-of-scaled c))).shared-slice-known5.given k) _
+returns-in-Mc64Symmetric : tie.Need-returns-in-Mc64Symmetric
+returns-in-Mc64Symmetric c =
+    let args = c.args in
+    promised _ _ _ _ (λ k h. c.shared_slice_known-5-1.given k) _
     (mc64_chosen (matrix args.n args.col-ptr.now args.row-idx.now args.values.now)
     args.external.now args.logs.now (slices args.factors.now args.maxima.now
     (Graphs.slices args.graph-ptr.now args.graph-rows.now args.cost.now args.cmax.now args.graph-work.now)
     (Match.slices args.perm.now args.u.now args.v.now args.match_work.now args.distances.now)
-    args.factor-work.now) (enum-told3-of-of-scaled c).enum-told3.given.1 c.of_scaled_lem.ensures
-    (compute-symmetric-of-of-scaled c).compute-symmetric.ensures.outcome)
+    args.factor-work.now) c.enum_told-in-Mc64Symmetric-1.given.1 c.of_scaled.ensures
+    c.compute_symmetric.ensures.outcome)
 
-same-length-16 : tie.Need-same-length-16
-same-length-16 c = search rules
+shape_of-factors-in-Identity : tie.Need-shape_of-factors-in-Identity
+shape_of-factors-in-Identity c = search rules
 
-returns-4 : tie.Need-returns-4
-returns-4 c =
-    let args = (entry-of-identity-factors c.before.before.before).args in
+returns-in-Identity : tie.Need-returns-in-Identity
+returns-in-Identity c =
+    let args = c.args in
     promised _ _ _ _ (λ k h. (logs-of-known13 (known13-of-enum-told4
-    (enum-told4-of-identity-factors c.before.before.before))).shared-slice-known5.given k) _
+    c.before.before.before.before.before)).shared-slice-known5.given k) _
     (identity_chosen (matrix args.n args.col-ptr.now args.row-idx.now args.values.now)
     args.external.now args.logs.now (slices args.factors.now args.maxima.now
     (Graphs.slices args.graph-ptr.now args.graph-rows.now args.cost.now args.cmax.now args.graph-work.now)
     (Match.slices args.perm.now args.u.now args.v.now args.match_work.now args.distances.now)
-    args.factor-work.now) (enum-told4-of-identity-factors c.before.before.before).enum-told4.given.1
-    c.not-applied.ensures c.before.before.before.identity-factors.ensures)
+    args.factor-work.now) c.enum_told-in-Identity-1.given.1
+    c.not_applied.ensures c.identity_factors.ensures)
 
-returns-5 : tie.Need-returns-5
-returns-5 c =
-    let args = (entry-of-external-fault c).args in
-    promised _ _ _ _ (λ k h. (logs-of-known13 (known13-of-enum-told5 (enum-told5-of-external-fault c))).shared-slice-known5.given k) _
+returns-in-External : tie.Need-returns-in-External
+returns-in-External c =
+    let args = c.args in
+    promised _ _ _ _ (λ k h. c.shared_slice_known-5-1.given k) _
     (external_chosen (matrix args.n args.col-ptr.now args.row-idx.now args.values.now)
     args.external.now args.logs.now (slices args.factors.now args.maxima.now
     (Graphs.slices args.graph-ptr.now args.graph-rows.now args.cost.now args.cmax.now args.graph-work.now)
     (Match.slices args.perm.now args.u.now args.v.now args.match_work.now args.distances.now)
-    args.factor-work.now) (enum-told5-of-external-fault c).enum-told5.given.1 refl c.external-fault.ensures)
+    args.factor-work.now) c.enum_told-in-External-1.given.1 refl c.external_fault.ensures)
 
-pub compute-scaling-spec : {M : Type 1} → statement M
-compute-scaling-spec =
+pub compute_scaling_spec : {M : Type 1} → statement M
+compute_scaling_spec =
     tie.close
     (tie.spec
-    enum_told
-    compute-infnorm-requires
+    enum_told-1
+    compute_infnorm-requires
     applied-requires
-    enum-told-2
-    compute-onepass-requires
-    applied-requires-2
-    enum-told-3
-    compute-symmetric-requires
-    of-scaled-requires
-    enum-told-4
-    identity-factors-requires
-    not-applied-requires
-    enum-told-5
-    external-fault-requires
-    same_length_lem
-    same-length-2
-    returns
-    same-length-3
-    returns-2
-    same-length-4
-    same-length-5
-    same-length-6
-    same-length-7
-    same-length-8
-    same-length-9
-    same-length-10
-    same-length-11
-    same-length-12
-    same-length-13
-    same-length-14
-    same-length-15
-    returns-3
-    same-length-16
-    returns-4
-    returns-5)
+    enum_told-in-OnePassInfNorm
+    compute_onepass-requires
+    applied-requires-in-OnePassInfNorm
+    enum_told-in-Mc64Symmetric
+    compute_symmetric-requires
+    of_scaled-requires
+    enum_told-in-Identity
+    identity_factors-requires
+    not_applied-requires
+    enum_told-in-External
+    external_fault-requires
+    shape_of-factors-in-InfNorm
+    shape_of-maxima
+    returns-in-InfNorm
+    shape_of-factors-in-OnePassInfNorm
+    returns-in-OnePassInfNorm
+    shape_of-factors-in-Mc64Symmetric
+    shape_of-graph_ptr
+    shape_of-graph_rows
+    shape_of-cost
+    shape_of-cmax
+    shape_of-graph_work
+    shape_of-perm
+    shape_of-u
+    shape_of-v
+    shape_of-match_work
+    shape_of-distances
+    shape_of-factor_work
+    returns-in-Mc64Symmetric
+    shape_of-factors-in-Identity
+    returns-in-Identity
+    returns-in-External)

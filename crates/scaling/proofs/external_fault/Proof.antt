@@ -1,4 +1,5 @@
 -- `external_fault` meets its contract: the fault of the sizes, or at last the choice's.
+use Rattle.std.proofs.Common.{rules}
 use mathlib.Core.Path.{sym, ap, ◌∙◌}
 use Prim.Native.Nat.{ℕ}
 use Rattle.refusal.specs.Refusal.{external_choice}
@@ -9,18 +10,23 @@ use borrow.Author.Rules.{rules}
 use Rattle.scaling.proofs.external_fault.Statement.{statement}
 use Rattle.scaling.proofs.external_fault.Tie as tie
 
-size-fault-requires : tie.Need-size-fault-requires
-size-fault-requires c κs = search rules
+size_fault-sizes-requires : tie.Need-size_fault-sizes-requires
+size_fault-sizes-requires c κs = search rules
+
+returns-then-sizes-ne-ACCEPTED : tie.Need-returns-then-sizes-ne-ACCEPTED
+unfolding external_fault
+returns-then-sizes-ne-ACCEPTED c =
+    sym (or_some c.size_fault-sizes.result external_choice c.if-sizes-ne-ACCEPTED.true) ∙ ap (λ (f : ℕ). or_else f external_choice)
+    c.size_fault-sizes.ensures
 
 returns : tie.Need-returns
 unfolding external_fault
-returns c =
-    sym (or_some c.before.size-fault.result external_choice c.if1.true) ∙ ap (λ (f : ℕ). or_else f external_choice)
-    c.before.size-fault.ensures
+returns-then-sizes-ne-ACCEPTED c = sym (or-none (sym c.size_fault-sizes.ensures ∙ c.if-sizes-ne-ACCEPTED.false))
 
-returns-2 : tie.Need-returns-2
-unfolding external_fault
-returns-2 c = sym (or-none (sym c.before.size-fault.ensures ∙ c.if1.false))
-
-pub external-fault-spec : {M : Type 1} → statement M
-external-fault-spec = tie.close (tie.spec size-fault-requires returns returns-2)
+pub external_fault_spec : {M : Type 1} → statement M
+external_fault_spec =
+    tie.close
+    (tie.spec
+    size_fault-sizes-requires
+    returns-then-sizes-ne-ACCEPTED
+    returns)

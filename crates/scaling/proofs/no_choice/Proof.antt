@@ -1,4 +1,5 @@
 -- `no_choice` meets its contract: the matrix's fault, or at last the number's.
+use Rattle.std.proofs.Common.{rules}
 use mathlib.Core.Path.{sym, ap, ◌∙◌}
 use Prim.Native.Nat.{ℕ}
 use Rattle.refusal.specs.Refusal.{index_range}
@@ -11,33 +12,32 @@ use borrow.Author.Rules.{rules}
 use Rattle.scaling.proofs.no_choice.Statement.{statement}
 use Rattle.scaling.proofs.no_choice.Tie as tie
 
--- places of the proof, each from a later one
-abbrev entry-of-then1 : tie.Then1 → tie.Start
-entry-of-then1 c = c.before.before.before.before.before.before.before
+lengths_fit-lengths-requires : tie.Need-lengths_fit-lengths-requires
+lengths_fit-lengths-requires c κs = search rules
 
-abbrev entry-of-else1 : tie.Else1 → tie.Start
-entry-of-else1 c = c.before.before.before.before.before.before.before
+input_fault-fault-requires : tie.Need-input_fault-fault-requires
+input_fault-fault-requires c κs = search rules
 
-lengths-fit-requires : tie.Need-lengths-fit-requires
-lengths-fit-requires c κs = search rules
-
-input-fault-requires : tie.Need-input-fault-requires
-input-fault-requires c κs = search rules
+returns-then-fault-ne-ACCEPTED : tie.Need-returns-then-fault-ne-ACCEPTED
+unfolding no_choice
+returns-then-fault-ne-ACCEPTED c =
+    let args = c.args in
+    sym (or_some c.input_fault-fault.result index_range c.if-fault-ne-ACCEPTED.true) ∙ ap (λ (f : ℕ). or_else f index_range)
+    (onepass_fault_lem (matrix args.n args.col-ptr.now args.row-idx.now args.values.now) args.factors.now
+    c.input_fault-fault.ensures c.lengths_fit-lengths.ensures)
 
 returns : tie.Need-returns
 unfolding no_choice
-returns c =
-    let args = (entry-of-then1 c).args in
-    sym (or_some c.before.input-fault.result index_range c.if1.true) ∙ ap (λ (f : ℕ). or_else f index_range)
-    (onepass_fault_lem (matrix args.n args.col-ptr.now args.row-idx.now args.values.now) args.factors.now
-    c.before.input-fault.ensures c.before.before.lengths_fit_lem.ensures)
-
-returns-2 : tie.Need-returns-2
-unfolding no_choice
-returns-2 c =
-    let args = (entry-of-else1 c).args in
+returns-then-fault-ne-ACCEPTED c =
+    let args = c.args in
     sym (or-none (sym (onepass_fault_lem (matrix args.n args.col-ptr.now args.row-idx.now args.values.now) args.factors.now
-    c.before.input-fault.ensures c.before.before.lengths_fit_lem.ensures) ∙ c.if1.false))
+    c.input_fault-fault.ensures c.lengths_fit-lengths.ensures) ∙ c.if-fault-ne-ACCEPTED.false))
 
-pub no-choice-spec : {M : Type 1} → statement M
-no-choice-spec = tie.close (tie.spec lengths-fit-requires input-fault-requires returns returns-2)
+pub no_choice_spec : {M : Type 1} → statement M
+no_choice_spec =
+    tie.close
+    (tie.spec
+    lengths_fit-lengths-requires
+    input_fault-fault-requires
+    returns-then-fault-ne-ACCEPTED
+    returns)

@@ -1,29 +1,36 @@
 -- `of_scaled` meets its contract: case by case.
+use Rattle.std.proofs.Common.{rules}
 use mathlib.Core.Path.{sym, ap}
 use borrow.Author.Rules.{rules}
 use Rattle.scaling.specs.Choice.{of_scaled}
 use Rattle.scaling.proofs.of_scaled.Statement.{statement}
 use Rattle.scaling.proofs.of_scaled.Tie as tie
 
-enum_told : tie.Need-enum-told
-enum_told c = search rules
+enum_told-1 : tie.Need-enum_told-1
+enum_told-1 c = search rules
 
-enum-known-answer : tie.Need-enum-known-answer
-enum-known-answer c = search rules
+enum_known-answer : tie.Need-enum_known-answer
+enum_known-answer c = search rules
 
-enum-known-answer-2 : tie.Need-enum-known-answer-2
-enum-known-answer-2 c = search rules
+enum_known-answer-in-Refused-1 : tie.Need-enum_known-answer-in-Refused-1
+enum_known-answer-in-Refused-1 c = search rules
 
-returns : tie.Need-returns
-returns c = search rules
+returns-in-Applied : tie.Need-returns-in-Applied
+returns-in-Applied c = search rules
 
-returns-2 : tie.Need-returns-2
-returns-2 c = sym (ap of_scaled c.before.answer.given.1)
+returns-in-PartialSingular : tie.Need-returns-in-PartialSingular
+returns-in-PartialSingular c = sym (ap of_scaled c.answer-1.given.1)
 
-returns-3 : tie.Need-returns-3
-returns-3 c = sym (ap of_scaled c.before.answer2.given.1)
+returns-in-Refused : tie.Need-returns-in-Refused
+returns-in-Refused c = sym (ap of_scaled c.answer-in-Refused-1.given.1)
 
-pub of-scaled-spec : {M : Type 1} → statement M
-of-scaled-spec =
+pub of_scaled_spec : {M : Type 1} → statement M
+of_scaled_spec =
     tie.close
-    (tie.spec enum_told enum-known-answer enum-known-answer-2 returns returns-2 returns-3)
+    (tie.spec
+    enum_told-1
+    enum_known-answer
+    enum_known-answer-in-Refused-1
+    returns-in-Applied
+    returns-in-PartialSingular
+    returns-in-Refused)

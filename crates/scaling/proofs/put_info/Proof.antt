@@ -1,78 +1,79 @@
 -- `put_info` meets its contract: case by case.
+use Rattle.std.proofs.Common.{rules}
 use borrow.Author.Rules.{rules}
 use Rattle.scaling.proofs.Choices.{put_applied, put_partial, put_not_applied}
 use Rattle.scaling.proofs.put_info.Statement.{statement}
 use Rattle.scaling.proofs.put_info.Tie as tie
 
-enum_told : tie.Need-enum-told
-enum_told c = search rules
+enum_told-1 : tie.Need-enum_told-1
+enum_told-1 c = search rules
 
-slice-write-info : tie.Need-slice-write-info
-slice-write-info c = search rules
+bounds-info-0 : tie.Need-bounds-info-0
+bounds-info-0 c = search rules
 
-slice-write-info-2 : tie.Need-slice-write-info-2
-slice-write-info-2 c = search rules
+bounds-info-1 : tie.Need-bounds-info-1
+bounds-info-1 c = search rules
 
-enum-known-done : tie.Need-enum-known-done
-enum-known-done c = search rules
+enum_known-done : tie.Need-enum_known-done
+enum_known-done c = search rules
 
-slice-write-info-3 : tie.Need-slice-write-info-3
-slice-write-info-3 c = search rules
+bounds-info-0-in-PartialSingular : tie.Need-bounds-info-0-in-PartialSingular
+bounds-info-0-in-PartialSingular c = search rules
 
-slice-write-info-4 : tie.Need-slice-write-info-4
-slice-write-info-4 c = search rules
+bounds-info-1-in-PartialSingular : tie.Need-bounds-info-1-in-PartialSingular
+bounds-info-1-in-PartialSingular c = search rules
 
-enum-told-2 : tie.Need-enum-told-2
-enum-told-2 c = search rules
+enum_told-in-NotApplied : tie.Need-enum_told-in-NotApplied
+enum_told-in-NotApplied c = search rules
 
-slice-write-info-5 : tie.Need-slice-write-info-5
-slice-write-info-5 c = search rules
+bounds-info-0-in-NotApplied : tie.Need-bounds-info-0-in-NotApplied
+bounds-info-0-in-NotApplied c = search rules
 
-slice-write-info-6 : tie.Need-slice-write-info-6
-slice-write-info-6 c = search rules
+bounds-info-1-in-NotApplied : tie.Need-bounds-info-1-in-NotApplied
+bounds-info-1-in-NotApplied c = search rules
 
-enum-known-done-2 : tie.Need-enum-known-done-2
-enum-known-done-2 c = search rules
+enum_known-done-in-Refused-1 : tie.Need-enum_known-done-in-Refused-1
+enum_known-done-in-Refused-1 c = search rules
 
-same_length_lem : tie.Need-same-length
-same_length_lem c = search rules
+shape_of-info-in-Applied : tie.Need-shape_of-info-in-Applied
+shape_of-info-in-Applied c = search rules
 
-returns : tie.Need-returns
-returns c = put_applied _ c.before.before.requires c.enum_told.given.1
+returns-in-Applied : tie.Need-returns-in-Applied
+returns-in-Applied c = put_applied _ c.requires c.enum_told-1.given.1
 
-same-length-2 : tie.Need-same-length-2
-same-length-2 c = search rules
+shape_of-info-in-PartialSingular : tie.Need-shape_of-info-in-PartialSingular
+shape_of-info-in-PartialSingular c = search rules
 
-returns-2 : tie.Need-returns-2
-returns-2 c = put_partial _ c.before.before.before.requires c.before.done.given.1
+returns-in-PartialSingular : tie.Need-returns-in-PartialSingular
+returns-in-PartialSingular c = put_partial _ c.requires c.done-1.given.1
 
-same-length-3 : tie.Need-same-length-3
-same-length-3 c = search rules
+shape_of-info-in-NotApplied : tie.Need-shape_of-info-in-NotApplied
+shape_of-info-in-NotApplied c = search rules
 
-returns-3 : tie.Need-returns-3
-returns-3 c = put_not_applied _ c.before.before.requires c.enum-told2.given.1
+returns-in-NotApplied : tie.Need-returns-in-NotApplied
+returns-in-NotApplied c = put_not_applied _ c.requires c.enum_told-in-NotApplied-1.given.1
 
-returns-4 : tie.Need-returns-4
-returns-4 c = search rules
+returns-in-Refused : tie.Need-returns-in-Refused
+returns-in-Refused c = search rules
 
-pub put-info-spec : {M : Type 1} → statement M
-put-info-spec =
+pub put_info_spec : {M : Type 1} → statement M
+put_info_spec =
     tie.close
     (tie.spec
-    enum_told
-    slice-write-info
-    slice-write-info-2
-    enum-known-done
-    slice-write-info-3
-    slice-write-info-4
-    enum-told-2
-    slice-write-info-5
-    slice-write-info-6
-    enum-known-done-2
-    same_length_lem
-    returns
-    same-length-2
-    returns-2
-    same-length-3
-    returns-3
-    returns-4)
+    enum_told-1
+    bounds-info-0
+    bounds-info-1
+    enum_known-done
+    bounds-info-0-in-PartialSingular
+    bounds-info-1-in-PartialSingular
+    enum_told-in-NotApplied
+    bounds-info-0-in-NotApplied
+    bounds-info-1-in-NotApplied
+    enum_known-done-in-Refused-1
+    shape_of-info-in-Applied
+    returns-in-Applied
+    shape_of-info-in-PartialSingular
+    returns-in-PartialSingular
+    shape_of-info-in-NotApplied
+    returns-in-NotApplied
+    returns-in-Refused)

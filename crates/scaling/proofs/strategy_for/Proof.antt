@@ -5,24 +5,31 @@ use Rattle.scaling.proofs.Choices.{beyond}
 use Rattle.scaling.proofs.strategy_for.Statement.{statement}
 use Rattle.scaling.proofs.strategy_for.Tie as tie
 
+returns-then-choice-eq0 : tie.Need-returns-then-choice-eq0
+unfolding strategy_for
+returns-then-choice-eq0 c = sym (ap strategy_for c.if-choice-eq0.true)
+
+returns-then-choice-eq1 : tie.Need-returns-then-choice-eq1
+unfolding strategy_for
+returns-then-choice-eq1 c = sym (ap strategy_for c.if-choice-eq1.true)
+
+returns-then-choice-eq2 : tie.Need-returns-then-choice-eq2
+unfolding strategy_for
+returns-then-choice-eq2 c = sym (ap strategy_for c.if-choice-eq2.true)
+
+returns-then-choice-eq3 : tie.Need-returns-then-choice-eq3
+unfolding strategy_for
+returns-then-choice-eq3 c = sym (ap strategy_for c.if-choice-eq3.true)
+
 returns : tie.Need-returns
-unfolding strategy_for
-returns c = sym (ap strategy_for c.if1.true)
+returns-then-choice-eq0 c = beyond _ c.if-choice-eq0.false c.if-choice-eq1.false c.if-choice-eq2.false c.if-choice-eq3.false
 
-returns-2 : tie.Need-returns-2
-unfolding strategy_for
-returns-2 c = sym (ap strategy_for c.if2.true)
-
-returns-3 : tie.Need-returns-3
-unfolding strategy_for
-returns-3 c = sym (ap strategy_for c.if3.true)
-
-returns-4 : tie.Need-returns-4
-unfolding strategy_for
-returns-4 c = sym (ap strategy_for c.if4.true)
-
-returns-5 : tie.Need-returns-5
-returns-5 c = beyond _ c.before.before.before.if1.false c.before.before.if2.false c.before.if3.false c.if4.false
-
-pub strategy-for-spec : {M : Type 1} → statement M
-strategy-for-spec = tie.close (tie.spec returns returns-2 returns-3 returns-4 returns-5)
+pub strategy_for_spec : {M : Type 1} → statement M
+strategy_for_spec =
+    tie.close
+    (tie.spec
+    returns-then-choice-eq0
+    returns-then-choice-eq1
+    returns-then-choice-eq2
+    returns-then-choice-eq3
+    returns)

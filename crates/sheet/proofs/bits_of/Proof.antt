@@ -1,4 +1,5 @@
 -- `bits_of` meets its contract: each bit is 0 or 1.
+use Rattle.std.proofs.Common.{rules}
 use mathlib.Core.Path.{refl}
 use native.Mathlib.Omega.{arith}
 use Rattle.limits.specs.Limits.{none}
@@ -8,119 +9,114 @@ use borrow.Author.Rules.{rules}
 use Rattle.sheet.proofs.bits_of.Statement.{statement}
 use Rattle.sheet.proofs.bits_of.Tie as tie
 
--- places of the proof, each from a later one
-abbrev row-stands-of-number-stands3 : tie.After-number-stands3 → tie.After-row-stands
-row-stands-of-number-stands3 c = c.before.before.before
+row_stands-requires : tie.Need-row_stands-requires
+row_stands-requires c κs = search rules
 
-row-stands-requires : tie.Need-row-stands-requires
-row-stands-requires c κs = search rules
+number_stands-requires : tie.Need-number_stands-requires
+number_stands-requires c κs = search rules
 
-number-stands-requires : tie.Need-number-stands-requires
-number-stands-requires c κs = search rules
-
-mul-result : tie.Need-overflow-mul-result
-mul-result c = omega (
+overflow_mul-result : tie.Need-overflow_mul-result
+overflow_mul-result c = omega (
   arith,
-  c.before.row-stands.ensures,
-  stands_bit none c.before.before.args.row,
-  c.number-stands.ensures,
-  stands_bit 0 c.before.before.args.u,
+  c.row_stands.ensures,
+  stands_bit none c.args.row,
+  c.number_stands.ensures,
+  stands_bit 0 c.args.u,
 )
 
-add-result : tie.Need-overflow-add-result
-add-result c = omega (
+overflow_add-result : tie.Need-overflow_add-result
+overflow_add-result c = omega (
   arith,
-  c.before.row-stands.ensures,
-  stands_bit none c.before.before.args.row,
-  c.number-stands.ensures,
-  stands_bit 0 c.before.before.args.u,
+  c.row_stands.ensures,
+  stands_bit none c.args.row,
+  c.number_stands.ensures,
+  stands_bit 0 c.args.u,
 )
 
-number-stands-requires-2 : tie.Need-number-stands-requires-2
-number-stands-requires-2 c κs = search rules
+number_stands-requires-2 : tie.Need-number_stands-requires-2
+number_stands-requires-2 c κs = search rules
 
-mul-result-2 : tie.Need-overflow-mul-result-2
-mul-result-2 c =
-    let a = c.before.before.before.args in
+overflow_mul-result-2 : tie.Need-overflow_mul-result-2
+overflow_mul-result-2 c =
+    let a = c.args in
     omega (
       arith,
-      c.before.before.row-stands.ensures,
+      c.row_stands.ensures,
       stands_bit none a.row,
-      c.before.number-stands.ensures,
+      c.number_stands.ensures,
       stands_bit 0 a.u,
-      c.number-stands2.ensures,
+      c.number_stands-2.ensures,
       stands_bit 0 a.v,
     )
 
-add-result-2 : tie.Need-overflow-add-result-2
-add-result-2 c =
-    let a = c.before.before.before.args in
+overflow_add-result-2 : tie.Need-overflow_add-result-2
+overflow_add-result-2 c =
+    let a = c.args in
     omega (
       arith,
-      c.before.before.row-stands.ensures,
+      c.row_stands.ensures,
       stands_bit none a.row,
-      c.before.number-stands.ensures,
+      c.number_stands.ensures,
       stands_bit 0 a.u,
-      c.number-stands2.ensures,
+      c.number_stands-2.ensures,
       stands_bit 0 a.v,
     )
 
-number-stands-requires-3 : tie.Need-number-stands-requires-3
-number-stands-requires-3 c κs = search rules
+number_stands-requires-3 : tie.Need-number_stands-requires-3
+number_stands-requires-3 c κs = search rules
 
-mul-result-3 : tie.Need-overflow-mul-result-3
-mul-result-3 c =
-    let a = (row-stands-of-number-stands3 c).before.args in
+overflow_mul-result-3 : tie.Need-overflow_mul-result-3
+overflow_mul-result-3 c =
+    let a = c.args in
     omega (
       arith,
-      (row-stands-of-number-stands3 c).row-stands.ensures,
+      c.row_stands.ensures,
       stands_bit none a.row,
-      c.before.before.number-stands.ensures,
+      c.number_stands.ensures,
       stands_bit 0 a.u,
-      c.before.number-stands2.ensures,
+      c.number_stands-2.ensures,
       stands_bit 0 a.v,
-      c.number-stands3.ensures,
+      c.number_stands-3.ensures,
       stands_bit 0 a.cmax,
     )
 
-add-result-3 : tie.Need-overflow-add-result-3
-add-result-3 c =
-    let a = (row-stands-of-number-stands3 c).before.args in
+overflow_add-result-3 : tie.Need-overflow_add-result-3
+overflow_add-result-3 c =
+    let a = c.args in
     omega (
       arith,
-      (row-stands-of-number-stands3 c).row-stands.ensures,
+      c.row_stands.ensures,
       stands_bit none a.row,
-      c.before.before.number-stands.ensures,
+      c.number_stands.ensures,
       stands_bit 0 a.u,
-      c.before.number-stands2.ensures,
+      c.number_stands-2.ensures,
       stands_bit 0 a.v,
-      c.number-stands3.ensures,
+      c.number_stands-3.ensures,
       stands_bit 0 a.cmax,
     )
 
 returns : tie.Need-returns
 unfolding bits_of
 returns c =
-    let row-stands = c.before.before.before in
     rw (
-      row-stands.row-stands.ensures,
-      c.before.before.number-stands.ensures,
-      c.before.number-stands2.ensures,
-      c.number-stands3.ensures,
+      c.row_stands.ensures,
+      c.number_stands.ensures,
+      c.number_stands-2.ensures,
+      c.number_stands-3.ensures,
     ) refl
 
-pub bits-of-spec : {M : Type 1} → statement M
-bits-of-spec =
+pub bits_of_spec : {M : Type 1} → statement M
+bits_of_spec =
     tie.close
     (tie.spec
-    row-stands-requires
-    number-stands-requires
-    mul-result
-    add-result
-    number-stands-requires-2
-    mul-result-2
-    add-result-2
-    number-stands-requires-3
-    mul-result-3
-    add-result-3
+    row_stands-requires
+    number_stands-requires
+    overflow_mul-result
+    overflow_add-result
+    number_stands-requires-2
+    overflow_mul-result-2
+    overflow_add-result-2
+    number_stands-requires-3
+    overflow_mul-result-3
+    overflow_add-result-3
     returns)

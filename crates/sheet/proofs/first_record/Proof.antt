@@ -1,158 +1,119 @@
 -- `first_record` meets its contract: cut where one of its fields is, or the record that the fields make.
+use Rattle.std.proofs.Common.{rules}
 use native.Mathlib.Omega.{arith}
 use Rattle.sheet.proofs.Fields.{first_cut, first_made, row_taken, row_cut, number_taken, number_cut}
 use borrow.Author.Rules.{rules}
 use Rattle.sheet.proofs.first_record.Statement.{statement}
 use Rattle.sheet.proofs.first_record.Tie as tie
 
--- places of the proof, each from a later one
-abbrev take-row-of-take-number : tie.After-take-number → tie.After-take-row
-take-row-of-take-number c = c.before.before.before.before
+returns-then-bytes-lt3 : tie.Need-returns-then-bytes-lt3
+returns-then-bytes-lt3 c = first_cut _ (omega arith)
 
-abbrev row-of-u : tie.After-u → tie.After-row
-row-of-u c = c.before.before.before.before
+bounds-bytes-2 : tie.Need-bounds-bytes-2
+bounds-bytes-2 c = search rules
 
-abbrev u-of-enum-told3 : tie.After-enum-told3 → tie.After-u
-u-of-enum-told3 c = c.before.before.before.before
+overflow_cast-bits : tie.Need-overflow_cast-bits
+overflow_cast-bits c = omega (arith, c.shared_slice_known-2-1.given 2)
 
-abbrev row-of-enum-told3 : tie.After-enum-told3 → tie.After-row
-row-of-enum-told3 c = row-of-u (u-of-enum-told3 c)
+take_row-requires : tie.Need-take_row-requires
+take_row-requires c κs = (omega arith, omega arith)
 
-abbrev u-of-known-told3 : tie.After-known-told3 → tie.After-u
-u-of-known-told3 c = c.before.before.before.before.before
+enum_known-row : tie.Need-enum_known-row
+enum_known-row c = search rules
 
-abbrev row-of-known-told3 : tie.After-known-told3 → tie.After-row
-row-of-known-told3 c = row-of-u (u-of-known-told3 c)
+enum_told-1 : tie.Need-enum_told-1
+enum_told-1 c = search rules
 
-abbrev v-of-enum-told4 : tie.After-enum-told4 → tie.After-v
-v-of-enum-told4 c = c.before.before.before.before
+returns-in_default : tie.Need-returns-in_default
+returns-in_default c = first_cut _ (omega (arith, row_cut _ _ c.take_row.ensures c.enum_told-1.given.1))
 
-abbrev u-of-enum-told4 : tie.After-enum-told4 → tie.After-u
-u-of-enum-told4 c = u-of-known-told3 c.before.before.before
-
-abbrev row-of-enum-told4 : tie.After-enum-told4 → tie.After-row
-row-of-enum-told4 c = row-of-u (u-of-enum-told4 c)
-
-abbrev take-number3-of-get-two : tie.After-get-two → tie.After-take-number3
-take-number3-of-get-two c = c.before.before.before.before
-
-abbrev v-of-get-two : tie.After-get-two → tie.After-v
-v-of-get-two c = (take-number3-of-get-two c).before.before
-
-abbrev u-of-get-two : tie.After-get-two → tie.After-u
-u-of-get-two c = (v-of-get-two c).before.before.before.before
-
-abbrev row-of-get-two : tie.After-get-two → tie.After-row
-row-of-get-two c = row-of-u (u-of-get-two c)
-
-returns : tie.Need-returns
-returns c = first_cut _ (omega arith)
-
-shared-slice-read-bits : tie.Need-shared-slice-read-bits
-shared-slice-read-bits c = search rules
-
-cast-bits : tie.Need-overflow-cast-bits
-cast-bits c = omega (arith, c.shared-slice-known2.given 2)
-
-take-row-requires : tie.Need-take-row-requires
-take-row-requires c κs = (omega arith, omega arith)
-
-enum-known-row : tie.Need-enum-known-row
-enum-known-row c = search rules
-
-enum_told : tie.Need-enum-told
-enum_told c = search rules
-
-returns-2 : tie.Need-returns-2
-returns-2 c = first_cut _ (omega (arith, row_cut _ _ c.before.before.take_row.ensures c.enum_told.given.1))
-
-take-number-requires : tie.Need-take-number-requires
-take-number-requires c κs =
-    let r = row_taken _ _ c.before.before.before.take_row.ensures c.before.row.given.1 in
+take_number-requires : tie.Need-take_number-requires
+take_number-requires c κs =
+    let r = row_taken _ _ c.take_row.ensures c.row-1.given.1 in
     (omega arith, omega (arith, r.place, r.within))
 
-enum-known-u : tie.Need-enum-known-u
-enum-known-u c = search rules
+enum_known-u : tie.Need-enum_known-u
+enum_known-u c = search rules
 
-enum-told-2 : tie.Need-enum-told-2
-enum-told-2 c = search rules
+enum_told-in_default-take_number : tie.Need-enum_told-in_default-take_number
+enum_told-in_default-take_number c = search rules
 
-returns-3 : tie.Need-returns-3
-returns-3 c =
-    let r = row_taken _ _ (take-row-of-take-number c.before.before).take_row.ensures c.before.before.before.before.row.given.1 in
-    first_cut _ (omega (arith, number_cut _ _ c.before.before.take-number.ensures r.place c.enum-told2.given.1))
+returns-in_default-take_number : tie.Need-returns-in_default-take_number
+returns-in_default-take_number c =
+    let r = row_taken _ _ c.take_row.ensures c.row-1.given.1 in
+    first_cut _ (omega (arith, number_cut _ _ c.take_number.ensures r.place c.enum_told-in_default-take_number-1.given.1))
 
-take-number-requires-2 : tie.Need-take-number-requires-2
-take-number-requires-2 c κs =
-    let r = row_taken _ _ (row-of-u c.before).before.before.take_row.ensures (row-of-u c.before).row.given.1 in
-    let u = number_taken _ _ c.before.before.before.take-number.ensures r.place c.before.u.given.1 in
+take_number-requires-2 : tie.Need-take_number-requires-2
+take_number-requires-2 c κs =
+    let r = row_taken _ _ c.take_row.ensures c.row-1.given.1 in
+    let u = number_taken _ _ c.take_number.ensures r.place c.u-1.given.1 in
     (omega arith, omega (arith, u.place, u.within))
 
-enum-known-v : tie.Need-enum-known-v
-enum-known-v c = search rules
+enum_known-v : tie.Need-enum_known-v
+enum_known-v c = search rules
 
-enum-told-3 : tie.Need-enum-told-3
-enum-told-3 c = search rules
+enum_told-in_default-take_number-2 : tie.Need-enum_told-in_default-take_number-2
+enum_told-in_default-take_number-2 c = search rules
 
-returns-4 : tie.Need-returns-4
-returns-4 c =
-    let r = row_taken _ _ (row-of-enum-told3 c).before.before.take_row.ensures (row-of-enum-told3 c).row.given.1 in
-    let u = number_taken _ _ (u-of-enum-told3 c).before.before.take-number.ensures r.place (u-of-enum-told3 c).u.given.1 in
-    first_cut _ (omega (arith, number_cut _ _ c.before.before.take-number2.ensures u.place c.enum-told3.given.1))
+returns-in_default-take_number-2 : tie.Need-returns-in_default-take_number-2
+returns-in_default-take_number-2 c =
+    let r = row_taken _ _ c.take_row.ensures c.row-1.given.1 in
+    let u = number_taken _ _ c.take_number.ensures r.place c.u-1.given.1 in
+    first_cut _ (omega (arith, number_cut _ _ c.take_number-2.ensures u.place c.enum_told-in_default-take_number-2-1.given.1))
 
-take-number-requires-3 : tie.Need-take-number-requires-3
-take-number-requires-3 c κs =
-    let r = row_taken _ _ (row-of-known-told3 c).before.before.take_row.ensures (row-of-known-told3 c).row.given.1 in
-    let u = number_taken _ _ (u-of-known-told3 c).before.before.take-number.ensures r.place (u-of-known-told3 c).u.given.1 in
-    let v = number_taken _ _ c.before.before.before.take-number2.ensures u.place c.before.v.given.1 in
+take_number-requires-3 : tie.Need-take_number-requires-3
+take_number-requires-3 c κs =
+    let r = row_taken _ _ c.take_row.ensures c.row-1.given.1 in
+    let u = number_taken _ _ c.take_number.ensures r.place c.u-1.given.1 in
+    let v = number_taken _ _ c.take_number-2.ensures u.place c.v-1.given.1 in
     (omega arith, omega (arith, v.place, v.within))
 
-enum-known-cmax : tie.Need-enum-known-cmax
-enum-known-cmax c = search rules
+enum_known-cmax : tie.Need-enum_known-cmax
+enum_known-cmax c = search rules
 
-enum-told-4 : tie.Need-enum-told-4
-enum-told-4 c = search rules
+enum_told-in_default-take_number-3 : tie.Need-enum_told-in_default-take_number-3
+enum_told-in_default-take_number-3 c = search rules
 
-returns-5 : tie.Need-returns-5
-returns-5 c =
-    let r = row_taken _ _ (row-of-enum-told4 c).before.before.take_row.ensures (row-of-enum-told4 c).row.given.1 in
-    let u = number_taken _ _ (u-of-enum-told4 c).before.before.take-number.ensures r.place (u-of-enum-told4 c).u.given.1 in
-    let v = number_taken _ _ (v-of-enum-told4 c).before.before.take-number2.ensures u.place (v-of-enum-told4 c).v.given.1 in
-    first_cut _ (omega (arith, number_cut _ _ c.before.before.take-number3.ensures v.place c.enum-told4.given.1))
+returns-in_default-take_number-3 : tie.Need-returns-in_default-take_number-3
+returns-in_default-take_number-3 c =
+    let r = row_taken _ _ c.take_row.ensures c.row-1.given.1 in
+    let u = number_taken _ _ c.take_number.ensures r.place c.u-1.given.1 in
+    let v = number_taken _ _ c.take_number-2.ensures u.place c.v-1.given.1 in
+    first_cut _ (omega (arith, number_cut _ _ c.take_number-3.ensures v.place c.enum_told-in_default-take_number-3-1.given.1))
 
-get-two-requires : tie.Need-get-two-requires
-get-two-requires c κs = omega arith
+get_two-requires : tie.Need-get_two-requires
+get_two-requires c κs = omega arith
 
-returns-6 : tie.Need-returns-6
-returns-6 c =
-    let r = row_taken _ _ (row-of-get-two c).before.before.take_row.ensures (row-of-get-two c).row.given.1 in
-    let u = number_taken _ _ (u-of-get-two c).before.before.take-number.ensures r.place (u-of-get-two c).u.given.1 in
-    let v = number_taken _ _ (v-of-get-two c).before.before.take-number2.ensures u.place (v-of-get-two c).v.given.1 in
-    let w = number_taken _ _ (take-number3-of-get-two c).take-number3.ensures v.place c.before.before.cmax.given.1 in
-    first_made _ c.get-two.ensures r.value u.value v.value w.value w.place w.within
+returns : tie.Need-returns
+returns-then-bytes-lt3 c =
+    let r = row_taken _ _ c.take_row.ensures c.row-1.given.1 in
+    let u = number_taken _ _ c.take_number.ensures r.place c.u-1.given.1 in
+    let v = number_taken _ _ c.take_number-2.ensures u.place c.v-1.given.1 in
+    let w = number_taken _ _ c.take_number-3.ensures v.place c.cmax-1.given.1 in
+    first_made _ c.get_two.ensures r.value u.value v.value w.value w.place w.within
 
-pub first-record-spec : {M : Type 1} → statement M
-first-record-spec =
+pub first_record_spec : {M : Type 1} → statement M
+first_record_spec =
     tie.close
     (tie.spec
-    returns
-    shared-slice-read-bits
-    cast-bits
-    take-row-requires
-    enum-known-row
-    enum_told
-    returns-2
-    take-number-requires
-    enum-known-u
-    enum-told-2
-    returns-3
-    take-number-requires-2
-    enum-known-v
-    enum-told-3
-    returns-4
-    take-number-requires-3
-    enum-known-cmax
-    enum-told-4
-    returns-5
-    get-two-requires
-    returns-6)
+    returns-then-bytes-lt3
+    bounds-bytes-2
+    overflow_cast-bits
+    take_row-requires
+    enum_known-row
+    enum_told-1
+    returns-in_default
+    take_number-requires
+    enum_known-u
+    enum_told-in_default-take_number
+    returns-in_default-take_number
+    take_number-requires-2
+    enum_known-v
+    enum_told-in_default-take_number-2
+    returns-in_default-take_number-2
+    take_number-requires-3
+    enum_known-cmax
+    enum_told-in_default-take_number-3
+    returns-in_default-take_number-3
+    get_two-requires
+    returns)

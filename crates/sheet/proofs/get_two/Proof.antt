@@ -1,4 +1,5 @@
 -- `get_two` meets its contract: the low byte first.
+use Rattle.std.proofs.Common.{rules}
 use Prim.Native.Nat.{◌+◌}
 use native.Mathlib.Omega.{arith}
 use Rattle.sheet.proofs.Fields.{two_is}
@@ -6,44 +7,44 @@ use borrow.Author.Rules.{rules}
 use Rattle.sheet.proofs.get_two.Statement.{statement}
 use Rattle.sheet.proofs.get_two.Tie as tie
 
-shared-slice-read-low : tie.Need-shared-slice-read-low
-shared-slice-read-low c = search rules
+bounds-bytes-at : tie.Need-bounds-bytes-at
+bounds-bytes-at c = search rules
 
-cast-low : tie.Need-overflow-cast-low
-cast-low c = omega (arith, c.shared-slice-known.given c.before.args.at)
+overflow_cast-low : tie.Need-overflow_cast-low
+overflow_cast-low c = omega (arith, c.shared_slice_known-1.given c.args.at)
 
-add-high : tie.Need-overflow-add-high
-add-high c = search rules
+overflow_add-high : tie.Need-overflow_add-high
+overflow_add-high c = search rules
 
-shared-slice-read-high : tie.Need-shared-slice-read-high
-shared-slice-read-high c = search rules
+bounds-bytes-at-2 : tie.Need-bounds-bytes-at-2
+bounds-bytes-at-2 c = search rules
 
-cast-high : tie.Need-overflow-cast-high
-cast-high c = omega (arith, c.shared-slice-known2.given (c.before.before.args.at + 1))
+overflow_cast-high : tie.Need-overflow_cast-high
+overflow_cast-high c = omega (arith, c.shared_slice_known-2-1.given (c.args.at + 1))
 
-mul-result : tie.Need-overflow-mul-result
-mul-result c = omega (arith, c.shared-slice-known2.given (c.before.before.args.at + 1))
+overflow_mul-result : tie.Need-overflow_mul-result
+overflow_mul-result c = omega (arith, c.shared_slice_known-2-1.given (c.args.at + 1))
 
-add-result : tie.Need-overflow-add-result
-add-result c = omega (
+overflow_add-result : tie.Need-overflow_add-result
+overflow_add-result c = omega (
   arith,
-  c.before.shared-slice-known.given c.before.before.args.at,
-  c.shared-slice-known2.given
-      (c.before.before.args.at + 1),
+  c.shared_slice_known-1.given c.args.at,
+  c.shared_slice_known-2-1.given
+      (c.args.at + 1),
 )
 
 returns : tie.Need-returns
-returns c = two_is c.before.before.args.bytes.now c.before.before.args.at
+returns c = two_is c.args.bytes.now c.args.at
 
-pub get-two-spec : {M : Type 1} → statement M
-get-two-spec =
+pub get_two_spec : {M : Type 1} → statement M
+get_two_spec =
     tie.close
     (tie.spec
-    shared-slice-read-low
-    cast-low
-    add-high
-    shared-slice-read-high
-    cast-high
-    mul-result
-    add-result
+    bounds-bytes-at
+    overflow_cast-low
+    overflow_add-high
+    bounds-bytes-at-2
+    overflow_cast-high
+    overflow_mul-result
+    overflow_add-result
     returns)

@@ -4,11 +4,15 @@ use Rattle.sheet.proofs.Fields.{stands_not, stands_so}
 use Rattle.sheet.proofs.row_stands.Statement.{statement}
 use Rattle.sheet.proofs.row_stands.Tie as tie
 
+returns-then-row-eq-NONE : tie.Need-returns-then-row-eq-NONE
+returns-then-row-eq-NONE c = stands_not none _ c.if-row-eq-NONE.true
+
 returns : tie.Need-returns
-returns c = stands_not none _ c.if1.true
+returns-then-row-eq-NONE c = stands_so none _ c.if-row-eq-NONE.false
 
-returns-2 : tie.Need-returns-2
-returns-2 c = stands_so none _ c.if1.false
-
-pub row-stands-spec : {M : Type 1} → statement M
-row-stands-spec = tie.close (tie.spec returns returns-2)
+pub row_stands_spec : {M : Type 1} → statement M
+row_stands_spec =
+    tie.close
+    (tie.spec
+    returns-then-row-eq-NONE
+    returns)

@@ -11,64 +11,60 @@ use Rattle.sheet.proofs.Fields.{stands_bit, rows_next, rows_end}
 use Rattle.sheet.proofs.rows_present.Statement.{statement}
 use Rattle.sheet.proofs.rows_present.Tie as tie
 
-abbrev invariant-loop : tie.invariant-loop
-invariant-loop perm count₀ k₀ count k = (k ≤ length perm) × (count ≤ k) × (rows_present perm ≡ count + rows_present (drop k perm))
+abbrev invariant-loop-k : tie.invariant-loop-k
+invariant-loop-k perm count₀ k₀ count k = (k ≤ length perm) × (count ≤ k) × (rows_present perm ≡ count + rows_present (drop k perm))
 
-abbrev decreases-loop : tie.decreases-loop
-decreases-loop perm count₀ k₀ count k = length perm - k
+abbrev decreases-loop-k : tie.decreases-loop-k
+decreases-loop-k perm count₀ k₀ count k = length perm - k
 
--- places of the proof, each from a later one
-abbrev loop-of-row-stands : tie.After-row-stands invariant-loop decreases-loop → tie.At-loop invariant-loop decreases-loop
-loop-of-row-stands c = c.before.before.before
+loop-k-init : tie.Need-loop-k-init invariant-loop-k decreases-loop-k
+loop-k-init c = (omega arith, omega arith, sym (zero-add _))
 
-loop-holds : tie.Need-loop-init invariant-loop decreases-loop
-loop-holds c = (omega arith, omega arith, sym (zero-add _))
+offset_bounds-perm-k : tie.Need-offset_bounds-perm-k invariant-loop-k decreases-loop-k
+offset_bounds-perm-k c = omega arith
 
-mul-row-stands : tie.Need-overflow-mul-row-stands invariant-loop decreases-loop
-mul-row-stands c = omega arith
+bounds-perm-k : tie.Need-bounds-perm-k invariant-loop-k decreases-loop-k
+bounds-perm-k c = omega arith
 
-shared-slice-read-row-stands : tie.Need-shared-slice-read-row-stands invariant-loop decreases-loop
-shared-slice-read-row-stands c = omega arith
+row_stands-count-requires : tie.Need-row_stands-count-requires invariant-loop-k decreases-loop-k
+row_stands-count-requires c κs = tt
 
-row-stands-requires : tie.Need-row-stands-requires invariant-loop decreases-loop
-row-stands-requires c κs = tt
-
-add-count : tie.Need-overflow-add-count invariant-loop decreases-loop
-add-count c = omega (
+overflow_add-count : tie.Need-overflow_add-count invariant-loop-k decreases-loop-k
+overflow_add-count c = omega (
   arith,
-  c.row-stands.ensures,
-  stands_bit none (get_or (loop-of-row-stands c).before.before.args.perm.now (loop-of-row-stands c).loop.k 0),
+  c.row_stands-count.ensures,
+  stands_bit none (get_or c.args.perm.now c.loop-k.k 0),
 )
 
-add-k : tie.Need-overflow-add-k invariant-loop decreases-loop
-add-k c = omega arith
+overflow_add-k : tie.Need-overflow_add-k invariant-loop-k decreases-loop-k
+overflow_add-k c = omega arith
 
-loop-less : tie.Need-loop-smaller invariant-loop decreases-loop
-loop-less c = omega arith
+loop-k-smaller : tie.Need-loop-k-smaller invariant-loop-k decreases-loop-k
+loop-k-smaller c = omega arith
 
-loop-again : tie.Need-loop-preserved invariant-loop decreases-loop
-loop-again c =
-    let a = (loop-of-row-stands c).before.before.args in
-    let s = (loop-of-row-stands c).loop in
+loop-k-preserved : tie.Need-loop-k-preserved invariant-loop-k decreases-loop-k
+loop-k-preserved c =
+    let a = c.args in
+    let s = c.loop-k in
     let b = stands_bit none (get_or a.perm.now s.k 0) in
     let n = rows_next a.perm.now s.k (omega arith) in
-    (omega arith, omega (arith, c.row-stands.ensures), omega (arith, c.row-stands.ensures, s.inv.2))
+    (omega arith, omega (arith, c.row_stands-count.ensures), omega (arith, c.row_stands-count.ensures, s.inv.2))
 
-returns : tie.Need-returns invariant-loop decreases-loop
-returns c = omega (arith, c.before.loop.invariant.2, rows_end c.before.before.before.args.perm.now c.before.loop.k (omega arith))
+returns : tie.Need-returns invariant-loop-k decreases-loop-k
+returns c = omega (arith, c.loop-k.invariant.2, rows_end c.args.perm.now c.loop-k.k (omega arith))
 
-pub rows-present-spec : {M : Type 1} → statement M
-rows-present-spec =
+pub rows_present_spec : {M : Type 1} → statement M
+rows_present_spec =
     tie.close
     (tie.spec
-    invariant-loop
-    decreases-loop
-    loop-holds
-    mul-row-stands
-    shared-slice-read-row-stands
-    row-stands-requires
-    add-count
-    add-k
-    loop-less
-    loop-again
+    invariant-loop-k
+    decreases-loop-k
+    loop-k-init
+    offset_bounds-perm-k
+    bounds-perm-k
+    row_stands-count-requires
+    overflow_add-count
+    overflow_add-k
+    loop-k-smaller
+    loop-k-preserved
     returns)

@@ -1,20 +1,27 @@
 -- `canonical_fault` meets its contract: the first of its two faults.
+use Rattle.std.proofs.Common.{rules}
 use borrow.Author.Rules.{rules}
 use Rattle.sheet_reader.proofs.Tested.{needless_first, rising_second}
 use Rattle.sheet_reader.proofs.canonical_fault.Statement.{statement}
 use Rattle.sheet_reader.proofs.canonical_fault.Tie as tie
 
-needless-fault-requires : tie.Need-needless-fault-requires
-needless-fault-requires c κs = search rules
+needless_fault-needless-requires : tie.Need-needless_fault-needless-requires
+needless_fault-needless-requires c κs = search rules
 
-rising-fault-requires : tie.Need-rising-fault-requires
-rising-fault-requires c κs = search rules
+rising_fault-rising-requires : tie.Need-rising_fault-rising-requires
+rising_fault-rising-requires c κs = search rules
+
+returns-then-needless-ne-ACCEPTED : tie.Need-returns-then-needless-ne-ACCEPTED
+returns-then-needless-ne-ACCEPTED c = needless_first _ _ c.needless_fault-needless.ensures c.if-needless-ne-ACCEPTED.true
 
 returns : tie.Need-returns
-returns c = needless_first _ _ c.before.before.needless-fault.ensures c.if1.true
+returns-then-needless-ne-ACCEPTED c = rising_second _ _ c.needless_fault-needless.ensures c.if-needless-ne-ACCEPTED.false c.rising_fault-rising.ensures
 
-returns-2 : tie.Need-returns-2
-returns-2 c = rising_second _ _ c.before.before.needless-fault.ensures c.if1.false c.before.rising-fault.ensures
-
-pub canonical-fault-spec : {M : Type 1} → statement M
-canonical-fault-spec = tie.close (tie.spec needless-fault-requires rising-fault-requires returns returns-2)
+pub canonical_fault_spec : {M : Type 1} → statement M
+canonical_fault_spec =
+    tie.close
+    (tie.spec
+    needless_fault-needless-requires
+    rising_fault-rising-requires
+    returns-then-needless-ne-ACCEPTED
+    returns)

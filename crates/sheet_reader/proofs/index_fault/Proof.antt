@@ -3,11 +3,15 @@ use Rattle.sheet_reader.proofs.Tested.{index_so, index_not}
 use Rattle.sheet_reader.proofs.index_fault.Statement.{statement}
 use Rattle.sheet_reader.proofs.index_fault.Tie as tie
 
+returns-then-r-n : tie.Need-returns-then-r-n
+returns-then-r-n c = index_so _ _ c.if-r-n.true
+
 returns : tie.Need-returns
-returns c = index_so _ _ c.if1.true
+returns-then-r-n c = index_not _ _ c.if-r-n.false
 
-returns-2 : tie.Need-returns-2
-returns-2 c = index_not _ _ c.if1.false
-
-pub index-fault-spec : {M : Type 1} → statement M
-index-fault-spec = tie.close (tie.spec returns returns-2)
+pub index_fault_spec : {M : Type 1} → statement M
+index_fault_spec =
+    tie.close
+    (tie.spec
+    returns-then-r-n
+    returns)

@@ -1,17 +1,23 @@
 -- `length_fault` meets its contract: the fault of n, or 3.
+use Rattle.std.proofs.Common.{rules}
 use borrow.Author.Rules.{rules}
 use Rattle.sheet_reader.proofs.Calls.{size_head, size_length}
 use Rattle.sheet_reader.proofs.length_fault.Statement.{statement}
 use Rattle.sheet_reader.proofs.length_fault.Tie as tie
 
-head-fault-requires : tie.Need-head-fault-requires
-head-fault-requires c κs = search rules
+head_fault-head-requires : tie.Need-head_fault-head-requires
+head_fault-head-requires c κs = search rules
+
+returns-then-head-ne-ACCEPTED : tie.Need-returns-then-head-ne-ACCEPTED
+returns-then-head-ne-ACCEPTED c = size_head _ c.head_fault-head.ensures c.if-head-ne-ACCEPTED.true
 
 returns : tie.Need-returns
-returns c = size_head _ c.before.head-fault.ensures c.if1.true
+returns-then-head-ne-ACCEPTED c = size_length _ c.head_fault-head.ensures c.if-head-ne-ACCEPTED.false
 
-returns-2 : tie.Need-returns-2
-returns-2 c = size_length _ c.before.head-fault.ensures c.if1.false
-
-pub length-fault-spec : {M : Type 1} → statement M
-length-fault-spec = tie.close (tie.spec head-fault-requires returns returns-2)
+pub length_fault_spec : {M : Type 1} → statement M
+length_fault_spec =
+    tie.close
+    (tie.spec
+    head_fault-head-requires
+    returns-then-head-ne-ACCEPTED
+    returns)

@@ -1,34 +1,36 @@
 -- `read_sheet` meets its contract: what both readers promise, and what follows from it for a file of bytes.
+use Rattle.std.proofs.Common.{rules}
 use native.Mathlib.Omega.{arith}
 use borrow.Author.Rules.{rules}
 use Rattle.sheet_reader.proofs.Theorems.{read_clauses}
 use Rattle.sheet_reader.proofs.read_sheet.Statement.{statement}
 use Rattle.sheet_reader.proofs.read_sheet.Tie as tie
 
--- places of the proof, each from a later one
-abbrev read-by-of-end : tie.After-slice-known8 → tie.After-read-by
-read-by-of-end c = c.before.before.before.before.before.before.before.before
+read_by-requires : tie.Need-read_by-requires
+read_by-requires c κs = search rules
 
-abbrev sheet-of-read-by : tie.After-read-by → tie.After-shared-slice-known
-sheet-of-read-by c = c.before.before.before.before.before.before.before.before.before
+shape_of-perm : tie.Need-shape_of-perm
+shape_of-perm c = search rules
 
-read-by-requires : tie.Need-read-by-requires
-read-by-requires c κs = search rules
+shape_of-u : tie.Need-shape_of-u
+shape_of-u c = search rules
 
-same_length_lem : tie.Need-same-length
-same_length_lem c = search rules
+shape_of-v : tie.Need-shape_of-v
+shape_of-v c = search rules
 
-same-length-2 : tie.Need-same-length-2
-same-length-2 c = search rules
-
-same-length-3 : tie.Need-same-length-3
-same-length-3 c = search rules
-
-same-length-4 : tie.Need-same-length-4
-same-length-4 c = search rules
+shape_of-cmax : tie.Need-shape_of-cmax
+shape_of-cmax c = search rules
 
 returns : tie.Need-returns
-returns c = read_clauses _ _ (read-by-of-end c).read_by_lem.ensures (λ i. omega (arith, (sheet-of-read-by (read-by-of-end c)).shared-slice-known.given i))
+returns c = read_clauses _ _ c.read_by.ensures (λ i. omega (arith, c.shared_slice_known-1.given i))
 
-pub read-sheet-spec : {M : Type 1} → statement M
-read-sheet-spec = tie.close (tie.spec read-by-requires same_length_lem same-length-2 same-length-3 same-length-4 returns)
+pub read_sheet_spec : {M : Type 1} → statement M
+read_sheet_spec =
+    tie.close
+    (tie.spec
+    read_by-requires
+    shape_of-perm
+    shape_of-u
+    shape_of-v
+    shape_of-cmax
+    returns)

@@ -5,16 +5,20 @@ use Rattle.sheet.specs.Reading.{no_marks}
 use Rattle.sheet_reader.proofs.records_fault.Statement.{statement}
 use Rattle.sheet_reader.proofs.records_fault.Tie as tie
 
-slice-aggregate-test-records : tie.Need-slice-aggregate-test-records
-slice-aggregate-test-records c = refl
+slice_bounds-test_records-end : tie.Need-slice_bounds-test_records-end
+slice_bounds-test_records-end c = refl
 
-test-records-requires : tie.Need-test-records-requires
-test-records-requires c κs = omega arith
+test_records-requires : tie.Need-test_records-requires
+test_records-requires c κs = omega arith
 
 returns : tie.Need-returns
 unfolding no_marks
-returns c = c.before.test-records.ensures
+returns c = c.test_records.ensures
 
-pub records-fault-spec : {M : Type 1} → statement M
-records-fault-spec =
-    tie.close (tie.spec slice-aggregate-test-records test-records-requires returns)
+pub records_fault_spec : {M : Type 1} → statement M
+records_fault_spec =
+    tie.close
+    (tie.spec
+    slice_bounds-test_records-end
+    test_records-requires
+    returns)

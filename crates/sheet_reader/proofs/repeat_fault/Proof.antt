@@ -3,11 +3,15 @@ use Rattle.sheet_reader.proofs.Tested.{mark_none, mark_some}
 use Rattle.sheet_reader.proofs.repeat_fault.Statement.{statement}
 use Rattle.sheet_reader.proofs.repeat_fault.Tie as tie
 
+returns-then-mark-eq0 : tie.Need-returns-then-mark-eq0
+returns-then-mark-eq0 c = mark_none _ c.if-mark-eq0.true
+
 returns : tie.Need-returns
-returns c = mark_none _ c.if1.true
+returns-then-mark-eq0 c = mark_some _ c.if-mark-eq0.false
 
-returns-2 : tie.Need-returns-2
-returns-2 c = mark_some _ c.if1.false
-
-pub repeat-fault-spec : {M : Type 1} → statement M
-repeat-fault-spec = tie.close (tie.spec returns returns-2)
+pub repeat_fault_spec : {M : Type 1} → statement M
+repeat_fault_spec =
+    tie.close
+    (tie.spec
+    returns-then-mark-eq0
+    returns)

@@ -1,4 +1,5 @@
 -- `test_canonical` meets its contract. The loop's invariant: the fault is that of the records from `at` on.
+use Rattle.std.proofs.Common.{rules}
 use mathlib.Core.Path.{◌≡◌, refl, sym, ◌∙◌}
 use Prim.Native.Nat.{◌-◌, ◌≤◌}
 use native.Mathlib.Omega.{arith}
@@ -11,194 +12,139 @@ use Rattle.sheet_reader.proofs.Tested.{canonical_index, canonical_fault_lem, can
 use Rattle.sheet_reader.proofs.test_canonical.Statement.{statement}
 use Rattle.sheet_reader.proofs.test_canonical.Tie as tie
 
-abbrev invariant-loop : tie.invariant-loop
-invariant-loop n sheet next₀ at₀ next at = (2 ≤ at) × (canonical_from n sheet 0 2 ≡ canonical_from n sheet next at)
+abbrev invariant-loop-at : tie.invariant-loop-at
+invariant-loop-at n sheet next₀ at₀ next at = (2 ≤ at) × (canonical_from n sheet 0 2 ≡ canonical_from n sheet next at)
 
-abbrev decreases-loop : tie.decreases-loop
-decreases-loop n sheet next₀ at₀ next at = length sheet - at
+abbrev decreases-loop-at : tie.decreases-loop-at
+decreases-loop-at n sheet next₀ at₀ next at = length sheet - at
 
--- places of the proof, each from a later one
-abbrev in-loop-of-enum-told : tie.After-enum-told invariant-loop decreases-loop → tie.In-loop invariant-loop decreases-loop
-in-loop-of-enum-told c = c.before.before.before.before
+loop-at-init : tie.Need-loop-at-init invariant-loop-at decreases-loop-at
+loop-at-init c = (omega arith, refl)
 
-abbrev loop-of-enum-told : tie.After-enum-told invariant-loop decreases-loop → tie.At-loop invariant-loop decreases-loop
-loop-of-enum-told c = (in-loop-of-enum-told c).before
+slice_bounds-first_record-count : tie.Need-slice_bounds-first_record-count invariant-loop-at decreases-loop-at
+slice_bounds-first_record-count c = omega arith
 
-abbrev r-of-then1 : tie.Then1 invariant-loop decreases-loop → tie.After-r invariant-loop decreases-loop
-r-of-then1 c = c.before.before.before
+slice_bounds-first_record-start : tie.Need-slice_bounds-first_record-start invariant-loop-at decreases-loop-at
+slice_bounds-first_record-start c = omega arith
 
-abbrev first-record-of-then1 : tie.Then1 invariant-loop decreases-loop → tie.After-first-record invariant-loop decreases-loop
-first-record-of-then1 c = (r-of-then1 c).before.before
+slice_bounds-first_record-end : tie.Need-slice_bounds-first_record-end invariant-loop-at decreases-loop-at
+slice_bounds-first_record-end c = omega arith
 
-abbrev loop-of-then1 : tie.Then1 invariant-loop decreases-loop → tie.At-loop invariant-loop decreases-loop
-loop-of-then1 c = (first-record-of-then1 c).before.before.before
+first_record-requires : tie.Need-first_record-requires invariant-loop-at decreases-loop-at
+first_record-requires c κs = tt
 
-abbrev r-of-else1 : tie.Else1 invariant-loop decreases-loop → tie.After-r invariant-loop decreases-loop
-r-of-else1 c = c.before.before.before
+enum_known-r : tie.Need-enum_known-r invariant-loop-at decreases-loop-at
+enum_known-r c = search rules
 
-abbrev first-record-of-else1 : tie.Else1 invariant-loop decreases-loop → tie.After-first-record invariant-loop decreases-loop
-first-record-of-else1 c = (r-of-else1 c).before.before
+enum_told-1 : tie.Need-enum_told-1 invariant-loop-at decreases-loop-at
+enum_told-1 c = search rules
 
-abbrev loop-of-else1 : tie.Else1 invariant-loop decreases-loop → tie.At-loop invariant-loop decreases-loop
-loop-of-else1 c = (first-record-of-else1 c).before.before.before
+returns-in_default : tie.Need-returns-in_default invariant-loop-at decreases-loop-at
+returns-in_default c =
+    let a = c.args in
+    sym (c.loop-at.invariant.1 ∙ canonical_cut a.n a.sheet.now c.loop-at.next c.loop-at.at
+    c.loop-at-test.true
+    (first-at a.sheet.now c.loop-at.at c.first_record.ensures c.enum_told-1.given.1))
 
-abbrev entry-of-else1 : tie.Else1 invariant-loop decreases-loop → tie.Start invariant-loop decreases-loop
-entry-of-else1 c = (loop-of-else1 c).before.before
+index_fault-index-requires : tie.Need-index_fault-index-requires invariant-loop-at decreases-loop-at
+index_fault-index-requires c κs = tt
 
-abbrev loop-of-then2 : tie.Then2 invariant-loop decreases-loop → tie.At-loop invariant-loop decreases-loop
-loop-of-then2 c = loop-of-else1 c.before.before
+returns-then-index-ne-ACCEPTED : tie.Need-returns-then-index-ne-ACCEPTED invariant-loop-at decreases-loop-at
+returns-then-index-ne-ACCEPTED c =
+    let a = c.args in
+    sym (c.loop-at.invariant.1 ∙ canonical_index a.n a.sheet.now c.loop-at.next c.loop-at.at
+    c.r-1.given.0.0
+    c.loop-at-test.true
+    (first-at a.sheet.now c.loop-at.at c.first_record.ensures c.r-1.given.1)
+    c.index_fault-index.ensures c.if-index-ne-ACCEPTED.true)
 
-abbrev else1-of-struct-known : tie.After-struct-known invariant-loop decreases-loop → tie.Else1 invariant-loop decreases-loop
-else1-of-struct-known c = c.before.before.before
+canonical_fault-form-requires : tie.Need-canonical_fault-form-requires invariant-loop-at decreases-loop-at
+canonical_fault-form-requires c κs = tt
 
-abbrev index-fault-of-struct-known : tie.After-struct-known invariant-loop decreases-loop → tie.After-index-fault invariant-loop decreases-loop
-index-fault-of-struct-known c = (else1-of-struct-known c).before
+returns-then-form-ne-ACCEPTED : tie.Need-returns-then-form-ne-ACCEPTED invariant-loop-at decreases-loop-at
+returns-then-form-ne-ACCEPTED c =
+    let a = c.args in
+    sym (c.loop-at.invariant.1 ∙ canonical_fault_lem a.n a.sheet.now c.loop-at.next c.loop-at.at
+    c.r-1.given.0.0 c.loop-at-test.taken
+    (first-at a.sheet.now c.loop-at.at c.first_record.ensures
+    c.r-1.given.1) c.index_fault-index.ensures c.if-index-ne-ACCEPTED.false
+    c.canonical_fault-form.ensures c.if-form-ne-ACCEPTED.true)
 
-abbrev entry-of-struct-known : tie.After-struct-known invariant-loop decreases-loop → tie.Start invariant-loop decreases-loop
-entry-of-struct-known c = entry-of-else1 (else1-of-struct-known c)
-
-abbrev else1-of-struct-known2 : tie.After-struct-known2 invariant-loop decreases-loop → tie.Else1 invariant-loop decreases-loop
-else1-of-struct-known2 c = else1-of-struct-known c.before
-
-abbrev r-of-struct-known2 : tie.After-struct-known2 invariant-loop decreases-loop → tie.After-r invariant-loop decreases-loop
-r-of-struct-known2 c = r-of-else1 (else1-of-struct-known2 c)
-
-abbrev first-record-of-struct-known2 : tie.After-struct-known2 invariant-loop decreases-loop → tie.After-first-record invariant-loop decreases-loop
-first-record-of-struct-known2 c = first-record-of-else1 (else1-of-struct-known2 c)
-
-abbrev in-loop-of-struct-known2 : tie.After-struct-known2 invariant-loop decreases-loop → tie.In-loop invariant-loop decreases-loop
-in-loop-of-struct-known2 c = (first-record-of-struct-known2 c).before.before
-
-abbrev loop-of-struct-known2 : tie.After-struct-known2 invariant-loop decreases-loop → tie.At-loop invariant-loop decreases-loop
-loop-of-struct-known2 c = loop-of-else1 (else1-of-struct-known2 c)
-
-loop-holds : tie.Need-loop-init invariant-loop decreases-loop
-loop-holds c = (omega arith, refl)
-
-sub-first-record : tie.Need-overflow-sub-first-record invariant-loop decreases-loop
-sub-first-record c = omega arith
-
-part-first-record-start : tie.Need-slice-bounds-first-record-start invariant-loop decreases-loop
-part-first-record-start c = omega arith
-
-part-first-record-end : tie.Need-slice-bounds-first-record-end invariant-loop decreases-loop
-part-first-record-end c = omega arith
-
-first-record-requires : tie.Need-first-record-requires invariant-loop decreases-loop
-first-record-requires c κs = tt
-
-enum-known-r : tie.Need-enum-known-r invariant-loop decreases-loop
-enum-known-r c = search rules
-
-enum_told : tie.Need-enum-told invariant-loop decreases-loop
-enum_told c = search rules
-
-returns : tie.Need-returns invariant-loop decreases-loop
-returns c =
-    let a = (loop-of-enum-told c).before.before.args in
-    sym ((loop-of-enum-told c).loop.invariant.1 ∙ canonical_cut a.n a.sheet.now (loop-of-enum-told c).loop.next (loop-of-enum-told c).loop.at
-    (in-loop-of-enum-told c).loop-test.true
-    (first-at a.sheet.now (loop-of-enum-told c).loop.at c.before.before.first-record.ensures c.enum_told.given.1))
-
-index-fault-requires : tie.Need-index-fault-requires invariant-loop decreases-loop
-index-fault-requires c κs = tt
-
-returns-2 : tie.Need-returns-2 invariant-loop decreases-loop
-returns-2 c =
-    let a = (loop-of-then1 c).before.before.args in
-    sym ((loop-of-then1 c).loop.invariant.1 ∙ canonical_index a.n a.sheet.now (loop-of-then1 c).loop.next (loop-of-then1 c).loop.at
-    (r-of-then1 c).r.given.0.0
-    (first-record-of-then1 c).before.before.loop-test.true
-    (first-at a.sheet.now (loop-of-then1 c).loop.at (first-record-of-then1 c).first-record.ensures (r-of-then1 c).r.given.1)
-    c.before.index-fault.ensures c.if1.true)
-
-canonical-fault-requires : tie.Need-canonical-fault-requires invariant-loop decreases-loop
-canonical-fault-requires c κs = tt
-
-returns-3 : tie.Need-returns-3 invariant-loop decreases-loop
-returns-3 c =
-    let a = (loop-of-then2 c).before.before.args in
-    sym ((loop-of-then2 c).loop.invariant.1 ∙ canonical_fault_lem a.n a.sheet.now (loop-of-then2 c).loop.next (loop-of-then2 c).loop.at
-    (r-of-else1 c.before.before).r.given.0.0 (first-record-of-else1 c.before.before).before.before.loop-test.taken
-    (first-at a.sheet.now (loop-of-then2 c).loop.at (first-record-of-else1 c.before.before).first-record.ensures
-    (r-of-else1 c.before.before).r.given.1) c.before.before.before.index-fault.ensures c.before.before.if1.false
-    c.before.canonical_fault_lem.ensures c.if2.true)
-
-add-next : tie.Need-overflow-add-next invariant-loop decreases-loop
-add-next c = omega (
+overflow_add-next : tie.Need-overflow_add-next invariant-loop-at decreases-loop-at
+overflow_add-next c = omega (
   arith,
-  patch_below (entry-of-struct-known c).args.n (index-fault-of-struct-known c).before.before.r.given.0.0
-      (sym (index-fault-of-struct-known c).index-fault.ensures ∙ (else1-of-struct-known c).if1.false),
+  patch_below c.args.n c.r-1.given.0.0
+      (sym c.index_fault-index.ensures ∙ c.if-index-ne-ACCEPTED.false),
 )
 
-add_at : tie.Need-overflow-add-at invariant-loop decreases-loop
-add_at c =
-    let a = (entry-of-struct-known c.before).args in
+overflow_add-at : tie.Need-overflow_add-at invariant-loop-at decreases-loop-at
+overflow_add-at c =
+    let a = c.args in
     omega (
       arith,
-      size_within a.sheet.now (loop-of-struct-known2 c).loop.at (r-of-struct-known2 c).r.given.0.0 (in-loop-of-struct-known2 c).loop-test.true
-          (first-at a.sheet.now (loop-of-struct-known2 c).loop.at (first-record-of-struct-known2 c).first-record.ensures
-          (r-of-struct-known2 c).r.given.1),
-      first_says _ (r-of-struct-known2 c).r.given.0.0
-          (first-at a.sheet.now (loop-of-struct-known2 c).loop.at (first-record-of-struct-known2 c).first-record.ensures
-          (r-of-struct-known2 c).r.given.1),
+      size_within a.sheet.now c.loop-at.at c.r-1.given.0.0 c.loop-at-test.true
+          (first-at a.sheet.now c.loop-at.at c.first_record.ensures
+          c.r-1.given.1),
+      first_says _ c.r-1.given.0.0
+          (first-at a.sheet.now c.loop-at.at c.first_record.ensures
+          c.r-1.given.1),
     )
 
-loop-less : tie.Need-loop-smaller invariant-loop decreases-loop
-loop-less c =
-    let a = (entry-of-struct-known c.before).args in
+loop-at-smaller : tie.Need-loop-at-smaller invariant-loop-at decreases-loop-at
+loop-at-smaller c =
+    let a = c.args in
     omega (
       arith,
-      size_within a.sheet.now (loop-of-struct-known2 c).loop.at (r-of-struct-known2 c).r.given.0.0 (in-loop-of-struct-known2 c).loop-test.true
-          (first-at a.sheet.now (loop-of-struct-known2 c).loop.at (first-record-of-struct-known2 c).first-record.ensures
-          (r-of-struct-known2 c).r.given.1),
-      first_says _ (r-of-struct-known2 c).r.given.0.0
-          (first-at a.sheet.now (loop-of-struct-known2 c).loop.at (first-record-of-struct-known2 c).first-record.ensures
-          (r-of-struct-known2 c).r.given.1),
+      size_within a.sheet.now c.loop-at.at c.r-1.given.0.0 c.loop-at-test.true
+          (first-at a.sheet.now c.loop-at.at c.first_record.ensures
+          c.r-1.given.1),
+      first_says _ c.r-1.given.0.0
+          (first-at a.sheet.now c.loop-at.at c.first_record.ensures
+          c.r-1.given.1),
       size_least
-          (r-of-struct-known2 c).r.given.0.0.bits,
+          c.r-1.given.0.0.bits,
     )
 
-loop-again : tie.Need-loop-preserved invariant-loop decreases-loop
-loop-again c =
-    let a = (entry-of-struct-known c.before).args in
-    let p = canonical_passed a.n a.sheet.now (loop-of-struct-known2 c).loop.next (loop-of-struct-known2 c).loop.at
-    (r-of-struct-known2 c).r.given.0.0
-    (in-loop-of-struct-known2 c).loop-test.true
-    (first-at a.sheet.now (loop-of-struct-known2 c).loop.at (first-record-of-struct-known2 c).first-record.ensures
-    (r-of-struct-known2 c).r.given.1) (else1-of-struct-known2 c).before.index-fault.ensures (else1-of-struct-known2 c).if1.false
-    c.before.before.before.canonical_fault_lem.ensures c.before.before.if2.false in (
+loop-at-preserved : tie.Need-loop-at-preserved invariant-loop-at decreases-loop-at
+loop-at-preserved c =
+    let a = c.args in
+    let p = canonical_passed a.n a.sheet.now c.loop-at.next c.loop-at.at
+    c.r-1.given.0.0
+    c.loop-at-test.true
+    (first-at a.sheet.now c.loop-at.at c.first_record.ensures
+    c.r-1.given.1) c.index_fault-index.ensures c.if-index-ne-ACCEPTED.false
+    c.canonical_fault-form.ensures c.if-form-ne-ACCEPTED.false in (
       omega arith,
-      rw (first_says _ (r-of-struct-known2 c).r.given.0.0
-          (first-at a.sheet.now (loop-of-struct-known2 c).loop.at (first-record-of-struct-known2 c).first-record.ensures
-          (r-of-struct-known2 c).r.given.1)) ((loop-of-struct-known2 c).loop.invariant.1 ∙ p),
+      rw (first_says _ c.r-1.given.0.0
+          (first-at a.sheet.now c.loop-at.at c.first_record.ensures
+          c.r-1.given.1)) (c.loop-at.invariant.1 ∙ p),
     )
 
-returns-4 : tie.Need-returns-4 invariant-loop decreases-loop
-returns-4 c =
-    let a = c.before.before.before.args in
-    sym (c.before.loop.invariant.1 ∙ canonical_end a.n a.sheet.now c.before.loop.next c.before.loop.at (omega arith))
+returns : tie.Need-returns invariant-loop-at decreases-loop-at
+returns-in_default c =
+    let a = c.args in
+    sym (c.loop-at.invariant.1 ∙ canonical_end a.n a.sheet.now c.loop-at.next c.loop-at.at (omega arith))
 
-pub test-canonical-spec : {M : Type 1} → statement M
-test-canonical-spec =
+pub test_canonical_spec : {M : Type 1} → statement M
+test_canonical_spec =
     tie.close
     (tie.spec
-    invariant-loop
-    decreases-loop
-    loop-holds
-    sub-first-record
-    part-first-record-start
-    part-first-record-end
-    first-record-requires
-    enum-known-r
-    enum_told
-    returns
-    index-fault-requires
-    returns-2
-    canonical-fault-requires
-    returns-3
-    add-next
-    add_at
-    loop-less
-    loop-again
-    returns-4)
+    invariant-loop-at
+    decreases-loop-at
+    loop-at-init
+    slice_bounds-first_record-count
+    slice_bounds-first_record-start
+    slice_bounds-first_record-end
+    first_record-requires
+    enum_known-r
+    enum_told-1
+    returns-in_default
+    index_fault-index-requires
+    returns-then-index-ne-ACCEPTED
+    canonical_fault-form-requires
+    returns-then-form-ne-ACCEPTED
+    overflow_add-next
+    overflow_add-at
+    loop-at-smaller
+    loop-at-preserved
+    returns)

@@ -1,4 +1,5 @@
 -- `test_records` meets its contract. The loop's invariant: the fault is that of the records from `at` on.
+use Rattle.std.proofs.Common.{rules}
 use mathlib.Core.Path.{◌≡◌, refl, sym, ◌∙◌}
 use Prim.Native.Nat.{◌-◌, ◌≤◌}
 use native.Mathlib.Omega.{arith}
@@ -10,249 +11,173 @@ use Rattle.sheet_reader.proofs.Tested.{first-at, size_within, patch_below, fault
 use Rattle.sheet_reader.proofs.test_records.Statement.{statement}
 use Rattle.sheet_reader.proofs.test_records.Tie as tie
 
-abbrev invariant-loop : tie.invariant-loop
-invariant-loop n sheet marks₀ at₀ marks at = (2 ≤ at) × (length marks ≡ length marks₀) × (fault_from n sheet marks₀ 2 ≡ fault_from n sheet marks at)
+abbrev invariant-loop-at : tie.invariant-loop-at
+invariant-loop-at n sheet marks₀ at₀ marks at = (2 ≤ at) × (length marks ≡ length marks₀) × (fault_from n sheet marks₀ 2 ≡ fault_from n sheet marks at)
 
-abbrev decreases-loop : tie.decreases-loop
-decreases-loop n sheet marks₀ at₀ marks at = length sheet - at
+abbrev decreases-loop-at : tie.decreases-loop-at
+decreases-loop-at n sheet marks₀ at₀ marks at = length sheet - at
 
--- places of the proof, each from a later one
-abbrev entry-of-loop : tie.At-loop invariant-loop decreases-loop → tie.Start invariant-loop decreases-loop
-entry-of-loop c = c.before.before.before
+loop-at-init : tie.Need-loop-at-init invariant-loop-at decreases-loop-at
+loop-at-init c = (omega arith, refl, refl)
 
-abbrev entry-of-first-record : tie.After-first-record invariant-loop decreases-loop → tie.Start invariant-loop decreases-loop
-entry-of-first-record c = entry-of-loop c.before.before.before
+slice_bounds-first_record-count : tie.Need-slice_bounds-first_record-count invariant-loop-at decreases-loop-at
+slice_bounds-first_record-count c = omega arith
 
-abbrev loop-of-r : tie.After-r invariant-loop decreases-loop → tie.At-loop invariant-loop decreases-loop
-loop-of-r c = c.before.before.before.before.before
+slice_bounds-first_record-start : tie.Need-slice_bounds-first_record-start invariant-loop-at decreases-loop-at
+slice_bounds-first_record-start c = omega arith
 
-abbrev in-loop-of-enum-told : tie.After-enum-told invariant-loop decreases-loop → tie.In-loop invariant-loop decreases-loop
-in-loop-of-enum-told c = c.before.before.before.before
+slice_bounds-first_record-end : tie.Need-slice_bounds-first_record-end invariant-loop-at decreases-loop-at
+slice_bounds-first_record-end c = omega arith
 
-abbrev loop-of-enum-told : tie.After-enum-told invariant-loop decreases-loop → tie.At-loop invariant-loop decreases-loop
-loop-of-enum-told c = (in-loop-of-enum-told c).before
+first_record-requires : tie.Need-first_record-requires invariant-loop-at decreases-loop-at
+first_record-requires c κs = tt
 
-abbrev r-of-then1 : tie.Then1 invariant-loop decreases-loop → tie.After-r invariant-loop decreases-loop
-r-of-then1 c = c.before.before.before
+enum_known-r : tie.Need-enum_known-r invariant-loop-at decreases-loop-at
+enum_known-r c = search rules
 
-abbrev first-record-of-then1 : tie.Then1 invariant-loop decreases-loop → tie.After-first-record invariant-loop decreases-loop
-first-record-of-then1 c = (r-of-then1 c).before.before
+enum_told-1 : tie.Need-enum_told-1 invariant-loop-at decreases-loop-at
+enum_told-1 c = search rules
 
-abbrev loop-of-then1 : tie.Then1 invariant-loop decreases-loop → tie.At-loop invariant-loop decreases-loop
-loop-of-then1 c = loop-of-r (r-of-then1 c)
+shape_of-marks-in_default : tie.Need-shape_of-marks-in_default invariant-loop-at decreases-loop-at
+shape_of-marks-in_default c = c.loop-at.invariant.1
 
-abbrev entry-of-then1 : tie.Then1 invariant-loop decreases-loop → tie.Start invariant-loop decreases-loop
-entry-of-then1 c = entry-of-first-record (first-record-of-then1 c)
+returns-in_default : tie.Need-returns-in_default invariant-loop-at decreases-loop-at
+returns-in_default c =
+    let a = c.args in
+    sym (c.loop-at.invariant.2 ∙ cut_here a.n a.sheet.now c.loop-at.marks c.loop-at.at
+    c.loop-at-test.true
+    (first-at a.sheet.now c.loop-at.at c.first_record.ensures c.enum_told-1.given.1))
 
-abbrev r-of-struct-known : tie.After-struct-known invariant-loop decreases-loop → tie.After-r invariant-loop decreases-loop
-r-of-struct-known c = c.before.before.before.before
+index_fault-index-requires : tie.Need-index_fault-index-requires invariant-loop-at decreases-loop-at
+index_fault-index-requires c κs = tt
 
-abbrev first-record-of-struct-known : tie.After-struct-known invariant-loop decreases-loop → tie.After-first-record invariant-loop decreases-loop
-first-record-of-struct-known c = (r-of-struct-known c).before.before
+shape_of-marks-then-index-ne-ACCEPTED : tie.Need-shape_of-marks-then-index-ne-ACCEPTED invariant-loop-at decreases-loop-at
+shape_of-marks-then-index-ne-ACCEPTED c = c.loop-at.invariant.1
 
-abbrev entry-of-struct-known : tie.After-struct-known invariant-loop decreases-loop → tie.Start invariant-loop decreases-loop
-entry-of-struct-known c = entry-of-first-record (first-record-of-struct-known c)
+returns-then-index-ne-ACCEPTED : tie.Need-returns-then-index-ne-ACCEPTED invariant-loop-at decreases-loop-at
+returns-then-index-ne-ACCEPTED c =
+    let a = c.args in
+    sym (c.loop-at.invariant.2 ∙ index_here a.n a.sheet.now c.loop-at.marks c.loop-at.at
+    c.r-1.given.0.0
+    c.loop-at-test.true
+    (first-at a.sheet.now c.loop-at.at c.first_record.ensures c.r-1.given.1)
+    c.index_fault-index.ensures c.if-index-ne-ACCEPTED.true)
 
-abbrev r-of-slice-known2 : tie.After-slice-known2 invariant-loop decreases-loop → tie.After-r invariant-loop decreases-loop
-r-of-slice-known2 c = r-of-struct-known c.before
-
-abbrev loop-of-slice-known2 : tie.After-slice-known2 invariant-loop decreases-loop → tie.At-loop invariant-loop decreases-loop
-loop-of-slice-known2 c = loop-of-r (r-of-slice-known2 c)
-
-abbrev entry-of-slice-known2 : tie.After-slice-known2 invariant-loop decreases-loop → tie.Start invariant-loop decreases-loop
-entry-of-slice-known2 c = entry-of-loop (loop-of-slice-known2 c)
-
-abbrev struct-known-of-then2 : tie.Then2 invariant-loop decreases-loop → tie.After-struct-known invariant-loop decreases-loop
-struct-known-of-then2 c = c.before.before.before
-
-abbrev r-of-then2 : tie.Then2 invariant-loop decreases-loop → tie.After-r invariant-loop decreases-loop
-r-of-then2 c = r-of-struct-known (struct-known-of-then2 c)
-
-abbrev first-record-of-then2 : tie.Then2 invariant-loop decreases-loop → tie.After-first-record invariant-loop decreases-loop
-first-record-of-then2 c = first-record-of-struct-known (struct-known-of-then2 c)
-
-abbrev loop-of-then2 : tie.Then2 invariant-loop decreases-loop → tie.At-loop invariant-loop decreases-loop
-loop-of-then2 c = loop-of-r (r-of-then2 c)
-
-abbrev else1-of-else2 : tie.Else2 invariant-loop decreases-loop → tie.Else1 invariant-loop decreases-loop
-else1-of-else2 c = c.before.before.before.before
-
-abbrev r-of-struct-known2 : tie.After-struct-known2 invariant-loop decreases-loop → tie.After-r invariant-loop decreases-loop
-r-of-struct-known2 c = r-of-slice-known2 c.before.before.before
-
-abbrev first-record-of-struct-known2 : tie.After-struct-known2 invariant-loop decreases-loop → tie.After-first-record invariant-loop decreases-loop
-first-record-of-struct-known2 c = (r-of-struct-known2 c).before.before
-
-abbrev in-loop-of-struct-known2 : tie.After-struct-known2 invariant-loop decreases-loop → tie.In-loop invariant-loop decreases-loop
-in-loop-of-struct-known2 c = (first-record-of-struct-known2 c).before.before
-
-abbrev loop-of-struct-known2 : tie.After-struct-known2 invariant-loop decreases-loop → tie.At-loop invariant-loop decreases-loop
-loop-of-struct-known2 c = loop-of-r (r-of-struct-known2 c)
-
-abbrev entry-of-struct-known2 : tie.After-struct-known2 invariant-loop decreases-loop → tie.Start invariant-loop decreases-loop
-entry-of-struct-known2 c = entry-of-first-record (first-record-of-struct-known2 c)
-
-loop-holds : tie.Need-loop-init invariant-loop decreases-loop
-loop-holds c = (omega arith, refl, refl)
-
-sub-first-record : tie.Need-overflow-sub-first-record invariant-loop decreases-loop
-sub-first-record c = omega arith
-
-part-first-record-start : tie.Need-slice-bounds-first-record-start invariant-loop decreases-loop
-part-first-record-start c = omega arith
-
-part-first-record-end : tie.Need-slice-bounds-first-record-end invariant-loop decreases-loop
-part-first-record-end c = omega arith
-
-first-record-requires : tie.Need-first-record-requires invariant-loop decreases-loop
-first-record-requires c κs = tt
-
-enum-known-r : tie.Need-enum-known-r invariant-loop decreases-loop
-enum-known-r c = search rules
-
-enum_told : tie.Need-enum-told invariant-loop decreases-loop
-enum_told c = search rules
-
-same_length_lem : tie.Need-same-length invariant-loop decreases-loop
-same_length_lem c = (loop-of-enum-told c).loop.invariant.1
-
-returns : tie.Need-returns invariant-loop decreases-loop
-returns c =
-    let a = (entry-of-first-record c.before.before).args in
-    sym ((loop-of-enum-told c).loop.invariant.2 ∙ cut_here a.n a.sheet.now (loop-of-enum-told c).loop.marks (loop-of-enum-told c).loop.at
-    (in-loop-of-enum-told c).loop-test.true
-    (first-at a.sheet.now (loop-of-enum-told c).loop.at c.before.before.first-record.ensures c.enum_told.given.1))
-
-index-fault-requires : tie.Need-index-fault-requires invariant-loop decreases-loop
-index-fault-requires c κs = tt
-
-same-length-2 : tie.Need-same-length-2 invariant-loop decreases-loop
-same-length-2 c = (loop-of-then1 c).loop.invariant.1
-
-returns-2 : tie.Need-returns-2 invariant-loop decreases-loop
-returns-2 c =
-    let a = (entry-of-then1 c).args in
-    sym ((loop-of-then1 c).loop.invariant.2 ∙ index_here a.n a.sheet.now (loop-of-then1 c).loop.marks (loop-of-then1 c).loop.at
-    (r-of-then1 c).r.given.0.0
-    (first-record-of-then1 c).before.before.loop-test.true
-    (first-at a.sheet.now (loop-of-then1 c).loop.at (first-record-of-then1 c).first-record.ensures (r-of-then1 c).r.given.1)
-    c.before.index-fault.ensures c.if1.true)
-
-cast-patch : tie.Need-overflow-cast-patch invariant-loop decreases-loop
-cast-patch c = omega (
+overflow_cast-patch : tie.Need-overflow_cast-patch invariant-loop-at decreases-loop-at
+overflow_cast-patch c = omega (
   arith,
-  patch_below (entry-of-struct-known c).args.n (r-of-struct-known c).r.given.0.0
-      (sym c.before.before.index-fault.ensures ∙ c.before.if1.false),
+  patch_below c.args.n c.r-1.given.0.0
+      (sym c.index_fault-index.ensures ∙ c.if-index-ne-ACCEPTED.false),
 )
 
-slice-read-repeat-fault : tie.Need-slice-read-repeat-fault invariant-loop decreases-loop
-slice-read-repeat-fault c = omega (
+bounds-marks-patch : tie.Need-bounds-marks-patch invariant-loop-at decreases-loop-at
+bounds-marks-patch c = omega (
   arith,
-  patch_below (entry-of-slice-known2 c).args.n (r-of-slice-known2 c).r.given.0.0
-      (sym c.before.before.before.index-fault.ensures ∙ c.before.before.if1.false),
-  (loop-of-slice-known2 c).loop.invariant.1,
+  patch_below c.args.n c.r-1.given.0.0
+      (sym c.index_fault-index.ensures ∙ c.if-index-ne-ACCEPTED.false),
+  c.loop-at.invariant.1,
 )
 
-repeat-fault-requires : tie.Need-repeat-fault-requires invariant-loop decreases-loop
-repeat-fault-requires c κs = tt
+repeat_fault-repeat-requires : tie.Need-repeat_fault-repeat-requires invariant-loop-at decreases-loop-at
+repeat_fault-repeat-requires c κs = tt
 
-same-length-3 : tie.Need-same-length-3 invariant-loop decreases-loop
-same-length-3 c = (loop-of-then2 c).loop.invariant.1
+shape_of-marks-then-repeat-ne-ACCEPTED : tie.Need-shape_of-marks-then-repeat-ne-ACCEPTED invariant-loop-at decreases-loop-at
+shape_of-marks-then-repeat-ne-ACCEPTED c = c.loop-at.invariant.1
 
-returns-3 : tie.Need-returns-3 invariant-loop decreases-loop
-returns-3 c =
-    let a = (entry-of-slice-known2 c.before.before).args in
-    sym ((loop-of-then2 c).loop.invariant.2 ∙ repeat_here a.n a.sheet.now (loop-of-then2 c).loop.marks (loop-of-then2 c).loop.at
-    (r-of-then2 c).r.given.0.0 (first-record-of-then2 c).before.before.loop-test.true
-    (first-at a.sheet.now (loop-of-then2 c).loop.at (first-record-of-then2 c).first-record.ensures (r-of-then2 c).r.given.1)
-    (struct-known-of-then2 c).before.before.index-fault.ensures
-    (struct-known-of-then2 c).before.if1.false c.before.repeat-fault.ensures c.if2.true)
+returns-then-repeat-ne-ACCEPTED : tie.Need-returns-then-repeat-ne-ACCEPTED invariant-loop-at decreases-loop-at
+returns-then-repeat-ne-ACCEPTED c =
+    let a = c.args in
+    sym (c.loop-at.invariant.2 ∙ repeat_here a.n a.sheet.now c.loop-at.marks c.loop-at.at
+    c.r-1.given.0.0 c.loop-at-test.true
+    (first-at a.sheet.now c.loop-at.at c.first_record.ensures c.r-1.given.1)
+    c.index_fault-index.ensures
+    c.if-index-ne-ACCEPTED.false c.repeat_fault-repeat.ensures c.if-repeat-ne-ACCEPTED.true)
 
-slice-write-marks : tie.Need-slice-write-marks invariant-loop decreases-loop
-slice-write-marks c = omega (
+bounds-marks-patch-in-loop-at : tie.Need-bounds-marks-patch-in-loop-at invariant-loop-at decreases-loop-at
+bounds-marks-patch-in-loop-at c = omega (
   arith,
-  patch_below (entry-of-slice-known2 c.before.before).args.n (r-of-slice-known2 c.before.before).r.given.0.0
-      (sym (else1-of-else2 c).before.index-fault.ensures ∙ (else1-of-else2 c).if1.false),
-  (loop-of-slice-known2 c.before.before).loop.inv.1,
+  patch_below c.args.n c.r-1.given.0.0
+      (sym c.index_fault-index.ensures ∙ c.if-index-ne-ACCEPTED.false),
+  c.loop-at.inv.1,
 )
 
-add_at : tie.Need-overflow-add-at invariant-loop decreases-loop
-add_at c =
-    let a = (entry-of-struct-known2 c).args in
+overflow_add-at : tie.Need-overflow_add-at invariant-loop-at decreases-loop-at
+overflow_add-at c =
+    let a = c.args in
     omega (
       arith,
-      size_within a.sheet.now (loop-of-struct-known2 c).loop.at (r-of-struct-known2 c).r.given.0.0 (in-loop-of-struct-known2 c).loop-test.true
-          (first-at a.sheet.now (loop-of-struct-known2 c).loop.at (first-record-of-struct-known2 c).first-record.ensures
-          (r-of-struct-known2 c).r.given.1),
-      first_says _ (r-of-struct-known2 c).r.given.0.0
-          (first-at a.sheet.now (loop-of-struct-known2 c).loop.at (first-record-of-struct-known2 c).first-record.ensures
-          (r-of-struct-known2 c).r.given.1),
+      size_within a.sheet.now c.loop-at.at c.r-1.given.0.0 c.loop-at-test.true
+          (first-at a.sheet.now c.loop-at.at c.first_record.ensures
+          c.r-1.given.1),
+      first_says _ c.r-1.given.0.0
+          (first-at a.sheet.now c.loop-at.at c.first_record.ensures
+          c.r-1.given.1),
     )
 
-loop-less : tie.Need-loop-smaller invariant-loop decreases-loop
-loop-less c =
-    let a = (entry-of-struct-known2 c).args in
+loop-at-smaller : tie.Need-loop-at-smaller invariant-loop-at decreases-loop-at
+loop-at-smaller c =
+    let a = c.args in
     omega (
       arith,
-      size_within a.sheet.now (loop-of-struct-known2 c).loop.at (r-of-struct-known2 c).r.given.0.0 (in-loop-of-struct-known2 c).loop-test.true
-          (first-at a.sheet.now (loop-of-struct-known2 c).loop.at (first-record-of-struct-known2 c).first-record.ensures
-          (r-of-struct-known2 c).r.given.1),
-      first_says _ (r-of-struct-known2 c).r.given.0.0
-          (first-at a.sheet.now (loop-of-struct-known2 c).loop.at (first-record-of-struct-known2 c).first-record.ensures
-          (r-of-struct-known2 c).r.given.1),
+      size_within a.sheet.now c.loop-at.at c.r-1.given.0.0 c.loop-at-test.true
+          (first-at a.sheet.now c.loop-at.at c.first_record.ensures
+          c.r-1.given.1),
+      first_says _ c.r-1.given.0.0
+          (first-at a.sheet.now c.loop-at.at c.first_record.ensures
+          c.r-1.given.1),
       size_least
-          (r-of-struct-known2 c).r.given.0.0.bits,
+          c.r-1.given.0.0.bits,
     )
 
-loop-again : tie.Need-loop-preserved invariant-loop decreases-loop
-loop-again c =
-    let a = (entry-of-struct-known2 c).args in
-    let p = passed a.n a.sheet.now (loop-of-struct-known2 c).loop.marks (loop-of-struct-known2 c).loop.at (r-of-struct-known2 c).r.given.0.0
-    (in-loop-of-struct-known2 c).loop-test.true
-    (first-at a.sheet.now (loop-of-struct-known2 c).loop.at (first-record-of-struct-known2 c).first-record.ensures (r-of-struct-known2 c).r.given.1)
-    (else1-of-else2 c.before).before.index-fault.ensures (else1-of-else2 c.before).if1.left c.before.before.repeat-fault.ensures
-    c.before.if2.false in (
+loop-at-preserved : tie.Need-loop-at-preserved invariant-loop-at decreases-loop-at
+loop-at-preserved c =
+    let a = c.args in
+    let p = passed a.n a.sheet.now c.loop-at.marks c.loop-at.at c.r-1.given.0.0
+    c.loop-at-test.true
+    (first-at a.sheet.now c.loop-at.at c.first_record.ensures c.r-1.given.1)
+    c.index_fault-index.ensures c.if-index-ne-ACCEPTED.left c.repeat_fault-repeat.ensures
+    c.if-repeat-ne-ACCEPTED.false in (
       omega arith,
-      simp length-set (loop-of-struct-known2 c).loop.invariant.1,
-      rw (first_says _ (r-of-struct-known2 c).r.given.0.0 (first-at a.sheet.now
-          (loop-of-struct-known2 c).loop.at (first-record-of-struct-known2 c).first-record.ensures (r-of-struct-known2 c).r.given.1))
-          ((loop-of-struct-known2 c).loop.invariant.2 ∙ p),
+      simp length-set c.loop-at.invariant.1,
+      rw (first_says _ c.r-1.given.0.0 (first-at a.sheet.now
+          c.loop-at.at c.first_record.ensures c.r-1.given.1))
+          (c.loop-at.invariant.2 ∙ p),
     )
 
-same-length-4 : tie.Need-same-length-4 invariant-loop decreases-loop
-same-length-4 c = c.before.loop.invariant.1
+shape_of-marks : tie.Need-shape_of-marks invariant-loop-at decreases-loop-at
+shape_of-marks c = c.loop-at.invariant.1
 
-returns-4 : tie.Need-returns-4 invariant-loop decreases-loop
-returns-4 c =
-    let a = (entry-of-loop c.before).args in
-    sym (c.before.loop.invariant.2 ∙ all_passed a.n a.sheet.now c.before.loop.marks c.before.loop.at (omega arith))
+returns : tie.Need-returns invariant-loop-at decreases-loop-at
+returns-in_default c =
+    let a = c.args in
+    sym (c.loop-at.invariant.2 ∙ all_passed a.n a.sheet.now c.loop-at.marks c.loop-at.at (omega arith))
 
-pub test-records-spec : {M : Type 1} → statement M
-test-records-spec =
+pub test_records_spec : {M : Type 1} → statement M
+test_records_spec =
     tie.close
     (tie.spec
-    invariant-loop
-    decreases-loop
-    loop-holds
-    sub-first-record
-    part-first-record-start
-    part-first-record-end
-    first-record-requires
-    enum-known-r
-    enum_told
-    same_length_lem
-    returns
-    index-fault-requires
-    same-length-2
-    returns-2
-    cast-patch
-    slice-read-repeat-fault
-    repeat-fault-requires
-    same-length-3
-    returns-3
-    slice-write-marks
-    add_at
-    loop-less
-    loop-again
-    same-length-4
-    returns-4)
+    invariant-loop-at
+    decreases-loop-at
+    loop-at-init
+    slice_bounds-first_record-count
+    slice_bounds-first_record-start
+    slice_bounds-first_record-end
+    first_record-requires
+    enum_known-r
+    enum_told-1
+    shape_of-marks-in_default
+    returns-in_default
+    index_fault-index-requires
+    shape_of-marks-then-index-ne-ACCEPTED
+    returns-then-index-ne-ACCEPTED
+    overflow_cast-patch
+    bounds-marks-patch
+    repeat_fault-repeat-requires
+    shape_of-marks-then-repeat-ne-ACCEPTED
+    returns-then-repeat-ne-ACCEPTED
+    bounds-marks-patch-in-loop-at
+    overflow_add-at
+    loop-at-smaller
+    loop-at-preserved
+    shape_of-marks
+    returns)

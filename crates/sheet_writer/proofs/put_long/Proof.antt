@@ -1,4 +1,5 @@
 -- `put_long` meets its contract: by its bit.
+use Rattle.std.proofs.Common.{rules}
 use mathlib.Core.Path.{sym, ap}
 use Prim.Native.Nat.{ℕ, ◌+◌}
 use Rattle.byte_numbers.proofs.Words.{bytes_length}
@@ -7,27 +8,30 @@ use borrow.Author.Rules.{rules}
 use Rattle.sheet_writer.proofs.put_long.Statement.{statement}
 use Rattle.sheet_writer.proofs.put_long.Tie as tie
 
--- places of the proof, each from a later one
-abbrev else1-of-slice-known2 : tie.After-slice-known2 → tie.Else1
-else1-of-slice-known2 c = c.before.before.before.before
+returns-then-bit-eq0 : tie.Need-returns-then-bit-eq0
+returns-then-bit-eq0 c = part_none _ 8 _ c.if-bit-eq0.true
+
+put_u64-requires : tie.Need-put_u64-requires
+put_u64-requires c κs = search rules
+
+overflow_add-result : tie.Need-overflow_add-result
+overflow_add-result c = search rules
+
+shape_of-out : tie.Need-shape_of-out
+shape_of-out c = search rules
 
 returns : tie.Need-returns
-returns c = part_none _ 8 _ c.if1.true
+returns-then-bit-eq0 c =
+    let a = c.args in
+    part_there _ 8 _ c.if-bit-eq0.false
+    (record { bytes = c.put_u64.ensures; place = ap (λ (k : ℕ). a.at + k) (sym (bytes_length 8 a.value)) })
 
-put-u64-requires : tie.Need-put-u64-requires
-put-u64-requires c κs = search rules
-
-add-result : tie.Need-overflow-add-result
-add-result c = search rules
-
-same_length_lem : tie.Need-same-length
-same_length_lem c = search rules
-
-returns-2 : tie.Need-returns-2
-returns-2 c =
-    let a = (else1-of-slice-known2 c).before.before.args in
-    part_there _ 8 _ (else1-of-slice-known2 c).if1.false
-    (record { bytes = c.before.before.put-u64.ensures; place = ap (λ (k : ℕ). a.at + k) (sym (bytes_length 8 a.value)) })
-
-pub put-long-spec : {M : Type 1} → statement M
-put-long-spec = tie.close (tie.spec returns put-u64-requires add-result same_length_lem returns-2)
+pub put_long_spec : {M : Type 1} → statement M
+put_long_spec =
+    tie.close
+    (tie.spec
+    returns-then-bit-eq0
+    put_u64-requires
+    overflow_add-result
+    shape_of-out
+    returns)

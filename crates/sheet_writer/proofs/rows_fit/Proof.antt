@@ -9,52 +9,52 @@ use Rattle.sheet_writer.proofs.Writing.{fit_next, fit_end, and_assoc, and-true}
 use Rattle.sheet_writer.proofs.rows_fit_lem.Statement.{statement}
 use Rattle.sheet_writer.proofs.rows_fit_lem.Tie as tie
 
-abbrev invariant-loop : tie.invariant-loop
-invariant-loop n perm fit₀ k₀ fit k = (k ≤ length perm) × (rows_fit n perm ≡ fit && rows_fit n (drop k perm))
+abbrev invariant-loop-k : tie.invariant-loop-k
+invariant-loop-k n perm fit₀ k₀ fit k = (k ≤ length perm) × (rows_fit n perm ≡ fit && rows_fit n (drop k perm))
 
-abbrev decreases-loop : tie.decreases-loop
-decreases-loop n perm fit₀ k₀ fit k = length perm - k
+abbrev decreases-loop-k : tie.decreases-loop-k
+decreases-loop-k n perm fit₀ k₀ fit k = length perm - k
 
-loop-holds : tie.Need-loop-init invariant-loop decreases-loop
-loop-holds c = (omega arith, refl)
+loop-k-init : tie.Need-loop-k-init invariant-loop-k decreases-loop-k
+loop-k-init c = (omega arith, refl)
 
-mul-row-or-none : tie.Need-overflow-mul-row-or-none invariant-loop decreases-loop
-mul-row-or-none c = omega arith
+offset_bounds-perm-k : tie.Need-offset_bounds-perm-k invariant-loop-k decreases-loop-k
+offset_bounds-perm-k c = omega arith
 
-shared-slice-read-row-or-none : tie.Need-shared-slice-read-row-or-none invariant-loop decreases-loop
-shared-slice-read-row-or-none c = omega arith
+bounds-perm-k : tie.Need-bounds-perm-k invariant-loop-k decreases-loop-k
+bounds-perm-k c = omega arith
 
-row-or-none-requires : tie.Need-row-or-none-requires invariant-loop decreases-loop
-row-or-none-requires c κs = tt
+row_or_none-fit-requires : tie.Need-row_or_none-fit-requires invariant-loop-k decreases-loop-k
+row_or_none-fit-requires c κs = tt
 
-add-k : tie.Need-overflow-add-k invariant-loop decreases-loop
-add-k c = omega arith
+overflow_add-k : tie.Need-overflow_add-k invariant-loop-k decreases-loop-k
+overflow_add-k c = omega arith
 
-loop-less : tie.Need-loop-smaller invariant-loop decreases-loop
-loop-less c = omega arith
+loop-k-smaller : tie.Need-loop-k-smaller invariant-loop-k decreases-loop-k
+loop-k-smaller c = omega arith
 
-loop-again : tie.Need-loop-preserved invariant-loop decreases-loop
-loop-again c =
-    let a = c.before.before.before.before.before.args in
-    let s = c.before.before.before.loop in
-    (omega arith, s.invariant.1 ∙ rw (fit_next a.n a.perm.now s.k (omega arith), c.row-or-none.ensures) (sym (and_assoc s.fit _ _)))
+loop-k-preserved : tie.Need-loop-k-preserved invariant-loop-k decreases-loop-k
+loop-k-preserved c =
+    let a = c.args in
+    let s = c.loop-k in
+    (omega arith, s.invariant.1 ∙ rw (fit_next a.n a.perm.now s.k (omega arith), c.row_or_none-fit.ensures) (sym (and_assoc s.fit _ _)))
 
-returns : tie.Need-returns invariant-loop decreases-loop
+returns : tie.Need-returns invariant-loop-k decreases-loop-k
 returns c =
-    let a = c.before.before.before.args in
-    sym (c.before.loop.invariant.1 ∙ rw (fit_end a.n a.perm.now c.before.loop.k (omega arith)) (and-true c.before.loop.fit))
+    let a = c.args in
+    sym (c.loop-k.invariant.1 ∙ rw (fit_end a.n a.perm.now c.loop-k.k (omega arith)) (and-true c.loop-k.fit))
 
-pub rows-fit-spec : {M : Type 1} → statement M
-rows-fit-spec =
+pub rows_fit_spec : {M : Type 1} → statement M
+rows_fit_spec =
     tie.close
     (tie.spec
-    invariant-loop
-    decreases-loop
-    loop-holds
-    mul-row-or-none
-    shared-slice-read-row-or-none
-    row-or-none-requires
-    add-k
-    loop-less
-    loop-again
+    invariant-loop-k
+    decreases-loop-k
+    loop-k-init
+    offset_bounds-perm-k
+    bounds-perm-k
+    row_or_none-fit-requires
+    overflow_add-k
+    loop-k-smaller
+    loop-k-preserved
     returns)

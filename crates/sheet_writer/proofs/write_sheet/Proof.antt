@@ -1,4 +1,5 @@
 -- `write_sheet` meets its contract: the tests in their order, then the file.
+use Rattle.std.proofs.Common.{rules}
 use mathlib.Core.Path.{refl, sym, ◌∙◌}
 use native.Mathlib.Omega.{arith}
 use Rattle.matching.specs.Match.{match_of}
@@ -9,101 +10,79 @@ use borrow.Author.Rules.{rules}
 use Rattle.sheet_writer.proofs.write_sheet.Statement.{statement}
 use Rattle.sheet_writer.proofs.write_sheet.Tie as tie
 
--- places of the proof, each from a later one
-abbrev entry-of-lengths : tie.After-lengths-fit → tie.Start
-entry-of-lengths c = c.before.before.before.before.before.before.before
+lengths_fit-fit-requires : tie.Need-lengths_fit-fit-requires
+lengths_fit-fit-requires c κs = search rules
 
-abbrev lengths-of-else : tie.Else1 → tie.After-lengths-fit
-lengths-of-else c = c.before.before
+size_fault-sizes-requires : tie.Need-size_fault-sizes-requires
+size_fault-sizes-requires c κs = search rules
 
-abbrev first-of-else : tie.Else2 → tie.Else1
-first-of-else c = c.before.before
+shape_of-sheet-then-sizes-ne-ACCEPTED : tie.Need-shape_of-sheet-then-sizes-ne-ACCEPTED
+shape_of-sheet-then-sizes-ne-ACCEPTED c = refl
 
-lengths-fit-requires : tie.Need-lengths-fit-requires
-lengths-fit-requires c κs = search rules
+returns-then-sizes-ne-ACCEPTED : tie.Need-returns-then-sizes-ne-ACCEPTED
+returns-then-sizes-ne-ACCEPTED c =
+    let a = c.args in
+    sizes_refuse a.n a.matched (match_of a.perm.now a.u.now a.v.now a.cmax.now) a.sheet.now c.lengths_fit-fit.ensures
+    c.size_fault-sizes.ensures c.if-sizes-ne-ACCEPTED.true
 
-size-fault-requires : tie.Need-size-fault-requires
-size-fault-requires c κs = search rules
-
-same_length_lem : tie.Need-same-length
-same_length_lem c = refl
-
-returns : tie.Need-returns
-returns c =
-    let l = c.before.before in
-    let a = (entry-of-lengths l).args in
-    sizes_refuse a.n a.matched (match_of a.perm.now a.u.now a.v.now a.cmax.now) a.sheet.now l.lengths_fit_lem.ensures
-    c.before.size-fault.ensures c.if1.true
-
-match-fault-requires : tie.Need-match-fault-requires
-match-fault-requires c κs =
-    let l = lengths-of-else c in
-    let a = (entry-of-lengths l).args in
-    let s = sizes_passed a.n l.lengths_fit_lem.result (sym c.before.size-fault.ensures ∙ c.if1.false) in
+match_fault-fault-requires : tie.Need-match_fault-fault-requires
+match_fault-fault-requires c κs =
+    let a = c.args in
+    let s = sizes_passed a.n c.lengths_fit-fit.result (sym c.size_fault-sizes.ensures ∙ c.if-sizes-ne-ACCEPTED.false) in
     omega (
       arith,
       s.0,
       (lengths_are a.n (match_of a.perm.now a.u.now a.v.now a.cmax.now) a.sheet.now
-          (sym l.lengths_fit_lem.ensures ∙ s.1)).perm,
+          (sym c.lengths_fit-fit.ensures ∙ s.1)).perm,
     )
 
-same-length-2 : tie.Need-same-length-2
-same-length-2 c = refl
+shape_of-sheet-then-fault-ne-ACCEPTED : tie.Need-shape_of-sheet-then-fault-ne-ACCEPTED
+shape_of-sheet-then-fault-ne-ACCEPTED c = refl
 
-returns-2 : tie.Need-returns-2
-returns-2 c =
-    let e = c.before.before in
-    let l = lengths-of-else e in
-    let a = (entry-of-lengths l).args in
-    match_refuses a.n a.matched (match_of a.perm.now a.u.now a.v.now a.cmax.now) a.sheet.now l.lengths_fit_lem.ensures
-    e.before.size-fault.ensures e.if1.false c.before.match-fault.ensures c.if2.true
+returns-then-fault-ne-ACCEPTED : tie.Need-returns-then-fault-ne-ACCEPTED
+returns-then-fault-ne-ACCEPTED c =
+    let a = c.args in
+    match_refuses a.n a.matched (match_of a.perm.now a.u.now a.v.now a.cmax.now) a.sheet.now c.lengths_fit-fit.ensures
+    c.size_fault-sizes.ensures c.if-sizes-ne-ACCEPTED.false c.match_fault-fault.ensures c.if-fault-ne-ACCEPTED.true
 
-put-sheet-requires : tie.Need-put-sheet-requires
-put-sheet-requires c κs =
-    let e = first-of-else c.before in
-    let l = lengths-of-else e in
-    let s = sizes_passed (entry-of-lengths l).args.n l.lengths_fit_lem.result (sym e.before.size-fault.ensures ∙ e.if1.left) in
-    (s.0, sym l.lengths_fit_lem.ensures ∙ s.1)
+put_sheet-used-requires : tie.Need-put_sheet-used-requires
+put_sheet-used-requires c κs =
+    let s = sizes_passed c.args.n c.lengths_fit-fit.result (sym c.size_fault-sizes.ensures ∙ c.if-sizes-ne-ACCEPTED.left) in
+    (s.0, sym c.lengths_fit-fit.ensures ∙ s.1)
 
-cast-t18 : tie.Need-overflow-cast-t18
-cast-t18 c =
-    let e = first-of-else c.before.before.before.before in
-    let l = lengths-of-else e in
-    let a = (entry-of-lengths l).args in
+overflow_cast-result : tie.Need-overflow_cast-result
+overflow_cast-result c =
+    let a = c.args in
     omega (
       arith,
-      c.before.before.put-sheet.ensures.place,
+      c.put_sheet-used.ensures.place,
       sheet_length a.n (match_of a.perm.now a.u.now a.v.now a.cmax.now),
-      (sizes_passed a.n l.lengths_fit_lem.result (sym e.before.size-fault.ensures ∙ e.if1.left)).0,
+      (sizes_passed a.n c.lengths_fit-fit.result (sym c.size_fault-sizes.ensures ∙ c.if-sizes-ne-ACCEPTED.left)).0,
     )
 
-same-length-3 : tie.Need-same-length-3
-same-length-3 c = search rules
+shape_of-sheet : tie.Need-shape_of-sheet
+shape_of-sheet c = search rules
 
-returns-3 : tie.Need-returns-3
-returns-3 c =
-    let f = c.before.before.before.before in
-    let e = first-of-else f in
-    let l = lengths-of-else e in
-    let a = (entry-of-lengths l).args in
-    let cmax = l.before.before.before in
-    writes a.n a.matched (match_of a.perm.now a.u.now a.v.now a.cmax.now) a.sheet.now l.lengths_fit_lem.ensures
-    e.before.size-fault.ensures e.if1.left f.before.match-fault.ensures f.if2.false
-    (λ i. omega (arith, cmax.before.before.shared-slice-known2.given i)) (λ i. omega (arith, cmax.before.shared-slice-known3.given i))
-    (λ i. omega (arith, cmax.shared-slice-known4.given i)) c.before.before.put-sheet.ensures
+returns : tie.Need-returns
+returns-then-sizes-ne-ACCEPTED c =
+    let a = c.args in
+    writes a.n a.matched (match_of a.perm.now a.u.now a.v.now a.cmax.now) a.sheet.now c.lengths_fit-fit.ensures
+    c.size_fault-sizes.ensures c.if-sizes-ne-ACCEPTED.left c.match_fault-fault.ensures c.if-fault-ne-ACCEPTED.false
+    (λ i. omega (arith, c.shared_slice_known-2-1.given i)) (λ i. omega (arith, c.shared_slice_known-3-1.given i))
+    (λ i. omega (arith, c.shared_slice_known-4-1.given i)) c.put_sheet-used.ensures
 
-pub write-sheet-spec : {M : Type 1} → statement M
-write-sheet-spec =
+pub write_sheet_spec : {M : Type 1} → statement M
+write_sheet_spec =
     tie.close
     (tie.spec
-    lengths-fit-requires
-    size-fault-requires
-    same_length_lem
-    returns
-    match-fault-requires
-    same-length-2
-    returns-2
-    put-sheet-requires
-    cast-t18
-    same-length-3
-    returns-3)
+    lengths_fit-fit-requires
+    size_fault-sizes-requires
+    shape_of-sheet-then-sizes-ne-ACCEPTED
+    returns-then-sizes-ne-ACCEPTED
+    match_fault-fault-requires
+    shape_of-sheet-then-fault-ne-ACCEPTED
+    returns-then-fault-ne-ACCEPTED
+    put_sheet-used-requires
+    overflow_cast-result
+    shape_of-sheet
+    returns)

@@ -1,47 +1,48 @@
 -- `guess_root` meets its contract: no pattern that it reads or writes is a NaN's, and what it returns is a remainder. Of its accuracy nothing is shown.
+use Rattle.std.proofs.Common.{rules}
 use borrow.Author.Rules.{rules}
 use native.Mathlib.Omega.{arith}
 use Rattle.float64.proofs.Bits.{no_nan, less_no_nan}
 use Rattle.square_root.proofs.guess_root.Statement.{statement}
 use Rattle.square_root.proofs.guess_root.Tie as tie
 
-float-from-bits-x : tie.Need-float-from-bits-x
-float-from-bits-x c = no_nan _ (omega arith)
+float_from_bits-x : tie.Need-float_from_bits-x
+float_from_bits-x c = no_nan _ (omega arith)
 
-sub-first : tie.Need-overflow-sub-first
-sub-first c = search rules
+overflow_sub-first : tie.Need-overflow_sub-first
+overflow_sub-first c = search rules
 
-float-from-bits-first : tie.Need-float-from-bits-first
-float-from-bits-first c = no_nan _ (omega arith)
+float_from_bits-first : tie.Need-float_from_bits-first
+float_from_bits-first c = no_nan _ (omega arith)
 
-nearer-requires : tie.Need-nearer-requires
-nearer-requires c κs = search rules
+nearer-second-requires : tie.Need-nearer-second-requires
+nearer-second-requires c κs = search rules
 
-nearer-requires-2 : tie.Need-nearer-requires-2
-nearer-requires-2 c κs = search rules
+nearer-third-requires : tie.Need-nearer-third-requires
+nearer-third-requires c κs = search rules
 
-nearer-requires-3 : tie.Need-nearer-requires-3
-nearer-requires-3 c κs = search rules
+nearer-root-requires : tie.Need-nearer-root-requires
+nearer-root-requires c κs = search rules
 
-float-to-bits-result : tie.Need-float-to-bits-result
-float-to-bits-result c = less_no_nan _ _ c.if1.true
+float_to_bits-result : tie.Need-float_to_bits-result
+float_to_bits-result c = less_no_nan _ _ c.if-shown.true
+
+returns-then-shown : tie.Need-returns-then-shown
+returns-then-shown c = search rules
 
 returns : tie.Need-returns
-returns c = search rules
+returns-then-shown c = search rules
 
-returns-2 : tie.Need-returns-2
-returns-2 c = search rules
-
-pub guess-root-spec : {M : Type 1} → statement M
-guess-root-spec =
+pub guess_root_spec : {M : Type 1} → statement M
+guess_root_spec =
     tie.close
     (tie.spec
-    float-from-bits-x
-    sub-first
-    float-from-bits-first
-    nearer-requires
-    nearer-requires-2
-    nearer-requires-3
-    float-to-bits-result
-    returns
-    returns-2)
+    float_from_bits-x
+    overflow_sub-first
+    float_from_bits-first
+    nearer-second-requires
+    nearer-third-requires
+    nearer-root-requires
+    float_to_bits-result
+    returns-then-shown
+    returns)

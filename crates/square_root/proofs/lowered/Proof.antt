@@ -6,30 +6,39 @@ use Rattle.square_root.proofs.Whole.{root_pos}
 use Rattle.square_root.proofs.lowered.Statement.{statement}
 use Rattle.square_root.proofs.lowered.Tie as tie
 
-abbrev invariant-loop : tie.invariant-loop
-invariant-loop n guess s₀ s = s < 2 ^ 27
+abbrev invariant-loop-s : tie.invariant-loop-s
+invariant-loop-s n guess s₀ s = s < 2 ^ 27
 
-abbrev decreases-loop : tie.decreases-loop
-decreases-loop n guess s₀ s = s
+abbrev decreases-loop-s : tie.decreases-loop-s
+decreases-loop-s n guess s₀ s = s
 
-loop-holds : tie.Need-loop-init invariant-loop decreases-loop
-loop-holds c = c.requires
+loop-s-init : tie.Need-loop-s-init invariant-loop-s decreases-loop-s
+loop-s-init c = c.requires
 
-mul-loop : tie.Need-overflow-mul-loop invariant-loop decreases-loop
-mul-loop c = omega (arith, square_lt c.loop.s (2 ^ 27) c.loop.invariant)
+overflow_mul-s : tie.Need-overflow_mul-s invariant-loop-s decreases-loop-s
+overflow_mul-s c = omega (arith, square_lt c.loop-s.s (2 ^ 27) c.loop-s.invariant)
 
-sub-s : tie.Need-overflow-sub-s invariant-loop decreases-loop
-sub-s c = root_pos c.before.before.args.n c.before.loop.s c.loop-test.true
+overflow_sub-s : tie.Need-overflow_sub-s invariant-loop-s decreases-loop-s
+overflow_sub-s c = root_pos c.args.n c.loop-s.s c.loop-s-test.true
 
-loop-less : tie.Need-loop-smaller invariant-loop decreases-loop
-loop-less c = omega (arith, root_pos c.before.before.args.n c.before.loop.s c.loop-test.true)
+loop-s-smaller : tie.Need-loop-s-smaller invariant-loop-s decreases-loop-s
+loop-s-smaller c = omega (arith, root_pos c.args.n c.loop-s.s c.loop-s-test.true)
 
-loop-again : tie.Need-loop-preserved invariant-loop decreases-loop
-loop-again c = omega arith
+loop-s-preserved : tie.Need-loop-s-preserved invariant-loop-s decreases-loop-s
+loop-s-preserved c = omega arith
 
-returns : tie.Need-returns invariant-loop decreases-loop
-returns c = (c.loop-test.false, c.before.loop.invariant)
+returns : tie.Need-returns invariant-loop-s decreases-loop-s
+returns c = (c.loop-s-test.false, c.loop-s.invariant)
 
-pub lowered-spec : {M : Type 1} → statement M
-lowered-spec =
-    tie.close (tie.spec invariant-loop decreases-loop loop-holds mul-loop sub-s loop-less loop-again returns)
+pub lowered_spec : {M : Type 1} → statement M
+lowered_spec =
+    tie.close
+    (tie.spec
+    invariant-loop-s
+    decreases-loop-s
+    loop-s-init
+    overflow_mul-s
+    overflow_sub-s
+    loop-s-smaller
+    loop-s-preserved
+    returns)

@@ -1,4 +1,5 @@
 -- `positive_root` meets its contract: each part is the definition's, and the bits made of them are its result's.
+use Rattle.std.proofs.Common.{rules}
 use borrow.Author.Rules.{rules}
 use mathlib.Core.Path.{sym, subst}
 use Prim.Native.Nat.{ℕ, ◌-◌, ◌*◌, ◌%◌, ◌^◌, ◌≤◌}
@@ -11,67 +12,67 @@ use Rattle.square_root.proofs.positive_root.Statement.{statement}
 use Rattle.square_root.proofs.positive_root.Tie as tie
 
 -- the number under the root is as large as the callees ask
-under-root : (c : tie.After-full-digits) → let m = c.full-digits.result.significand in let h = c.full-digits.result.exponent in
+under-root : (c : tie.After-full_digits-x) → let m = c.full_digits-x.result.significand in let h = c.full_digits-x.result.exponent in
     (2 ^ 52 ≤ m * 2 ^ (h % 2)) × (m * 2 ^ (h % 2) ≤ 2 ^ 54 - 2)
-under-root c = radicand_in c.full-digits.ensures
+under-root c = radicand_in c.full_digits-x.ensures
 
-found : (c : tie.After-whole-root) → let x = c.before.full-digits.result in
-    WholeRoot (radicand x.significand x.exponent) c.whole-root.result
-found c = subst (λ (n : ℕ). WholeRoot (n * 2 ^ 54) c.whole-root.result) (shifted c.before.full-digits.ensures) c.whole-root.ensures
+found : (c : tie.After-whole_root-q) → let x = c.full_digits-x.result in
+    WholeRoot (radicand x.significand x.exponent) c.whole_root-q.result
+found c = subst (λ (n : ℕ). WholeRoot (n * 2 ^ 54) c.whole_root-q.result) (shifted c.full_digits-x.ensures) c.whole_root-q.ensures
 
-full-digits-requires : tie.Need-full-digits-requires
-full-digits-requires c κs = search rules
+full_digits-x-requires : tie.Need-full_digits-x-requires
+full_digits-x-requires c κs = search rules
 
-shl-n : tie.Need-overflow-shl-n
-shl-n c = search rules
+overflow_shl-n : tie.Need-overflow_shl-n
+overflow_shl-n c = search rules
 
-add-whole-root : tie.Need-overflow-add-whole-root
-add-whole-root c = search rules
+overflow_add-odd : tie.Need-overflow_add-odd
+overflow_add-odd c = search rules
 
-mul-whole-root : tie.Need-overflow-mul-whole-root
-mul-whole-root c = search rules
+overflow_mul-odd : tie.Need-overflow_mul-odd
+overflow_mul-odd c = search rules
 
-add-whole-root-2 : tie.Need-overflow-add-whole-root-2
-add-whole-root-2 c = search rules
+overflow_add-m : tie.Need-overflow_add-m
+overflow_add-m c = search rules
 
-whole-root-requires : tie.Need-whole-root-requires
-whole-root-requires c κs = let r = under-root c in
-    ((omega arith, omega arith), omega (arith, c.full-digits.ensures.short, c.full-digits.ensures.most))
+whole_root-q-requires : tie.Need-whole_root-q-requires
+whole_root-q-requires c κs = let r = under-root c in
+    ((omega arith, omega arith), omega (arith, c.full_digits-x.ensures.short, c.full_digits-x.ensures.most))
 
-sub-result : tie.Need-overflow-sub-result
-sub-result c = search rules
+overflow_sub-result : tie.Need-overflow_sub-result
+overflow_sub-result c = search rules
 
-mul-result : tie.Need-overflow-mul-result
-mul-result c = search rules
+overflow_mul-result : tie.Need-overflow_mul-result
+overflow_mul-result c = search rules
 
-add-result : tie.Need-overflow-add-result
-add-result c = omega (arith, root_in c.before.full-digits.ensures (found c))
+overflow_add-result : tie.Need-overflow_add-result
+overflow_add-result c = omega (arith, root_in c.full_digits-x.ensures (found c))
 
-add-result-2 : tie.Need-overflow-add-result-2
-add-result-2 c = omega (arith, root_in c.before.full-digits.ensures (found c))
+overflow_add-result-2 : tie.Need-overflow_add-result-2
+overflow_add-result-2 c = omega (arith, root_in c.full_digits-x.ensures (found c))
 
-float-from-bits-result : tie.Need-float-from-bits-result
-float-from-bits-result c =
-    let s = c.before.full-digits.ensures in
+float_from_bits-result : tie.Need-float_from_bits-result
+float_from_bits-result c =
+    let s = c.full_digits-x.ensures in
     let r = root_in s (found c) in
     no_nan _ (omega (arith, s.most))
 
 returns : tie.Need-returns
-returns c = sym (root_bits_lem (scaled_square (of_bits binary64 c.before.before.args.bits) c.before.full-digits.ensures) (found c))
+returns c = sym (root_bits_lem (scaled_square (of_bits binary64 c.args.bits) c.full_digits-x.ensures) (found c))
 
-pub positive-root-spec : {M : Type 1} → statement M
-positive-root-spec =
+pub positive_root_spec : {M : Type 1} → statement M
+positive_root_spec =
     tie.close
     (tie.spec
-    full-digits-requires
-    shl-n
-    add-whole-root
-    mul-whole-root
-    add-whole-root-2
-    whole-root-requires
-    sub-result
-    mul-result
-    add-result
-    add-result-2
-    float-from-bits-result
+    full_digits-x-requires
+    overflow_shl-n
+    overflow_add-odd
+    overflow_mul-odd
+    overflow_add-m
+    whole_root-q-requires
+    overflow_sub-result
+    overflow_mul-result
+    overflow_add-result
+    overflow_add-result-2
+    float_from_bits-result
     returns)

@@ -7,50 +7,50 @@ use Rattle.square_root.proofs.Whole.{next_square}
 use Rattle.square_root.proofs.raised.Statement.{statement}
 use Rattle.square_root.proofs.raised.Tie as tie
 
-abbrev invariant-loop : tie.invariant-loop
-invariant-loop n from s₀ s = (n < 2 ^ 54) × (s * s ≤ n) × (s < 2 ^ 27)
+abbrev invariant-loop-s : tie.invariant-loop-s
+invariant-loop-s n from s₀ s = (n < 2 ^ 54) × (s * s ≤ n) × (s < 2 ^ 27)
 
-abbrev decreases-loop : tie.decreases-loop
-decreases-loop n from s₀ s = 2 ^ 27 - s
+abbrev decreases-loop-s : tie.decreases-loop-s
+decreases-loop-s n from s₀ s = 2 ^ 27 - s
 
-loop-holds : tie.Need-loop-init invariant-loop decreases-loop
-loop-holds c = c.requires
+loop-s-init : tie.Need-loop-s-init invariant-loop-s decreases-loop-s
+loop-s-init c = c.requires
 
-mul-loop : tie.Need-overflow-mul-loop invariant-loop decreases-loop
-mul-loop c = omega arith
+overflow_mul-s : tie.Need-overflow_mul-s invariant-loop-s decreases-loop-s
+overflow_mul-s c = omega arith
 
-mul-loop-2 : tie.Need-overflow-mul-loop-2 invariant-loop decreases-loop
-mul-loop-2 c = omega arith
+overflow_mul-s-in-loop-s : tie.Need-overflow_mul-s-in-loop-s invariant-loop-s decreases-loop-s
+overflow_mul-s-in-loop-s c = omega arith
 
-sub-loop : tie.Need-overflow-sub-loop invariant-loop decreases-loop
-sub-loop c = omega arith
+overflow_sub-n : tie.Need-overflow_sub-n invariant-loop-s decreases-loop-s
+overflow_sub-n c = omega arith
 
-add-s : tie.Need-overflow-add-s invariant-loop decreases-loop
-add-s c = omega arith
+overflow_add-s : tie.Need-overflow_add-s invariant-loop-s decreases-loop-s
+overflow_add-s c = omega arith
 
-loop-less : tie.Need-loop-smaller invariant-loop decreases-loop
-loop-less c = omega arith
+loop-s-smaller : tie.Need-loop-s-smaller invariant-loop-s decreases-loop-s
+loop-s-smaller c = omega arith
 
-loop-again : tie.Need-loop-preserved invariant-loop decreases-loop
-loop-again c =
-    let s = c.before.loop.s in
-    let h : (s + 1) * (s + 1) ≤ c.before.before.args.n = omega (arith, next_square s) in
-    (c.before.loop.invariant.0, h, root_lt (s + 1) (2 ^ 27) (lt_of_le_of_lt h c.before.loop.invariant.0))
+loop-s-preserved : tie.Need-loop-s-preserved invariant-loop-s decreases-loop-s
+loop-s-preserved c =
+    let s = c.loop-s.s in
+    let h : (s + 1) * (s + 1) ≤ c.args.n = omega (arith, next_square s) in
+    (c.loop-s.invariant.0, h, root_lt (s + 1) (2 ^ 27) (lt_of_le_of_lt h c.loop-s.invariant.0))
 
-returns : tie.Need-returns invariant-loop decreases-loop
-returns c = record { at_most = c.before.loop.invariant.1; less = omega (arith, next_square c.before.loop.s) }
+returns : tie.Need-returns invariant-loop-s decreases-loop-s
+returns c = record { at_most = c.loop-s.invariant.1; less = omega (arith, next_square c.loop-s.s) }
 
-pub raised-spec : {M : Type 1} → statement M
-raised-spec =
+pub raised_spec : {M : Type 1} → statement M
+raised_spec =
     tie.close
     (tie.spec
-    invariant-loop
-    decreases-loop
-    loop-holds
-    mul-loop
-    mul-loop-2
-    sub-loop
-    add-s
-    loop-less
-    loop-again
+    invariant-loop-s
+    decreases-loop-s
+    loop-s-init
+    overflow_mul-s
+    overflow_mul-s-in-loop-s
+    overflow_sub-n
+    overflow_add-s
+    loop-s-smaller
+    loop-s-preserved
     returns)

@@ -8,38 +8,40 @@ use Rattle.square_root.proofs.Laws.{promised}
 use Rattle.square_root.proofs.sqrt.Statement.{statement}
 use Rattle.square_root.proofs.sqrt.Tie as tie
 
--- places of the proof, each from a later one
-abbrev entry-of-positive-root : tie.After-positive-root → tie.Start
-entry-of-positive-root c = c.before.before.before
-
 double : (c : tie.Start) → T (fits binary64 c.args.x)
-double c = subst T (sym c.well-formed.0.1) tt
+double c = subst T (sym c.well_formed.0.1) tt
 
-positive : (c : tie.Then1) → Above c.before.args.x
-positive c = above c.before.args.x c.if1.true
+positive : (c : tie.Then-x) → Above c.args.x
+positive c = above c.args.x c.if-x.true
 
-float-to-bits-bits : tie.Need-float-to-bits-bits
-float-to-bits-bits c = above_no_nan (positive c)
+float_to_bits-bits : tie.Need-float_to_bits-bits
+float_to_bits-bits c = above_no_nan (positive c)
 
-positive-root-requires : tie.Need-positive-root-requires
-positive-root-requires c κs = (above_bits (positive c.before) (double c.before.before), c.if2.true)
+positive_root-requires : tie.Need-positive_root-requires
+positive_root-requires c κs = (above_bits (positive c.before) (double c.before.before), c.if-bits-lt9218868437227405312.true)
+
+returns-then-bits-lt9218868437227405312 : tie.Need-returns-then-bits-lt9218868437227405312
+returns-then-bits-lt9218868437227405312 c = promised c.args.x (double c.before.before.before)
+    (ap Is c.positive_root.ensures ∙ sym (finite_answer (positive c.before.before) (double c.before.before.before) c.if-bits-lt9218868437227405312.true))
+
+returns-then-x : tie.Need-returns-then-x
+returns-then-x c = promised c.args.x (double c.before.before)
+    (sym (infinite_answer (positive c.before) (double c.before.before) c.if-bits-lt9218868437227405312.false))
+
+returns-then-x-2 : tie.Need-returns-then-x-2
+returns-then-x-2 c = promised c.args.x (double c.before.before) (sym (zero_answer c.args.x c.if-x-2.true))
 
 returns : tie.Need-returns
-returns c = promised (entry-of-positive-root c).args.x (double (entry-of-positive-root c))
-    (ap Is c.positive-root.ensures ∙ sym (finite_answer (positive c.before.before) (double (entry-of-positive-root c)) c.before.if2.true))
+returns-then-bits-lt9218868437227405312 c = promised c.args.x (double c.before.before)
+    (sym (refused_answer c.args.x c.if-x.false c.if-x-2.false))
 
-returns-2 : tie.Need-returns-2
-returns-2 c = promised c.before.before.args.x (double c.before.before)
-    (sym (infinite_answer (positive c.before) (double c.before.before) c.if2.false))
-
-returns-3 : tie.Need-returns-3
-returns-3 c = promised c.before.before.args.x (double c.before.before) (sym (zero_answer c.before.before.args.x c.if3.true))
-
-returns-4 : tie.Need-returns-4
-returns-4 c = promised c.before.before.args.x (double c.before.before)
-    (sym (refused_answer c.before.before.args.x c.before.if1.false c.if3.false))
-
-pub sqrt-spec : {M : Type 1} → statement M
-sqrt-spec =
+pub sqrt_spec : {M : Type 1} → statement M
+sqrt_spec =
     tie.close
-    (tie.spec float-to-bits-bits positive-root-requires returns returns-2 returns-3 returns-4)
+    (tie.spec
+    float_to_bits-bits
+    positive_root-requires
+    returns-then-bits-lt9218868437227405312
+    returns-then-x
+    returns-then-x-2
+    returns)

@@ -1,29 +1,30 @@
 -- `whole_root` meets its contract: near a power of 4 by the line's laws, else by the search.
+use Rattle.std.proofs.Common.{rules}
 use borrow.Author.Rules.{rules}
 use Rattle.square_root.proofs.Whole.{at_power, near_above, near_below}
 use Rattle.square_root.proofs.whole_root.Statement.{statement}
 use Rattle.square_root.proofs.whole_root.Tie as tie
 
-returns : tie.Need-returns
-returns c = at_power _ c.if1.true
+returns-then-n-eq4503599627370496 : tie.Need-returns-then-n-eq4503599627370496
+returns-then-n-eq4503599627370496 c = at_power _ c.if-n-eq4503599627370496.true
 
-add-result : tie.Need-overflow-add-result
-add-result c = search rules
+overflow_add-result : tie.Need-overflow_add-result
+overflow_add-result c = search rules
 
-returns-2 : tie.Need-returns-2
-returns-2 c = near_above _ c.before.before.requires.0.0 c.before.if1.false c.if2.true
+returns-then-n-le4503599761588224 : tie.Need-returns-then-n-le4503599761588224
+returns-then-n-le4503599761588224 c = near_above _ c.requires.bound.0 c.if-n-eq4503599627370496.false c.if-n-le4503599761588224.true
 
-sub-result : tie.Need-overflow-sub-result
-sub-result c = search rules
+overflow_sub-result : tie.Need-overflow_sub-result
+overflow_sub-result c = search rules
 
-sub-result-2 : tie.Need-overflow-sub-result-2
-sub-result-2 c = search rules
+overflow_sub-result-then-n-ge18014398375264256 : tie.Need-overflow_sub-result-then-n-ge18014398375264256
+overflow_sub-result-then-n-ge18014398375264256 c = search rules
 
-returns-3 : tie.Need-returns-3
-returns-3 c = near_below _ c.before.before.before.requires.0.1 c.if3.true
+returns-then-n-ge18014398375264256 : tie.Need-returns-then-n-ge18014398375264256
+returns-then-n-ge18014398375264256 c = near_below _ c.requires.bound.1 c.if-n-ge18014398375264256.true
 
-guess-root-requires : tie.Need-guess-root-requires
-guess-root-requires c κs = search rules
+guess_root-requires : tie.Need-guess_root-requires
+guess_root-requires c κs = search rules
 
 lowered-requires : tie.Need-lowered-requires
 lowered-requires c κs = search rules
@@ -34,21 +35,21 @@ raised-requires c κs = search rules
 extended-requires : tie.Need-extended-requires
 extended-requires c κs = search rules
 
-returns-4 : tie.Need-returns-4
-returns-4 c = search rules
+returns : tie.Need-returns
+returns-then-n-eq4503599627370496 c = search rules
 
-pub whole-root-spec : {M : Type 1} → statement M
-whole-root-spec =
+pub whole_root_spec : {M : Type 1} → statement M
+whole_root_spec =
     tie.close
     (tie.spec
-    returns
-    add-result
-    returns-2
-    sub-result
-    sub-result-2
-    returns-3
-    guess-root-requires
+    returns-then-n-eq4503599627370496
+    overflow_add-result
+    returns-then-n-le4503599761588224
+    overflow_sub-result
+    overflow_sub-result-then-n-ge18014398375264256
+    returns-then-n-ge18014398375264256
+    guess_root-requires
     lowered-requires
     raised-requires
     extended-requires
-    returns-4)
+    returns)

@@ -1,4 +1,5 @@
 -- `answer_graph` meets its contract: a part of each local array has its length, and what the match of the graph leaves in them is printed.
+use Rattle.std.proofs.Common.{rules}
 use mathlib.Core.Path.{◌≡◌, sym, ◌∙◌}
 use mathlib.Core.List.{List}
 use Prim.Native.Nat.{ℕ, ◌≤◌}
@@ -12,96 +13,74 @@ use Rattle.text_answer.proofs.Reports.{rows_printable, columns_printable, text_i
 use Rattle.text_answer.proofs.answer_graph.Statement.{statement}
 use Rattle.text_answer.proofs.answer_graph.Tie as tie
 
--- places of the proof, each from a later one
-abbrev entry-of-perm : tie.After-perm → tie.Start
-entry-of-perm c = c.before.before.before.before.before
-
-abbrev entry-of-v : tie.After-v → tie.Start
-entry-of-v c = entry-of-perm c.before.before
-
-abbrev entry-of-fwork : tie.After-fwork → tie.Start
-entry-of-fwork c = entry-of-v c.before.before
-
-abbrev entry-of-solve : tie.After-solve → tie.Start
-entry-of-solve c = entry-of-fwork c.before
-
-abbrev solve-of-counts : tie.After-put-counts → tie.After-solve
-solve-of-counts c = c.before.before.before.before.before.before.before
-
-abbrev counts-of-v3 : tie.After-v3 → tie.After-put-counts
-counts-of-v3 c = c.before.before.before.before
-
-abbrev counts-of-arg : tie.After-put-form-arg → tie.After-put-counts
-counts-of-arg c = counts-of-v3 c.before.before
-
 -- ---- what the match leaves
-abbrev order : tie.After-solve → ℕ
-order c = (entry-of-solve c).args.n
+abbrev order : tie.After-solve-found → ℕ
+order c = c.args.n
 
-abbrev perm-left : tie.After-solve → List ℕ
-perm-left c = c.solve.new.1.1.1.1.0
+abbrev perm-left : tie.After-solve-found → List ℕ
+perm-left c = c.solve-found.new.perm
 
-abbrev u-left : tie.After-solve → List Float
-u-left c = c.solve.new.1.1.1.1.1.0
+abbrev u-left : tie.After-solve-found → List Float
+u-left c = c.solve-found.new.u
 
-abbrev v-left : tie.After-solve → List Float
-v-left c = c.solve.new.1.1.1.1.1.1.0
+abbrev v-left : tie.After-solve-found → List Float
+v-left c = c.solve-found.new.v
 
-few : (c : tie.After-solve) → order c ≤ 64
-few c = (entry-of-solve c).pre.few
+few : (c : tie.After-solve-found) → order c ≤ 64
+few c = c.requires.few
 
-perm-long : (c : tie.After-solve) → length (perm-left c) ≡ order c
-perm-long c = c.solve.auto.1.1.1.1.0 ∙ part_length _ 64 _ (few c)
+perm-long : (c : tie.After-solve-found) → length (perm-left c) ≡ order c
+perm-long c = c.solve-found.auto.perm ∙ part_length _ 64 _ (few c)
 
-u-long : (c : tie.After-solve) → length (u-left c) ≡ order c
-u-long c = c.solve.auto.1.1.1.1.1.0 ∙ part_length _ 64 _ (few c)
+u-long : (c : tie.After-solve-found) → length (u-left c) ≡ order c
+u-long c = c.solve-found.auto.u ∙ part_length _ 64 _ (few c)
 
-v-long : (c : tie.After-solve) → length (v-left c) ≡ order c
-v-long c = c.solve.auto.1.1.1.1.1.1.0 ∙ part_length _ 64 _ (few c)
+v-long : (c : tie.After-solve-found) → length (v-left c) ≡ order c
+v-long c = c.solve-found.auto.v ∙ part_length _ 64 _ (few c)
 
 -- ---- the needs
-array-borrow-prefix-perm : tie.Need-array-borrow-prefix-perm
-array-borrow-prefix-perm c = search rules
+slice_bounds-perm-end : tie.Need-slice_bounds-perm-end
+slice_bounds-perm-end c = search rules
 
-slice-aggregate-solve : tie.Need-slice-aggregate-solve
-slice-aggregate-solve c = sym (part_length _ 64 _ (omega (arith, (entry-of-perm c).pre.few)))
+slice_bounds-solve-end : tie.Need-slice_bounds-solve-end
+slice_bounds-solve-end c = sym (part_length _ 64 _ (omega (arith, c.requires.few)))
 
-array-borrow-prefix-u : tie.Need-array-borrow-prefix-u
-array-borrow-prefix-u c = search rules
+slice_bounds-u-end : tie.Need-slice_bounds-u-end
+slice_bounds-u-end c = search rules
 
-slice-aggregate-solve-2 : tie.Need-slice-aggregate-solve-2
-slice-aggregate-solve-2 c = sym (part_length _ 64 _ (omega (arith, (entry-of-perm c.before).pre.few)))
+slice_bounds-solve-end-2 : tie.Need-slice_bounds-solve-end-2
+slice_bounds-solve-end-2 c = sym (part_length _ 64 _ (omega (arith, c.requires.few)))
 
-array-borrow-prefix-v : tie.Need-array-borrow-prefix-v
-array-borrow-prefix-v c = search rules
+slice_bounds-v-end : tie.Need-slice_bounds-v-end
+slice_bounds-v-end c = search rules
 
-slice-aggregate-solve-3 : tie.Need-slice-aggregate-solve-3
-slice-aggregate-solve-3 c = sym (part_length _ 64 _ (omega (arith, (entry-of-v c).pre.few)))
+slice_bounds-solve-end-3 : tie.Need-slice_bounds-solve-end-3
+slice_bounds-solve-end-3 c = sym (part_length _ 64 _ (omega (arith, c.requires.few)))
 
-mul-work : tie.Need-overflow-mul-work
-mul-work c = omega (arith, (entry-of-v c).pre.few)
+overflow_mul-work : tie.Need-overflow_mul-work
+overflow_mul-work c = omega (arith, c.requires.few)
 
-add-work : tie.Need-overflow-add-work
-add-work c = omega (arith, (entry-of-v c).pre.few)
+overflow_add-work : tie.Need-overflow_add-work
+overflow_add-work c = omega (arith, c.requires.few)
 
-array-borrow-prefix-work : tie.Need-array-borrow-prefix-work
-array-borrow-prefix-work c = search rules
+slice_bounds-work-end : tie.Need-slice_bounds-work-end
+slice_bounds-work-end c = search rules
 
-slice-aggregate-solve-4 : tie.Need-slice-aggregate-solve-4
-slice-aggregate-solve-4 c = sym (part_length _ 769 _ (omega (arith, (entry-of-v c.before).pre.few)))
+slice_bounds-solve-end-4 : tie.Need-slice_bounds-solve-end-4
+slice_bounds-solve-end-4 c = sym (part_length _ 769 _ (omega (arith, c.requires.few)))
 
-mul-fwork : tie.Need-overflow-mul-fwork
-mul-fwork c = omega (arith, (entry-of-v c.before).pre.few)
+overflow_mul-fwork : tie.Need-overflow_mul-fwork
+overflow_mul-fwork c = omega (arith, c.requires.few)
 
-array-borrow-prefix-fwork : tie.Need-array-borrow-prefix-fwork
-array-borrow-prefix-fwork c = search rules
+slice_bounds-fwork-end : tie.Need-slice_bounds-fwork-end
+slice_bounds-fwork-end c = search rules
 
-slice-aggregate-solve-5 : tie.Need-slice-aggregate-solve-5
-slice-aggregate-solve-5 c = sym (part_length _ 128 _ (omega (arith, (entry-of-fwork c).pre.few)))
+slice_bounds-solve-end-5 : tie.Need-slice_bounds-solve-end-5
+slice_bounds-solve-end-5 c = sym (part_length _ 128 _ (omega (arith, c.requires.few)))
 
-solve-requires : tie.Need-solve-requires
-solve-requires c κs =
-    let pre = (entry-of-fwork c).pre in
+solve-found-requires : tie.Need-solve-found-requires
+solve-found-requires c κs =
+    let pre = c.requires in
     record {
       accepted = pre.accepted;
       perms = part_length _ 64 _ (omega (arith, pre.few));
@@ -111,62 +90,55 @@ solve-requires c κs =
       values = part_length _ 128 _ (omega (arith, pre.few));
     }
 
-slice-aggregate-put-counts : tie.Need-slice-aggregate-put-counts
-slice-aggregate-put-counts c = search rules
+slice_bounds-put_counts-end : tie.Need-slice_bounds-put_counts-end
+slice_bounds-put_counts-end c = search rules
 
-put-counts-requires : tie.Need-put-counts-requires
-put-counts-requires c κs = search rules
+put_counts-requires : tie.Need-put_counts-requires
+put_counts-requires c κs = search rules
 
-array-share-prefix-perm : tie.Need-array-share-prefix-perm
-array-share-prefix-perm c = let solve = solve-of-counts c.before in part_within _ 64 _ (perm-left solve) (few solve) solve.solve.kept.1.1.1.1.0
+slice_bounds-perm-end-2 : tie.Need-slice_bounds-perm-end-2
+slice_bounds-perm-end-2 c = part_within _ 64 _ (perm-left c.before.before.before.before.before.before.before.before) (few c.before.before.before.before.before.before.before.before) c.solve-found.kept.1.1.1.1.0
 
-slice-aggregate-put-form : tie.Need-slice-aggregate-put-form
-slice-aggregate-put-form c =
-    let solve = solve-of-counts c.before.before in
-    sym (part_again _ 64 _ (perm-left solve) (few solve) solve.solve.kept.1.1.1.1.0)
+slice_bounds-put_form-end : tie.Need-slice_bounds-put_form-end
+slice_bounds-put_form-end c =
+    sym (part_again _ 64 _ (perm-left c.before.before.before.before.before.before.before.before.before) (few c.before.before.before.before.before.before.before.before.before) c.solve-found.kept.1.1.1.1.0)
 
-array-share-prefix-u : tie.Need-array-share-prefix-u
-array-share-prefix-u c =
-    let solve = solve-of-counts c.before.before in
-    part_within _ 64 _ (u-left solve) (few solve) solve.solve.kept.1.1.1.1.1.0
+slice_bounds-u-end-2 : tie.Need-slice_bounds-u-end-2
+slice_bounds-u-end-2 c =
+    part_within _ 64 _ (u-left c.before.before.before.before.before.before.before.before.before) (few c.before.before.before.before.before.before.before.before.before) c.solve-found.kept.1.1.1.1.1.0
 
-slice-aggregate-put-form-2 : tie.Need-slice-aggregate-put-form-2
-slice-aggregate-put-form-2 c =
-    let solve = solve-of-counts c.before.before.before in
-    sym (part_again _ 64 _ (u-left solve) (few solve) solve.solve.kept.1.1.1.1.1.0)
+slice_bounds-put_form-end-2 : tie.Need-slice_bounds-put_form-end-2
+slice_bounds-put_form-end-2 c =
+    sym (part_again _ 64 _ (u-left c.before.before.before.before.before.before.before.before.before.before) (few c.before.before.before.before.before.before.before.before.before.before) c.solve-found.kept.1.1.1.1.1.0)
 
-array-share-prefix-v : tie.Need-array-share-prefix-v
-array-share-prefix-v c =
-    let solve = solve-of-counts c.before.before.before in
-    part_within _ 64 _ (v-left solve) (few solve) solve.solve.kept.1.1.1.1.1.1.0
+slice_bounds-v-end-2 : tie.Need-slice_bounds-v-end-2
+slice_bounds-v-end-2 c =
+    part_within _ 64 _ (v-left c.before.before.before.before.before.before.before.before.before.before) (few c.before.before.before.before.before.before.before.before.before.before) c.solve-found.kept.1.1.1.1.1.1.0
 
-slice-aggregate-put-form-3 : tie.Need-slice-aggregate-put-form-3
-slice-aggregate-put-form-3 c =
-    let solve = solve-of-counts (counts-of-v3 c) in
-    sym (part_again _ 64 _ (v-left solve) (few solve) solve.solve.kept.1.1.1.1.1.1.0)
+slice_bounds-put_form-end-3 : tie.Need-slice_bounds-put_form-end-3
+slice_bounds-put_form-end-3 c =
+    sym (part_again _ 64 _ (v-left c.before.before.before.before.before.before.before.before.before.before.before) (few c.before.before.before.before.before.before.before.before.before.before.before) c.solve-found.kept.1.1.1.1.1.1.0)
 
-slice-aggregate-put-form-4 : tie.Need-slice-aggregate-put-form-4
-slice-aggregate-put-form-4 c = search rules
+slice_bounds-put_form-end-4 : tie.Need-slice_bounds-put_form-end-4
+slice_bounds-put_form-end-4 c = search rules
 
-put-form-requires : tie.Need-put-form-requires
-put-form-requires c κs =
-    let counts = counts-of-arg c in
-    let solve = solve-of-counts counts in
-    let pre = (entry-of-solve solve).pre in (
+put_form-requires : tie.Need-put_form-requires
+put_form-requires c κs =
+    let pre = c.requires in (
       pre.few,
       (
-        part_again _ 64 _ (perm-left solve) (few solve) solve.solve.kept.1.1.1.1.0,
+        part_again _ 64 _ (perm-left c.before.before.before.before.before.before.before.before.before.before.before.before.before) (few c.before.before.before.before.before.before.before.before.before.before.before.before.before) c.solve-found.kept.1.1.1.1.0,
         (
-          part_again _ 64 _ (u-left solve) (few solve) solve.solve.kept.1.1.1.1.1.0,
+          part_again _ 64 _ (u-left c.before.before.before.before.before.before.before.before.before.before.before.before.before) (few c.before.before.before.before.before.before.before.before.before.before.before.before.before) c.solve-found.kept.1.1.1.1.1.0,
           (
-            part_again _ 64 _ (v-left solve) (few solve) solve.solve.kept.1.1.1.1.1.1.0,
+            part_again _ 64 _ (v-left c.before.before.before.before.before.before.before.before.before.before.before.before.before) (few c.before.before.before.before.before.before.before.before.before.before.before.before.before) c.solve-found.kept.1.1.1.1.1.1.0,
             (
-              counts.put-counts.kept.0,
+              c.put_counts.kept.0,
               (
                 omega (arith, pre.room),
                 (
-                  rows_printable pre solve.solve.ensures (take_at (u-left solve) _ _ (u-long solve)),
-                  columns_printable pre solve.solve.ensures (take_at (v-left solve) _ _ (v-long solve)),
+                  rows_printable pre c.solve-found.ensures (take_at (u-left c.before.before.before.before.before.before.before.before.before.before.before.before.before) _ _ (u-long c.before.before.before.before.before.before.before.before.before.before.before.before.before)),
+                  columns_printable pre c.solve-found.ensures (take_at (v-left c.before.before.before.before.before.before.before.before.before.before.before.before.before) _ _ (v-long c.before.before.before.before.before.before.before.before.before.before.before.before.before)),
                 ),
               ),
             ),
@@ -175,48 +147,45 @@ put-form-requires c κs =
       ),
     )
 
-same_length_lem : tie.Need-same-length
-same_length_lem c = search rules
+shape_of-output : tie.Need-shape_of-output
+shape_of-output c = search rules
 
 returns : tie.Need-returns
 returns c =
-    let put = c.before.before in
-    let counts = counts-of-arg put.before in
-    let solve = solve-of-counts counts in
-    let entry = entry-of-solve solve in (
-      wrote _ (text_is entry.pre solve.solve.ensures entry.args.form (take_at (perm-left solve) _ _ (perm-long solve))
-          (take_at (u-left solve) _ _ (u-long solve)) (take_at (v-left solve) _ _ (v-long solve)) counts.put-counts.ensures)
-          put.put-form.ensures.0 put.put-form.ensures.1.0,
-      put.put-form.ensures.1.1,
+    (
+      wrote _ (text_is c.requires c.solve-found.ensures c.args.form (take_at (perm-left c.before.before.before.before.before.before.before.before.before.before.before.before.before.before.before.before) _ _ (perm-long c.before.before.before.before.before.before.before.before.before.before.before.before.before.before.before.before))
+          (take_at (u-left c.before.before.before.before.before.before.before.before.before.before.before.before.before.before.before.before) _ _ (u-long c.before.before.before.before.before.before.before.before.before.before.before.before.before.before.before.before)) (take_at (v-left c.before.before.before.before.before.before.before.before.before.before.before.before.before.before.before.before) _ _ (v-long c.before.before.before.before.before.before.before.before.before.before.before.before.before.before.before.before)) c.put_counts.ensures)
+          c.put_form.ensures.text c.put_form.ensures.length,
+      c.put_form.ensures.fits,
     )
 
-pub answer-graph-spec : {M : Type 1} → statement M
-answer-graph-spec =
+pub answer_graph_spec : {M : Type 1} → statement M
+answer_graph_spec =
     tie.close
     (tie.spec
-    array-borrow-prefix-perm
-    slice-aggregate-solve
-    array-borrow-prefix-u
-    slice-aggregate-solve-2
-    array-borrow-prefix-v
-    slice-aggregate-solve-3
-    mul-work
-    add-work
-    array-borrow-prefix-work
-    slice-aggregate-solve-4
-    mul-fwork
-    array-borrow-prefix-fwork
-    slice-aggregate-solve-5
-    solve-requires
-    slice-aggregate-put-counts
-    put-counts-requires
-    array-share-prefix-perm
-    slice-aggregate-put-form
-    array-share-prefix-u
-    slice-aggregate-put-form-2
-    array-share-prefix-v
-    slice-aggregate-put-form-3
-    slice-aggregate-put-form-4
-    put-form-requires
-    same_length_lem
+    slice_bounds-perm-end
+    slice_bounds-solve-end
+    slice_bounds-u-end
+    slice_bounds-solve-end-2
+    slice_bounds-v-end
+    slice_bounds-solve-end-3
+    overflow_mul-work
+    overflow_add-work
+    slice_bounds-work-end
+    slice_bounds-solve-end-4
+    overflow_mul-fwork
+    slice_bounds-fwork-end
+    slice_bounds-solve-end-5
+    solve-found-requires
+    slice_bounds-put_counts-end
+    put_counts-requires
+    slice_bounds-perm-end-2
+    slice_bounds-put_form-end
+    slice_bounds-u-end-2
+    slice_bounds-put_form-end-2
+    slice_bounds-v-end-2
+    slice_bounds-put_form-end-3
+    slice_bounds-put_form-end-4
+    put_form-requires
+    shape_of-output
     returns)

@@ -1,4 +1,5 @@
 -- `answer_input` meets its contract: what was read, by the two cases of the verdict.
+use Rattle.std.proofs.Common.{rules}
 use mathlib.Core.Path.{◌≡◌, sym, ap, ◌∙◌}
 use mathlib.Core.List.{List}
 use Prim.Native.Nat.{ℕ}
@@ -14,153 +15,123 @@ use Rattle.text_answer.proofs.answer_input.Statement.{statement}
 use Rattle.text_answer.proofs.answer_input.Tie as tie
 
 -- ---- what was read
-abbrev to_read : tie.After-known-told → tie.After-read-file
-to_read c = c.before.before.before.before.before.before
+abbrev after : tie.After-read_file-verdict → Lists
+after c = lists c.read_file-verdict.new.rows c.read_file-verdict.new.columns c.read_file-verdict.new.weights
 
-abbrev after : tie.After-read-file → Lists
-after c = lists c.read-file.new.1.0 c.read-file.new.1.1.0 c.read-file.new.1.1.1.0
+places : (c : tie.After-read_file-verdict) → Places max_entries (after c)
+places c = (omega (arith, c.read_file-verdict.auto.rows), omega (arith, c.read_file-verdict.auto.columns), omega (arith, c.read_file-verdict.auto.weights))
 
--- places of the proof, each from a later one
-abbrev entry-of-read-file : tie.After-read-file → tie.Start
-entry-of-read-file c = c.before.before.before.before.before.before
+abbrev input_of : tie.After-read_file-verdict → List ℕ
+input_of c = c.args.input.now
 
-abbrev read-file-of-verdict2 : tie.After-verdict2 → tie.After-read-file
-read-file-of-verdict2 c = c.before.before.before.before.before
+abbrev count_of : tie.In-File → ℕ
+count_of c = c.verdict-1.given.0.1.1.0
 
-abbrev entry-of-verdict2 : tie.After-verdict2 → tie.Start
-entry-of-verdict2 c = entry-of-read-file (read-file-of-verdict2 c)
+held : (c : tie.In-File) → file c.verdict-1.given.0.0 c.verdict-1.given.0.1.0
+    (first_entries (count_of c) (after c.before.before.before.before.before.before)) ≡ reading_of (input_of c.before.before.before.before.before.before)
+held c = by_verdict (after c.before.before.before.before.before.before) c.verdict-1.given.1 c.read_file-verdict.ensures.reading
 
-abbrev read-file-of-known-told : tie.After-known-told → tie.After-read-file
-read-file-of-known-told c = c.before.before.before.before.before.before
-
-abbrev entry-of-known-told : tie.After-known-told → tie.Start
-entry-of-known-told c = entry-of-read-file (read-file-of-known-told c)
-
-abbrev known-told-of-slice-known2 : tie.After-slice-known2 → tie.After-known-told
-known-told-of-slice-known2 c = c.before.before.before.before.before.before.before
-
-abbrev read-file-of-slice-known2 : tie.After-slice-known2 → tie.After-read-file
-read-file-of-slice-known2 c = read-file-of-known-told (known-told-of-slice-known2 c)
-
-abbrev entry-of-slice-known2 : tie.After-slice-known2 → tie.Start
-entry-of-slice-known2 c = entry-of-known-told (known-told-of-slice-known2 c)
-
-places : (c : tie.After-read-file) → Places max_entries (after c)
-places c = (omega (arith, c.read-file.auto.1.0), omega (arith, c.read-file.auto.1.1.0), omega (arith, c.read-file.auto.1.1.1.0))
-
-abbrev input_of : tie.After-read-file → List ℕ
-input_of c = c.before.before.before.before.before.before.args.input.now
-
-abbrev count_of : tie.After-known-told → ℕ
-count_of c = c.before.verdict.given.0.1.1.0
-
-held : (c : tie.After-known-told) → file c.before.verdict.given.0.0 c.before.verdict.given.0.1.0
-    (first_entries (count_of c) (after (to_read c))) ≡ reading_of (input_of (to_read c))
-held c = by_verdict (after (to_read c)) c.before.verdict.given.1 (to_read c).read-file.ensures.0
-
-fits : (c : tie.After-known-told) → Places (count_of c) (after (to_read c))
-fits c = count_fits (count_of c) (input_of (to_read c)) (after (to_read c)) (held c) (places (to_read c))
+fits : (c : tie.In-File) → Places (count_of c) (after c.before.before.before.before.before.before)
+fits c = count_fits (count_of c) (input_of c.before.before.before.before.before.before) (after c.before.before.before.before.before.before) (held c) (places c.before.before.before.before.before.before)
 
 -- ---- the needs
-slice-aggregate-read-file : tie.Need-slice-aggregate-read-file
-slice-aggregate-read-file c = search rules
+slice_bounds-read_file-end : tie.Need-slice_bounds-read_file-end
+slice_bounds-read_file-end c = search rules
 
-slice-aggregate-read-file-2 : tie.Need-slice-aggregate-read-file-2
-slice-aggregate-read-file-2 c = search rules
+slice_bounds-read_file-end-2 : tie.Need-slice_bounds-read_file-end-2
+slice_bounds-read_file-end-2 c = search rules
 
-slice-aggregate-read-file-3 : tie.Need-slice-aggregate-read-file-3
-slice-aggregate-read-file-3 c = search rules
+slice_bounds-read_file-end-3 : tie.Need-slice_bounds-read_file-end-3
+slice_bounds-read_file-end-3 c = search rules
 
-read-file-requires : tie.Need-read-file-requires
-read-file-requires c κs = search rules
+read_file-verdict-requires : tie.Need-read_file-verdict-requires
+read_file-verdict-requires c κs = search rules
 
-enum-known-verdict : tie.Need-enum-known-verdict
-enum-known-verdict c = search rules
+enum_known-verdict : tie.Need-enum_known-verdict
+enum_known-verdict c = search rules
 
-cast-size : tie.Need-overflow-cast-size
-cast-size c = search rules
+overflow_cast-size : tie.Need-overflow_cast-size
+overflow_cast-size c = search rules
 
-array-share-prefix-rows : tie.Need-array-share-prefix-rows
-array-share-prefix-rows c = (fits (c)).0
+slice_bounds-rows-end : tie.Need-slice_bounds-rows-end
+slice_bounds-rows-end c = (fits (c)).0
 
-slice-aggregate-answer-entries : tie.Need-slice-aggregate-answer-entries
-slice-aggregate-answer-entries c = sym (length-take-le _ _ (fits c.before).0)
+slice_bounds-answer_entries-end : tie.Need-slice_bounds-answer_entries-end
+slice_bounds-answer_entries-end c = sym (length-take-le _ _ (fits c.before).0)
 
-array-share-prefix-cols : tie.Need-array-share-prefix-cols
-array-share-prefix-cols c = (fits c.before).1
+slice_bounds-cols-end : tie.Need-slice_bounds-cols-end
+slice_bounds-cols-end c = (fits c.before).1
 
-slice-aggregate-answer-entries-2 : tie.Need-slice-aggregate-answer-entries-2
-slice-aggregate-answer-entries-2 c = sym (length-take-le _ _ (fits c.before.before).1)
+slice_bounds-answer_entries-end-in-File : tie.Need-slice_bounds-answer_entries-end-in-File
+slice_bounds-answer_entries-end-in-File c = sym (length-take-le _ _ (fits c.before.before).1)
 
-array-share-prefix-weights : tie.Need-array-share-prefix-weights
-array-share-prefix-weights c = (fits c.before.before).2
+slice_bounds-weights-end : tie.Need-slice_bounds-weights-end
+slice_bounds-weights-end c = (fits c.before.before).2
 
-slice-aggregate-answer-entries-3 : tie.Need-slice-aggregate-answer-entries-3
-slice-aggregate-answer-entries-3 c = sym (length-take-le _ _ (fits c.before.before.before).2)
+slice_bounds-answer_entries-end-in-File-2 : tie.Need-slice_bounds-answer_entries-end-in-File-2
+slice_bounds-answer_entries-end-in-File-2 c = sym (length-take-le _ _ (fits c.before.before.before).2)
 
-answer-entries-requires : tie.Need-answer-entries-requires
-answer-entries-requires c κs =
-    let read-file = read-file-of-known-told c.before.before.before.before in
-    entries_are (count_of c.before.before.before.before) (input_of (read-file)) (after (read-file)) (held c.before.before.before.before)
-    (places (read-file)) (entry-of-known-told c.before.before.before.before).pre
+answer_entries-requires : tie.Need-answer_entries-requires
+answer_entries-requires c κs =
+    entries_are (count_of c.before.before.before.before) (input_of (c.before.before.before.before.before.before.before.before.before.before)) (after (c.before.before.before.before.before.before.before.before.before.before)) (held c.before.before.before.before)
+    (places (c.before.before.before.before.before.before.before.before.before.before)) c.requires
 
-enum-known-verdict-2 : tie.Need-enum-known-verdict-2
-enum-known-verdict-2 c = search rules
+enum_known-verdict-in-Refused-1 : tie.Need-enum_known-verdict-in-Refused-1
+enum_known-verdict-in-Refused-1 c = search rules
 
-put-refused-requires : tie.Need-put-refused-requires
-put-refused-requires c κs = search rules
+put_refused-requires : tie.Need-put_refused-requires
+put_refused-requires c κs = search rules
 
-same_length_lem : tie.Need-same-length
-same_length_lem c = search rules
+shape_of-output-in-File : tie.Need-shape_of-output-in-File
+shape_of-output-in-File c = search rules
 
-returns : tie.Need-returns
-returns c =
-    let known-told = known-told-of-slice-known2 c in
-    let read-file = read-file-of-slice-known2 c in (
-      c.before.before.answer-entries.ensures.0 ∙ ap (λ (text : List ℕ). report_written text
-          (entry-of-slice-known2 c).args.output.now) (text_is (count_of (known-told)) (input_of (read-file)) (after (read-file))
-          (held (known-told)) (places (read-file)) (entry-of-slice-known2 c).args.form),
-      c.before.before.answer-entries.ensures.1,
+returns-in-File : tie.Need-returns-in-File
+returns-in-File c =
+    (
+      c.answer_entries.ensures.text ∙ ap (λ (text : List ℕ). report_written text
+          c.args.output.now) (text_is (count_of (c.before.before.before.before.before.before.before)) (input_of (c.before.before.before.before.before.before.before.before.before.before.before.before.before)) (after (c.before.before.before.before.before.before.before.before.before.before.before.before.before))
+          (held (c.before.before.before.before.before.before.before)) (places (c.before.before.before.before.before.before.before.before.before.before.before.before.before)) c.args.form),
+      c.answer_entries.ensures.fits,
     )
 
-same-length-2 : tie.Need-same-length-2
-same-length-2 c = search rules
+shape_of-output-in-Refused : tie.Need-shape_of-output-in-Refused
+shape_of-output-in-Refused c = search rules
 
-returns-2 : tie.Need-returns-2
-returns-2 c =
-    let read-file = read-file-of-verdict2 c.before.before.before.before.before in (
-      wrote _ (refused_text_lem (entry-of-verdict2 c.before.before.before.before.before).args.form _
-          (by_verdict (after (read-file)) c.before.before.before.before.before.verdict2.given.1
-          read-file.read-file.ensures.0)) c.before.before.Put-refused.ensures.0
-          c.before.before.Put-refused.ensures.1.0,
+returns-in-Refused : tie.Need-returns-in-Refused
+returns-in-Refused c =
+    (
+      wrote _ (refused_text_lem c.args.form _
+          (by_verdict (after (c.before.before.before.before.before.before.before.before.before.before)) c.verdict-in-Refused-1.given.1
+          c.read_file-verdict.ensures.reading)) c.put_refused.ensures.text
+          c.put_refused.ensures.length,
       omega (
         arith,
-        c.before.before.Put-refused.ensures.1.1,
-        c.before.before.Put-refused.auto.1.0,
-        (entry-of-verdict2 c.before.before.before.before.before).pre,
+        c.put_refused.ensures.fits,
+        c.put_refused.auto.out,
+        c.requires,
       ),
     )
 
-pub answer-input-spec : {M : Type 1} → statement M
-answer-input-spec =
+pub answer_input_spec : {M : Type 1} → statement M
+answer_input_spec =
     tie.close
     (tie.spec
-    slice-aggregate-read-file
-    slice-aggregate-read-file-2
-    slice-aggregate-read-file-3
-    read-file-requires
-    enum-known-verdict
-    cast-size
-    array-share-prefix-rows
-    slice-aggregate-answer-entries
-    array-share-prefix-cols
-    slice-aggregate-answer-entries-2
-    array-share-prefix-weights
-    slice-aggregate-answer-entries-3
-    answer-entries-requires
-    enum-known-verdict-2
-    put-refused-requires
-    same_length_lem
-    returns
-    same-length-2
-    returns-2)
+    slice_bounds-read_file-end
+    slice_bounds-read_file-end-2
+    slice_bounds-read_file-end-3
+    read_file-verdict-requires
+    enum_known-verdict
+    overflow_cast-size
+    slice_bounds-rows-end
+    slice_bounds-answer_entries-end
+    slice_bounds-cols-end
+    slice_bounds-answer_entries-end-in-File
+    slice_bounds-weights-end
+    slice_bounds-answer_entries-end-in-File-2
+    answer_entries-requires
+    enum_known-verdict-in-Refused-1
+    put_refused-requires
+    shape_of-output-in-File
+    returns-in-File
+    shape_of-output-in-Refused
+    returns-in-Refused)

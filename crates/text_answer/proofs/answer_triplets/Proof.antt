@@ -1,4 +1,5 @@
 -- `answer_triplets` meets its contract: the entries are assembled in parts of the local arrays, and the kept count tells the case.
+use Rattle.std.proofs.Common.{rules}
 use mathlib.Core.Path.{◌≡◌, sym, ap, ◌∙◌}
 use mathlib.Core.List.{List}
 use Prim.Native.Nat.{ℕ, ◌+◌, ◌≤◌}
@@ -14,207 +15,172 @@ use Rattle.text_answer.proofs.Assembly.{sized, roomy, repeated_text, reportable,
 use Rattle.text_answer.proofs.answer_triplets.Statement.{statement}
 use Rattle.text_answer.proofs.answer_triplets.Tie as tie
 
--- places of the proof, each from a later one
-abbrev entry-of-col-ptr : tie.After-col-ptr → tie.Start
-entry-of-col-ptr c = c.before.before.before.before.before
-
-abbrev entry-of-cost : tie.After-cost → tie.Start
-entry-of-cost c = entry-of-col-ptr c.before.before
-
-abbrev entry-of-assemble : tie.After-assemble → tie.Start
-entry-of-assemble c = entry-of-cost c.before.before
-
-abbrev assemble-of-test : tie.After-work2 → tie.After-assemble
-assemble-of-test c = c.before.before.before.before
-
-abbrev assemble-of-some : tie.Then1 → tie.After-assemble
-assemble-of-some c = assemble-of-test c.before
-
-abbrev assemble-of-none : tie.Else1 → tie.After-assemble
-assemble-of-none c = assemble-of-test c.before
-
-abbrev none-of-arg : tie.After-answer-graph-arg → tie.Else1
-none-of-arg c = c.before.before.before.before
-
 -- ---- what is assembled
-abbrev order : tie.After-assemble → ℕ
-order c = (entry-of-assemble c).args.n
+abbrev order : tie.After-assemble-kept → ℕ
+order c = c.args.n
 
-abbrev count : tie.After-assemble → ℕ
-count c = length (entry-of-assemble c).args.rows.now
+abbrev count : tie.After-assemble-kept → ℕ
+count c = length c.args.rows.now
 
-abbrev pointers : tie.After-assemble → List ℕ
-pointers c = c.assemble.new.1.1.1.1.0
+abbrev pointers : tie.After-assemble-kept → List ℕ
+pointers c = c.assemble-kept.new.col_ptr
 
-abbrev rows_left : tie.After-assemble → List ℕ
-rows_left c = c.assemble.new.1.1.1.1.1.0
+abbrev rows_left : tie.After-assemble-kept → List ℕ
+rows_left c = c.assemble-kept.new.row_idx
 
-abbrev cost-left : tie.After-assemble → List Float
-cost-left c = c.assemble.new.1.1.1.1.1.1.0
+abbrev cost-left : tie.After-assemble-kept → List Float
+cost-left c = c.assemble-kept.new.values
 
-few : (c : tie.After-assemble) → order c + 1 ≤ 65
-few c = omega (arith, (entry-of-assemble c).pre.held.few)
+few : (c : tie.After-assemble-kept) → order c + 1 ≤ 65
+few c = omega (arith, c.requires.held.few)
 
-short : (c : tie.After-assemble) → count c ≤ 512
-short c = (entry-of-assemble c).pre.held.short
+short : (c : tie.After-assemble-kept) → count c ≤ 512
+short c = c.requires.held.short
 
-pointers-long : (c : tie.After-assemble) → length (pointers c) ≡ order c + 1
-pointers-long c = c.assemble.auto.1.1.1.1.0 ∙ part_length _ 65 _ (few c)
+pointers-long : (c : tie.After-assemble-kept) → length (pointers c) ≡ order c + 1
+pointers-long c = c.assemble-kept.auto.col_ptr ∙ part_length _ 65 _ (few c)
 
-rows_long : (c : tie.After-assemble) → length (rows_left c) ≡ count c
-rows_long c = c.assemble.auto.1.1.1.1.1.0 ∙ part_length _ 512 _ (short c)
+rows_long : (c : tie.After-assemble-kept) → length (rows_left c) ≡ count c
+rows_long c = c.assemble-kept.auto.row_idx ∙ part_length _ 512 _ (short c)
 
-cost-long : (c : tie.After-assemble) → length (cost-left c) ≡ count c
-cost-long c = c.assemble.auto.1.1.1.1.1.1.0 ∙ part_length _ 512 _ (short c)
+cost-long : (c : tie.After-assemble-kept) → length (cost-left c) ≡ count c
+cost-long c = c.assemble-kept.auto.values ∙ part_length _ 512 _ (short c)
 
 -- ---- the needs
-add-col-ptr : tie.Need-overflow-add-col-ptr
-add-col-ptr c = omega (arith, c.before.before.before.before.requires.held.few)
+overflow_add-col_ptr : tie.Need-overflow_add-col_ptr
+overflow_add-col_ptr c = omega (arith, c.requires.held.few)
 
-array-borrow-prefix-col-ptr : tie.Need-array-borrow-prefix-col-ptr
-array-borrow-prefix-col-ptr c = search rules
+slice_bounds-col_ptr-end : tie.Need-slice_bounds-col_ptr-end
+slice_bounds-col_ptr-end c = search rules
 
-slice-aggregate-assemble : tie.Need-slice-aggregate-assemble
-slice-aggregate-assemble c = sym (part_length _ 65 _ (omega (arith, (entry-of-col-ptr c).pre.held.few)))
+slice_bounds-assemble-end : tie.Need-slice_bounds-assemble-end
+slice_bounds-assemble-end c = sym (part_length _ 65 _ (omega (arith, c.requires.held.few)))
 
-array-borrow-prefix-row-idx : tie.Need-array-borrow-prefix-row-idx
-array-borrow-prefix-row-idx c = search rules
+slice_bounds-row_idx-end : tie.Need-slice_bounds-row_idx-end
+slice_bounds-row_idx-end c = search rules
 
-slice-aggregate-assemble-2 : tie.Need-slice-aggregate-assemble-2
-slice-aggregate-assemble-2 c = sym (part_length _ 512 _ (entry-of-col-ptr c.before).pre.held.short)
+slice_bounds-assemble-end-2 : tie.Need-slice_bounds-assemble-end-2
+slice_bounds-assemble-end-2 c = sym (part_length _ 512 _ c.requires.held.short)
 
-array-borrow-prefix-cost : tie.Need-array-borrow-prefix-cost
-array-borrow-prefix-cost c = search rules
+slice_bounds-cost-end : tie.Need-slice_bounds-cost-end
+slice_bounds-cost-end c = search rules
 
-slice-aggregate-assemble-3 : tie.Need-slice-aggregate-assemble-3
-slice-aggregate-assemble-3 c = sym (part_length _ 512 _ (entry-of-cost c).pre.held.short)
+slice_bounds-assemble-end-3 : tie.Need-slice_bounds-assemble-end-3
+slice_bounds-assemble-end-3 c = sym (part_length _ 512 _ c.requires.held.short)
 
-mul-work : tie.Need-overflow-mul-work
-mul-work c = omega (arith, (entry-of-cost c).pre.held.few)
+overflow_mul-work : tie.Need-overflow_mul-work
+overflow_mul-work c = omega (arith, c.requires.held.few)
 
-add-work : tie.Need-overflow-add-work
-add-work c = omega (arith, (entry-of-cost c).pre.held.few)
+overflow_add-work : tie.Need-overflow_add-work
+overflow_add-work c = omega (arith, c.requires.held.few)
 
-add-work-2 : tie.Need-overflow-add-work-2
-add-work-2 c = let held = (entry-of-cost c).pre.held in omega (arith, held.few, held.short)
+overflow_add-work-2 : tie.Need-overflow_add-work-2
+overflow_add-work-2 c = let held = c.requires.held in omega (arith, held.few, held.short)
 
-array-borrow-prefix-work : tie.Need-array-borrow-prefix-work
-array-borrow-prefix-work c = search rules
+slice_bounds-work-end : tie.Need-slice_bounds-work-end
+slice_bounds-work-end c = search rules
 
-slice-aggregate-assemble-4 : tie.Need-slice-aggregate-assemble-4
-slice-aggregate-assemble-4 c = let held = (entry-of-cost c.before).pre.held in sym (part_length _ 642 _ (omega (arith, held.few, held.short)))
+slice_bounds-assemble-end-4 : tie.Need-slice_bounds-assemble-end-4
+slice_bounds-assemble-end-4 c = let held = c.requires.held in sym (part_length _ 642 _ (omega (arith, held.few, held.short)))
 
-assemble-requires : tie.Need-assemble-requires
-assemble-requires c κs =
-    let pre = (entry-of-cost c.before).pre in
+assemble-kept-requires : tie.Need-assemble-kept-requires
+assemble-kept-requires c κs =
+    let pre = c.requires in
     let held = pre.held in (
       sized pre (part_length _ 65 _ (omega (arith, held.few))) (part_length _ 642 _ (omega (arith, held.few, held.short))),
       roomy pre (part_length _ 512 _ held.short) (part_length _ 512 _ held.short) (part_length _ 642 _ (omega (arith, held.few, held.short))),
     )
 
-cast-if1 : tie.Need-overflow-cast-if1
-cast-if1 c = search rules
+overflow_cast-kept : tie.Need-overflow_cast-kept
+overflow_cast-kept c = search rules
 
-put-refused-requires : tie.Need-put-refused-requires
-put-refused-requires c κs = omega (arith, (entry-of-assemble (assemble-of-some c.before)).pre.held.room)
+put_refused-requires : tie.Need-put_refused-requires
+put_refused-requires c κs = omega (arith, c.requires.held.room)
 
-same_length_lem : tie.Need-same-length
-same_length_lem c = search rules
+shape_of-output-then-kept-len : tie.Need-shape_of-output-then-kept-len
+shape_of-output-then-kept-len c = search rules
+
+returns-then-kept-len : tie.Need-returns-then-kept-len
+returns-then-kept-len c =
+    (
+      λ weights v. wrote _ (repeated_text c.requires c.assemble-kept.ensures c.args.form c.if-kept-len.true weights)
+          c.put_refused.ensures.text c.put_refused.ensures.length,
+      c.put_refused.ensures.fits,
+    )
+
+overflow_add-col_ptr-2 : tie.Need-overflow_add-col_ptr-2
+overflow_add-col_ptr-2 c = omega (arith, few c.before.before.before.before.before)
+
+slice_bounds-col_ptr-end-2 : tie.Need-slice_bounds-col_ptr-end-2
+slice_bounds-col_ptr-end-2 c = part_within _ 65 _ (pointers c.before.before.before.before.before) (few c.before.before.before.before.before) c.assemble-kept.kept.1.1.1.1.0
+
+slice_bounds-answer_graph-end : tie.Need-slice_bounds-answer_graph-end
+slice_bounds-answer_graph-end c =
+    sym (part_again _ 65 _ (pointers c.before.before.before.before.before.before) (few c.before.before.before.before.before.before) c.assemble-kept.kept.1.1.1.1.0)
+
+slice_bounds-row_idx-end-2 : tie.Need-slice_bounds-row_idx-end-2
+slice_bounds-row_idx-end-2 c =
+    part_within _ 512 _ (rows_left c.before.before.before.before.before.before) (short c.before.before.before.before.before.before) c.assemble-kept.kept.1.1.1.1.1.0
+
+slice_bounds-answer_graph-end-2 : tie.Need-slice_bounds-answer_graph-end-2
+slice_bounds-answer_graph-end-2 c =
+    sym (part_again _ 512 _ (rows_left c.before.before.before.before.before.before.before) (short c.before.before.before.before.before.before.before) c.assemble-kept.kept.1.1.1.1.1.0)
+
+slice_bounds-cost-end-2 : tie.Need-slice_bounds-cost-end-2
+slice_bounds-cost-end-2 c =
+    part_within _ 512 _ (cost-left c.before.before.before.before.before.before.before) (short c.before.before.before.before.before.before.before) c.assemble-kept.kept.1.1.1.1.1.1.0
+
+slice_bounds-answer_graph-end-3 : tie.Need-slice_bounds-answer_graph-end-3
+slice_bounds-answer_graph-end-3 c =
+    sym (part_again _ 512 _ (cost-left c.before.before.before.before.before.before.before.before) (short c.before.before.before.before.before.before.before.before) c.assemble-kept.kept.1.1.1.1.1.1.0)
+
+answer_graph-requires : tie.Need-answer_graph-requires
+answer_graph-requires c κs =
+    reportable c.requires c.assemble-kept.ensures c.if-kept-len.left (part_length _ 512 _ (short c.before.before.before.before.before.before.before.before.before))
+    (part_length _ 512 _ (short c.before.before.before.before.before.before.before.before.before)) (take_at (pointers c.before.before.before.before.before.before.before.before.before) _ _ (pointers-long c.before.before.before.before.before.before.before.before.before)) (take_at (rows_left c.before.before.before.before.before.before.before.before.before) _ _ (rows_long c.before.before.before.before.before.before.before.before.before))
+    (take_at (cost-left c.before.before.before.before.before.before.before.before.before) _ _ (cost-long c.before.before.before.before.before.before.before.before.before))
+
+shape_of-output : tie.Need-shape_of-output
+shape_of-output c = search rules
 
 returns : tie.Need-returns
-returns c =
-    let put = c.before.before in
-    let some = put.before.before in
-    let call = assemble-of-some some in
-    let entry = entry-of-assemble call in (
-      λ weights v. wrote _ (repeated_text entry.pre call.assemble.ensures entry.args.form some.if1.true weights)
-          put.Put-refused.ensures.0 put.Put-refused.ensures.1.0,
-      put.Put-refused.ensures.1.1,
+returns-then-kept-len c =
+    (
+      λ weights v. c.answer_graph.ensures.text ∙ ap (λ (text : List ℕ). report_written text c.args.output.now)
+          (graph_text_lem c.requires c.assemble-kept.ensures c.if-kept-len.left (part_length _ 512 _ (short c.before.before.before.before.before.before.before.before.before.before.before.before)) (part_length _ 512 _ (short c.before.before.before.before.before.before.before.before.before.before.before.before))
+          (take_at (pointers c.before.before.before.before.before.before.before.before.before.before.before.before) _ _ (pointers-long c.before.before.before.before.before.before.before.before.before.before.before.before)) (take_at (rows_left c.before.before.before.before.before.before.before.before.before.before.before.before) _ _ (rows_long c.before.before.before.before.before.before.before.before.before.before.before.before))
+          (take_at (cost-left c.before.before.before.before.before.before.before.before.before.before.before.before) _ _ (cost-long c.before.before.before.before.before.before.before.before.before.before.before.before)) c.args.form weights v),
+      c.answer_graph.ensures.fits,
     )
 
-add-col-ptr-2 : tie.Need-overflow-add-col-ptr-2
-add-col-ptr-2 c = omega (arith, few (assemble-of-none c))
-
-array-share-prefix-col-ptr : tie.Need-array-share-prefix-col-ptr
-array-share-prefix-col-ptr c = let call = assemble-of-none c in part_within _ 65 _ (pointers call) (few call) call.assemble.kept.1.1.1.1.0
-
-slice-aggregate-answer-graph : tie.Need-slice-aggregate-answer-graph
-slice-aggregate-answer-graph c =
-    let call = assemble-of-none c.before in
-    sym (part_again _ 65 _ (pointers call) (few call) call.assemble.kept.1.1.1.1.0)
-
-array-share-prefix-row-idx : tie.Need-array-share-prefix-row-idx
-array-share-prefix-row-idx c =
-    let call = assemble-of-none c.before in
-    part_within _ 512 _ (rows_left call) (short call) call.assemble.kept.1.1.1.1.1.0
-
-slice-aggregate-answer-graph-2 : tie.Need-slice-aggregate-answer-graph-2
-slice-aggregate-answer-graph-2 c =
-    let call = assemble-of-none c.before.before in
-    sym (part_again _ 512 _ (rows_left call) (short call) call.assemble.kept.1.1.1.1.1.0)
-
-array-share-prefix-cost : tie.Need-array-share-prefix-cost
-array-share-prefix-cost c =
-    let call = assemble-of-none c.before.before in
-    part_within _ 512 _ (cost-left call) (short call) call.assemble.kept.1.1.1.1.1.1.0
-
-slice-aggregate-answer-graph-3 : tie.Need-slice-aggregate-answer-graph-3
-slice-aggregate-answer-graph-3 c =
-    let call = assemble-of-none c.before.before.before in
-    sym (part_again _ 512 _ (cost-left call) (short call) call.assemble.kept.1.1.1.1.1.1.0)
-
-answer-graph-requires : tie.Need-answer-graph-requires
-answer-graph-requires c κs =
-    let none = none-of-arg c in
-    let call = assemble-of-none none in
-    reportable (entry-of-assemble call).pre call.assemble.ensures none.if1.left (part_length _ 512 _ (short call))
-    (part_length _ 512 _ (short call)) (take_at (pointers call) _ _ (pointers-long call)) (take_at (rows_left call) _ _ (rows_long call))
-    (take_at (cost-left call) _ _ (cost-long call))
-
-same-length-2 : tie.Need-same-length-2
-same-length-2 c = search rules
-
-returns-2 : tie.Need-returns-2
-returns-2 c =
-    let graph = c.before.before in
-    let none = none-of-arg graph.before in
-    let call = assemble-of-none none in
-    let entry = entry-of-assemble call in (
-      λ weights v. graph.answer-graph.ensures.0 ∙ ap (λ (text : List ℕ). report_written text entry.args.output.now)
-          (graph_text_lem entry.pre call.assemble.ensures none.if1.left (part_length _ 512 _ (short call)) (part_length _ 512 _ (short call))
-          (take_at (pointers call) _ _ (pointers-long call)) (take_at (rows_left call) _ _ (rows_long call))
-          (take_at (cost-left call) _ _ (cost-long call)) entry.args.form weights v),
-      graph.answer-graph.ensures.1,
-    )
-
-pub answer-triplets-spec : {M : Type 1} → statement M
-answer-triplets-spec =
+pub answer_triplets_spec : {M : Type 1} → statement M
+answer_triplets_spec =
     tie.close
     (tie.spec
-    add-col-ptr
-    array-borrow-prefix-col-ptr
-    slice-aggregate-assemble
-    array-borrow-prefix-row-idx
-    slice-aggregate-assemble-2
-    array-borrow-prefix-cost
-    slice-aggregate-assemble-3
-    mul-work
-    add-work
-    add-work-2
-    array-borrow-prefix-work
-    slice-aggregate-assemble-4
-    assemble-requires
-    cast-if1
-    put-refused-requires
-    same_length_lem
-    returns
-    add-col-ptr-2
-    array-share-prefix-col-ptr
-    slice-aggregate-answer-graph
-    array-share-prefix-row-idx
-    slice-aggregate-answer-graph-2
-    array-share-prefix-cost
-    slice-aggregate-answer-graph-3
-    answer-graph-requires
-    same-length-2
-    returns-2)
+    overflow_add-col_ptr
+    slice_bounds-col_ptr-end
+    slice_bounds-assemble-end
+    slice_bounds-row_idx-end
+    slice_bounds-assemble-end-2
+    slice_bounds-cost-end
+    slice_bounds-assemble-end-3
+    overflow_mul-work
+    overflow_add-work
+    overflow_add-work-2
+    slice_bounds-work-end
+    slice_bounds-assemble-end-4
+    assemble-kept-requires
+    overflow_cast-kept
+    put_refused-requires
+    shape_of-output-then-kept-len
+    returns-then-kept-len
+    overflow_add-col_ptr-2
+    slice_bounds-col_ptr-end-2
+    slice_bounds-answer_graph-end
+    slice_bounds-row_idx-end-2
+    slice_bounds-answer_graph-end-2
+    slice_bounds-cost-end-2
+    slice_bounds-answer_graph-end-3
+    answer_graph-requires
+    shape_of-output
+    returns)

@@ -11,73 +11,69 @@ use Rattle.text_graph.proofs.GraphCosts.{map_at, cost_casts}
 use Rattle.text_answer.proofs.set_values.Statement.{statement}
 use Rattle.text_answer.proofs.set_values.Tie as tie
 
-abbrev invariant-loop : tie.invariant-loop
-invariant-loop weights values₀ k₀ k-end values k = (k ≤ length weights) × (length values ≡ length weights) × (take k values ≡ take k (cost_values weights))
+abbrev invariant-loop-k : tie.invariant-loop-k
+invariant-loop-k weights values₀ k₀ k-end values k = (k ≤ length weights) × (length values ≡ length weights) × (take k values ≡ take k (cost_values weights))
 
-abbrev decreases-loop : tie.decreases-loop
-decreases-loop weights values₀ k₀ k-end values k = length weights - k
+abbrev decreases-loop-k : tie.decreases-loop-k
+decreases-loop-k weights values₀ k₀ k-end values k = length weights - k
 
--- places of the proof, each from a later one
-abbrev entry-of-loop : tie.At-loop invariant-loop decreases-loop → tie.Start invariant-loop decreases-loop
-entry-of-loop c = c.before
+loop-k-init : tie.Need-loop-k-init invariant-loop-k decreases-loop-k
+loop-k-init c = (omega arith, c.requires.values_len, refl)
 
-loop-holds : tie.Need-loop-init invariant-loop decreases-loop
-loop-holds c = (omega arith, c.requires.0, refl)
+offset_bounds-weights-k : tie.Need-offset_bounds-weights-k invariant-loop-k decreases-loop-k
+offset_bounds-weights-k c = omega arith
 
-mul-values : tie.Need-overflow-mul-values invariant-loop decreases-loop
-mul-values c = omega arith
+bounds-weights-k : tie.Need-bounds-weights-k invariant-loop-k decreases-loop-k
+bounds-weights-k c = omega arith
 
-shared-slice-read-values : tie.Need-shared-slice-read-values invariant-loop decreases-loop
-shared-slice-read-values c = omega arith
+int_to_float-values : tie.Need-int_to_float-values invariant-loop-k decreases-loop-k
+int_to_float-values c = cost_casts _ (c.requires.below c.loop-k.k (omega arith))
 
-int-to-float-values : tie.Need-int-to-float-values invariant-loop decreases-loop
-int-to-float-values c = cost_casts _ ((entry-of-loop c.before.before.before).pre.1 c.before.before.before.loop.k (omega arith))
+offset_bounds-values-k : tie.Need-offset_bounds-values-k invariant-loop-k decreases-loop-k
+offset_bounds-values-k c = omega arith
 
-mul-values-2 : tie.Need-overflow-mul-values-2 invariant-loop decreases-loop
-mul-values-2 c = omega arith
+bounds-values-k : tie.Need-bounds-values-k invariant-loop-k decreases-loop-k
+bounds-values-k c = omega arith
 
-slice-write-values : tie.Need-slice-write-values invariant-loop decreases-loop
-slice-write-values c = omega arith
+overflow_step-k : tie.Need-overflow_step-k invariant-loop-k decreases-loop-k
+overflow_step-k c = omega arith
 
-add-k : tie.Need-overflow-add-k invariant-loop decreases-loop
-add-k c = omega arith
+loop-k-smaller : tie.Need-loop-k-smaller invariant-loop-k decreases-loop-k
+loop-k-smaller c = omega arith
 
-loop-less : tie.Need-loop-smaller invariant-loop decreases-loop
-loop-less c = omega arith
-
-loop-again : tie.Need-loop-preserved invariant-loop decreases-loop
-loop-again c = (
+loop-k-preserved : tie.Need-loop-k-preserved invariant-loop-k decreases-loop-k
+loop-k-preserved c = (
   omega arith,
-  simp length-set c.before.before.before.loop.invariant.1,
+  simp length-set c.loop-k.invariant.1,
   copied _
-      (cost_values c.before.before.before.before.args.weights.now) c.before.before.before.loop.k _ nan (omega arith)
-      (rw (length-map c.before.before.before.before.args.weights.now (λ (x : ℕ). of_int binary64 (pos x))) (omega arith))
-      (sym (map_at (λ (x : ℕ). of_int binary64 (pos x)) c.before.before.before.before.args.weights.now
-      c.before.before.before.loop.k (omega arith))) c.before.before.before.loop.invariant.2,
+      (cost_values c.args.weights.now) c.loop-k.k _ nan (omega arith)
+      (rw (length-map c.args.weights.now (λ (x : ℕ). of_int binary64 (pos x))) (omega arith))
+      (sym (map_at (λ (x : ℕ). of_int binary64 (pos x)) c.args.weights.now
+      c.loop-k.k (omega arith))) c.loop-k.invariant.2,
 )
 
-same_length_lem : tie.Need-same-length invariant-loop decreases-loop
-same_length_lem c = omega arith
+shape_of-values : tie.Need-shape_of-values invariant-loop-k decreases-loop-k
+shape_of-values c = omega arith
 
-returns : tie.Need-returns invariant-loop decreases-loop
-returns c = whole c.before.loop.k _ (cost_values c.before.before.args.weights.now) (omega arith)
-    (length-map c.before.before.args.weights.now (λ (x : ℕ). of_int binary64 (pos x)) ∙
-    (let e : length c.before.before.args.weights.now ≡ c.before.loop.k = omega arith in e)) c.before.loop.invariant.2
+returns : tie.Need-returns invariant-loop-k decreases-loop-k
+returns c = whole c.loop-k.k _ (cost_values c.args.weights.now) (omega arith)
+    (length-map c.args.weights.now (λ (x : ℕ). of_int binary64 (pos x)) ∙
+    (let e : length c.args.weights.now ≡ c.loop-k.k = omega arith in e)) c.loop-k.invariant.2
 
-pub set-values-spec : {M : Type 1} → statement M
-set-values-spec =
+pub set_values_spec : {M : Type 1} → statement M
+set_values_spec =
     tie.close
     (tie.spec
-    invariant-loop
-    decreases-loop
-    loop-holds
-    mul-values
-    shared-slice-read-values
-    int-to-float-values
-    mul-values-2
-    slice-write-values
-    add-k
-    loop-less
-    loop-again
-    same_length_lem
+    invariant-loop-k
+    decreases-loop-k
+    loop-k-init
+    offset_bounds-weights-k
+    bounds-weights-k
+    int_to_float-values
+    offset_bounds-values-k
+    bounds-values-k
+    overflow_step-k
+    loop-k-smaller
+    loop-k-preserved
+    shape_of-values
     returns)

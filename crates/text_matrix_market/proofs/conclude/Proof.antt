@@ -1,4 +1,5 @@
 -- `conclude` meets its contract: by the cases of the stage.
+use Rattle.std.proofs.Common.{rules}
 use mathlib.Core.Path.{refl}
 use Rattle.text_matrix_market.specs.File.{reading_at_end}
 use Rattle.text_matrix_market.proofs.Runs.{complete, incomplete}
@@ -6,46 +7,46 @@ use borrow.Author.Rules.{rules}
 use Rattle.text_matrix_market.proofs.conclude.Statement.{statement}
 use Rattle.text_matrix_market.proofs.conclude.Tie as tie
 
-enum_told : tie.Need-enum-told
-enum_told c = search rules
+enum_told-1 : tie.Need-enum_told-1
+enum_told-1 c = search rules
 
-enum-told-2 : tie.Need-enum-told-2
-enum-told-2 c = search rules
+enum_told-in-Sizing : tie.Need-enum_told-in-Sizing
+enum_told-in-Sizing c = search rules
 
-enum-known-stage : tie.Need-enum-known-stage
-enum-known-stage c = search rules
+enum_known-stage : tie.Need-enum_known-stage
+enum_known-stage c = search rules
 
-enum-known-stage-2 : tie.Need-enum-known-stage-2
-enum-known-stage-2 c = search rules
+enum_known-stage-in-Refused-1 : tie.Need-enum_known-stage-in-Refused-1
+enum_known-stage-in-Refused-1 c = search rules
 
-returns : tie.Need-returns
+returns-in-Start : tie.Need-returns-in-Start
 unfolding reading_at_end
-returns c = λ l. rw c.enum_told.given.1 refl
+returns-in-Start c = λ l. rw c.enum_told-1.given.1 refl
 
-returns-2 : tie.Need-returns-2
+returns-in-Sizing : tie.Need-returns-in-Sizing
 unfolding reading_at_end
-returns-2 c = λ l. rw c.enum-told2.given.1 refl
+returns-in-Sizing c = λ l. rw c.enum_told-in-Sizing-1.given.1 refl
 
-returns-3 : tie.Need-returns-3
-returns-3 c = λ l. rw c.before.before.stage.given.1 (complete _ _ _ _ l c.if1.true)
+returns-then-read-count : tie.Need-returns-then-read-count
+returns-then-read-count c = λ l. rw c.stage-1.given.1 (complete _ _ _ _ l c.if-read-count.true)
 
-returns-4 : tie.Need-returns-4
-returns-4 c = λ l. rw c.before.before.stage.given.1 (incomplete _ _ _ _ l c.if1.false)
+returns-else-read-count : tie.Need-returns-else-read-count
+returns-else-read-count c = λ l. rw c.stage-1.given.1 (incomplete _ _ _ _ l c.if-read-count.false)
 
-returns-5 : tie.Need-returns-5
+returns-in-Refused : tie.Need-returns-in-Refused
 unfolding reading_at_end
-returns-5 c = λ l. rw c.before.stage2.given.1 refl
+returns-in-Refused c = λ l. rw c.stage-in-Refused-1.given.1 refl
 
-pub conclude-spec : {M : Type 1} → statement M
-conclude-spec =
+pub conclude_spec : {M : Type 1} → statement M
+conclude_spec =
     tie.close
     (tie.spec
-    enum_told
-    enum-told-2
-    enum-known-stage
-    enum-known-stage-2
-    returns
-    returns-2
-    returns-3
-    returns-4
-    returns-5)
+    enum_told-1
+    enum_told-in-Sizing
+    enum_known-stage
+    enum_known-stage-in-Refused-1
+    returns-in-Start
+    returns-in-Sizing
+    returns-then-read-count
+    returns-else-read-count
+    returns-in-Refused)

@@ -1,4 +1,5 @@
 -- `after_read` meets its contract: the cases of a read's answer, which the machine reads back from its bits.
+use Rattle.std.proofs.Common.{rules}
 use mathlib.Core.Path.{◌≡◌, ap, ◌∙◌}
 use mathlib.Core.Bool.{false}
 use Prim.Native.Nat.{◌-◌, ◌≤◌}
@@ -15,10 +16,6 @@ use Rattle.text_program.proofs.Inputs.{failed, not_negative, moved, ended, unfin
 use Rattle.text_program.proofs.after_read.Statement.{statement}
 use Rattle.text_program.proofs.after_read.Tie as tie
 
--- places of the proof, each from a later one
-abbrev entry-of-else3 : tie.Else3 → tie.Start
-entry-of-else3 c = c.before.before.before
-
 -- the answer as the machine holds it
 abbrev held : tie.Start → ℤ
 held s = to_z w64 (of_z w64 s.args.got)
@@ -27,34 +24,43 @@ same : (s : tie.Start) → held s ≡ s.args.got
 same s = to_z-of_z w64 s.args.got s.ranges.got
 
 few : (s : tie.Start) → lt_z (held s) (pos 0) ≡ false → nat_abs (held s) ≤ buffer_length - s.args.at
-few s t = moved _ (held s) t (rw (same s) s.requires.1)
+few s t = moved _ (held s) t (rw (same s) s.requires.moved)
 
-returns : tie.Need-returns
-returns c = failed _ (held c.before) c.if1.true ∙ ap (input_after _) (same c.before)
+returns-then-got-lt0 : tie.Need-returns-then-got-lt0
+returns-then-got-lt0 c = failed _ (held c.before) c.if-got-lt0.true ∙ ap (input_after _) (same c.before)
 
-cast-more : tie.Need-overflow-cast-more
-cast-more c = (not_negative (held c.before) c.if1.false, omega (arith, few c.before c.if1.false))
+overflow_cast-more : tie.Need-overflow_cast-more
+overflow_cast-more c = (not_negative (held c.before) c.if-got-lt0.false, omega (arith, few c.before c.if-got-lt0.false))
 
-returns-2 : tie.Need-returns-2
-returns-2 c = ended _ (held c.before.before) c.before.if1.false c.if2.true ∙ ap (input_after _) (same c.before.before)
+returns-then-more-eq0 : tie.Need-returns-then-more-eq0
+returns-then-more-eq0 c = ended _ (held c.before.before) c.if-got-lt0.false c.if-more-eq0.true ∙ ap (input_after _) (same c.before.before)
 
-add-if3 : tie.Need-overflow-add-if3
-add-if3 c = omega (arith, few c.before.before c.before.if1.false, c.before.before.requires.0)
+overflow_add-at : tie.Need-overflow_add-at
+overflow_add-at c = omega (arith, few c.before.before c.if-got-lt0.false, c.requires.at_lt_buffer_length)
 
-add-t6 : tie.Need-overflow-add-t6
-add-t6 c = search rules
+overflow_add-result : tie.Need-overflow_add-result
+overflow_add-result c = search rules
 
-returns-3 : tie.Need-returns-3
-returns-3 c = unfinished _ (held c.before.before.before) c.before.before.if1.false c.before.if2.false c.if3.true
+returns-then-at-more-lt-BUFFER_LENGTH : tie.Need-returns-then-at-more-lt-BUFFER_LENGTH
+returns-then-at-more-lt-BUFFER_LENGTH c = unfinished _ (held c.before.before.before) c.if-got-lt0.false c.if-more-eq0.false c.if-at-more-lt-BUFFER_LENGTH.true
     ∙ ap (input_after _) (same c.before.before.before)
 
-add-t5 : tie.Need-overflow-add-t5
-add-t5 c = omega (arith, few (entry-of-else3 c) c.before.before.if1.false, (entry-of-else3 c).requires.0)
+overflow_add-result-2 : tie.Need-overflow_add-result-2
+overflow_add-result-2 c = omega (arith, few c.before.before.before c.if-got-lt0.false, c.requires.at_lt_buffer_length)
 
-returns-4 : tie.Need-returns-4
-returns-4 c = full _ (held (entry-of-else3 c)) c.before.before.if1.false c.before.if2.false c.if3.false
-    ∙ ap (input_after _) (same (entry-of-else3 c))
+returns : tie.Need-returns
+returns-then-got-lt0 c = full _ (held c.before.before.before) c.if-got-lt0.false c.if-more-eq0.false c.if-at-more-lt-BUFFER_LENGTH.false
+    ∙ ap (input_after _) (same c.before.before.before)
 
-pub after-read-spec : {M : Type 1} → statement M
-after-read-spec =
-    tie.close (tie.spec returns cast-more returns-2 add-if3 add-t6 returns-3 add-t5 returns-4)
+pub after_read_spec : {M : Type 1} → statement M
+after_read_spec =
+    tie.close
+    (tie.spec
+    returns-then-got-lt0
+    overflow_cast-more
+    returns-then-more-eq0
+    overflow_add-at
+    overflow_add-result
+    returns-then-at-more-lt-BUFFER_LENGTH
+    overflow_add-result-2
+    returns)

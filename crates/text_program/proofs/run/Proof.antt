@@ -1,4 +1,5 @@
 -- `run` is safe: what is told lies within the output.
+use Rattle.std.proofs.Common.{rules}
 use mathlib.Core.Path.{◌≡◌, sym, subst}
 use mathlib.Core.List.{List}
 use Prim.Native.Nat.{ℕ, ◌≤◌}
@@ -15,62 +16,62 @@ use Rattle.text_program.proofs.run.Tie as tie
 within : {r : Told} {count : ℕ} (output : List ℕ) → r ≡ Text count → Fits r output → count ≤ length output
 within output e f = subst (λ (t : Told). Fits t output) e f
 
-fits : (c : tie.After-known-told) → c.before.length.given.0.0 ≤ length c.before.before.before.tell.new.1.1.1.0
-fits c = within _ c.before.length.given.1 c.before.before.before.tell.ensures.1
+fits : (c : tie.In-Text) → c.length-1.given.0.0 ≤ length c.tell.new.output
+fits c = within _ c.length-1.given.1 c.tell.ensures.fits
 
-slice-aggregate-read-input : tie.Need-slice-aggregate-read-input
-slice-aggregate-read-input c = search rules
+slice_bounds-read_input-end : tie.Need-slice_bounds-read_input-end
+slice_bounds-read_input-end c = search rules
 
-read-input-requires : tie.Need-read-input-requires
-read-input-requires c κs = search rules
+read_input-input-requires : tie.Need-read_input-input-requires
+read_input-input-requires c κs = search rules
 
 tell-requires : tie.Need-tell-requires
 tell-requires c κs = search rules
 
-enum-known-length : tie.Need-enum-known-length
-enum-known-length c = search rules
+enum_known-length : tie.Need-enum_known-length
+enum_known-length c = search rules
 
-enum_told : tie.Need-enum-told
-enum_told c = search rules
+enum_told-1 : tie.Need-enum_told-1
+enum_told-1 c = search rules
 
-write-all-requires : tie.Need-write-all-requires
-write-all-requires c κs = search rules
+write_all-requires : tie.Need-write_all-requires
+write_all-requires c κs = search rules
 
-returns : tie.Need-returns
-returns c = search rules
+returns-in_default : tie.Need-returns-in_default
+returns-in_default c = search rules
 
-array-share-prefix-output : tie.Need-array-share-prefix-output
-array-share-prefix-output c = fits c
+slice_bounds-output-end : tie.Need-slice_bounds-output-end
+slice_bounds-output-end c = fits c
 
-slice-aggregate-write-all : tie.Need-slice-aggregate-write-all
-slice-aggregate-write-all c = sym (length-take-le _ _ (fits c.before))
+slice_bounds-write_all-end : tie.Need-slice_bounds-write_all-end
+slice_bounds-write_all-end c = sym (length-take-le _ _ (fits c.before))
 
-write-all-requires-2 : tie.Need-write-all-requires-2
-write-all-requires-2 c κs = search rules
+write_all-requires-2 : tie.Need-write_all-requires-2
+write_all-requires-2 c κs = search rules
 
-write-all-requires-3 : tie.Need-write-all-requires-3
-write-all-requires-3 c κs = search rules
+write_all-requires-then-not-write_all : tie.Need-write_all-requires-then-not-write_all
+write_all-requires-then-not-write_all c κs = search rules
 
-returns-2 : tie.Need-returns-2
-returns-2 c = search rules
+returns-then-not-write_all : tie.Need-returns-then-not-write_all
+returns-then-not-write_all c = search rules
 
-returns-3 : tie.Need-returns-3
-returns-3 c = search rules
+returns-else-not-write_all : tie.Need-returns-else-not-write_all
+returns-else-not-write_all c = search rules
 
 pub run_spec : {M : Type 1} → statement M
 run_spec =
     tie.close
     (tie.spec
-    slice-aggregate-read-input
-    read-input-requires
+    slice_bounds-read_input-end
+    read_input-input-requires
     tell-requires
-    enum-known-length
-    enum_told
-    write-all-requires
-    returns
-    array-share-prefix-output
-    slice-aggregate-write-all
-    write-all-requires-2
-    write-all-requires-3
-    returns-2
-    returns-3)
+    enum_known-length
+    enum_told-1
+    write_all-requires
+    returns-in_default
+    slice_bounds-output-end
+    slice_bounds-write_all-end
+    write_all-requires-2
+    write_all-requires-then-not-write_all
+    returns-then-not-write_all
+    returns-else-not-write_all)

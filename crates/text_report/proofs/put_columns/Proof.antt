@@ -10,76 +10,70 @@ use Rattle.text_report.proofs.Pairs.{pair_more, pairs_length, pairs_rise}
 use Rattle.text_report.proofs.put_columns.Statement.{statement}
 use Rattle.text_report.proofs.put_columns.Tie as tie
 
-abbrev invariant-loop : tie.invariant-loop
-invariant-loop out₀ at n perm k₀ next₀ out k next = (k ≤ n) × (length out ≡ length out₀) × Wrote out₀ at (matched_pairs k perm) out next
+abbrev invariant-loop-k : tie.invariant-loop-k
+invariant-loop-k out₀ at n perm k₀ next₀ out k next = (k ≤ n) × (length out ≡ length out₀) × Wrote out₀ at (matched_pairs k perm) out next
 
-abbrev decreases-loop : tie.decreases-loop
-decreases-loop out₀ at n perm k₀ next₀ out k next = n - k
+abbrev decreases-loop-k : tie.decreases-loop-k
+decreases-loop-k out₀ at n perm k₀ next₀ out k next = n - k
 
--- places of the proof, each from a later one
-abbrev entry-of-loop : tie.At-loop invariant-loop decreases-loop → tie.Start invariant-loop decreases-loop
-entry-of-loop c = c.before.before.before
-
-loop-holds : tie.Need-loop-init invariant-loop decreases-loop
+loop-k-init : tie.Need-loop-k-init invariant-loop-k decreases-loop-k
 unfolding matched_pairs
-loop-holds c = (omega arith, refl, record { bytes = refl; place = omega arith })
+loop-k-init c = (omega arith, refl, record { bytes = refl; place = omega arith })
 
-mul-put-column : tie.Need-overflow-mul-put-column invariant-loop decreases-loop
-mul-put-column c = omega arith
+offset_bounds-perm-k : tie.Need-offset_bounds-perm-k invariant-loop-k decreases-loop-k
+offset_bounds-perm-k c = omega arith
 
-shared-slice-read-put-column : tie.Need-shared-slice-read-put-column invariant-loop decreases-loop
-shared-slice-read-put-column c = omega arith
+bounds-perm-k : tie.Need-bounds-perm-k invariant-loop-k decreases-loop-k
+bounds-perm-k c = omega arith
 
-cast-put-column : tie.Need-overflow-cast-put-column invariant-loop decreases-loop
-cast-put-column c = omega arith
+overflow_cast-k : tie.Need-overflow_cast-k invariant-loop-k decreases-loop-k
+overflow_cast-k c = omega arith
 
-put-column-requires : tie.Need-put-column-requires invariant-loop decreases-loop
-put-column-requires c κs =
-    let turn = c.before.before.before in
-    let args = (entry-of-loop turn).args in
+put_column-next-requires : tie.Need-put_column-next-requires invariant-loop-k decreases-loop-k
+put_column-next-requires c κs =
+    let args = c.args in
     omega (
       arith,
-      turn.loop.invariant.2.place,
-      turn.loop.invariant.1,
-      pairs_length args.perm.now turn.loop.k,
-      pairs_rise args.perm.now (suc turn.loop.k) args.n (omega arith),
+      c.loop-k.invariant.2.place,
+      c.loop-k.invariant.1,
+      pairs_length args.perm.now c.loop-k.k,
+      pairs_rise args.perm.now (suc c.loop-k.k) args.n (omega arith),
     )
 
-add-k : tie.Need-overflow-add-k invariant-loop decreases-loop
-add-k c = omega arith
+overflow_add-k : tie.Need-overflow_add-k invariant-loop-k decreases-loop-k
+overflow_add-k c = omega arith
 
-loop-less : tie.Need-loop-smaller invariant-loop decreases-loop
-loop-less c = omega arith
+loop-k-smaller : tie.Need-loop-k-smaller invariant-loop-k decreases-loop-k
+loop-k-smaller c = omega arith
 
-loop-again : tie.Need-loop-preserved invariant-loop decreases-loop
-loop-again c =
-    let done = c.before.before in
-    let turn = done.before.before.before.before in (
+loop-k-preserved : tie.Need-loop-k-preserved invariant-loop-k decreases-loop-k
+loop-k-preserved c =
+    (
       omega arith,
-      done.put-column.auto.0 ∙ turn.loop.invariant.1,
-      restated (pair_more (entry-of-loop turn).args.perm.now turn.loop.k) refl (and_then turn.loop.invariant.2 done.put-column.ensures),
+      c.put_column-next.auto.out ∙ c.loop-k.invariant.1,
+      restated (pair_more c.args.perm.now c.loop-k.k) refl (and_then c.loop-k.invariant.2 c.put_column-next.ensures),
     )
 
-same_length_lem : tie.Need-same-length invariant-loop decreases-loop
-same_length_lem c = c.before.loop.invariant.1
+shape_of-out : tie.Need-shape_of-out invariant-loop-k decreases-loop-k
+shape_of-out c = c.loop-k.invariant.1
 
-returns : tie.Need-returns invariant-loop decreases-loop
-returns c = let e : c.before.loop.k ≡ (entry-of-loop c.before).args.n = omega arith in
-    rw e at c.before.loop.invariant.2
+returns : tie.Need-returns invariant-loop-k decreases-loop-k
+returns c = let e : c.loop-k.k ≡ c.args.n = omega arith in
+    rw e at c.loop-k.invariant.2
 
-pub put-columns-spec : {M : Type 1} → statement M
-put-columns-spec =
+pub put_columns_spec : {M : Type 1} → statement M
+put_columns_spec =
     tie.close
     (tie.spec
-    invariant-loop
-    decreases-loop
-    loop-holds
-    mul-put-column
-    shared-slice-read-put-column
-    cast-put-column
-    put-column-requires
-    add-k
-    loop-less
-    loop-again
-    same_length_lem
+    invariant-loop-k
+    decreases-loop-k
+    loop-k-init
+    offset_bounds-perm-k
+    bounds-perm-k
+    overflow_cast-k
+    put_column-next-requires
+    overflow_add-k
+    loop-k-smaller
+    loop-k-preserved
+    shape_of-out
     returns)

@@ -1,4 +1,5 @@
 -- `put_form` meets its contract: each form by its own function.
+use Rattle.std.proofs.Common.{rules}
 use mathlib.Core.Path.{◌≡◌, sym, ap, ◌∙◌}
 use mathlib.Core.List.{List}
 use Prim.Native.Nat.{ℕ}
@@ -18,63 +19,61 @@ abbrev told : (s : tie.Start) (form : Form) → s.args.form ≡ form
 told s form e =
     ap (λ (f : Form). form_text f s.args.n s.args.perm.now s.args.u.now s.args.v.now s.args.counts.now) (sym e)
 
-enum_told : tie.Need-enum-told
-enum_told c = search rules
+enum_told-1 : tie.Need-enum_told-1
+enum_told-1 c = search rules
 
-put-match-requires : tie.Need-put-match-requires
-put-match-requires c κs = search rules
+put_match-requires : tie.Need-put_match-requires
+put_match-requires c κs = search rules
 
-enum-told-2 : tie.Need-enum-told-2
-enum-told-2 c = search rules
+enum_told-in-Pairs : tie.Need-enum_told-in-Pairs
+enum_told-in-Pairs c = search rules
 
-shared-slice-read-put-pairs : tie.Need-shared-slice-read-put-pairs
-shared-slice-read-put-pairs c = search rules
+bounds-counts-0 : tie.Need-bounds-counts-0
+bounds-counts-0 c = search rules
 
-put-pairs-requires : tie.Need-put-pairs-requires
-put-pairs-requires c κs = search rules
+put_pairs-requires : tie.Need-put_pairs-requires
+put_pairs-requires c κs = search rules
 
-same_length_lem : tie.Need-same-length
-same_length_lem c = search rules
+shape_of-out-in-Report : tie.Need-shape_of-out-in-Report
+shape_of-out-in-Report c = search rules
 
-returns : tie.Need-returns
+returns-in-Report : tie.Need-returns-in-Report
 unfolding form_text
-returns c =
-    let s = c.before.before.before.before.before.before.before.before.before.before.before in
-    let e = told s Report c.before.before.before.before.enum_told.given.1 in
-    let done = c.before.before.put-match.ensures in (
-      done.0 ∙ ap (λ (text : List ℕ). sets s.args.out.now 0 text) e,
+returns-in-Report c =
+    let e = told c.before.before.before.before.before.before.before.before.before.before.before Report c.enum_told-1.given.1 in
+    let done = c.put_match.ensures in (
+      done.text ∙ ap (λ (text : List ℕ). sets c.args.out.now 0 text) e,
       (
-        done.1.0 ∙ ap length e,
-        done.1.1,
+        done.length ∙ ap length e,
+        done.fits,
       ),
     )
 
-same-length-2 : tie.Need-same-length-2
-same-length-2 c = search rules
+shape_of-out-in-Pairs : tie.Need-shape_of-out-in-Pairs
+shape_of-out-in-Pairs c = search rules
 
-returns-2 : tie.Need-returns-2
+returns-in-Pairs : tie.Need-returns-in-Pairs
 unfolding form_text
-returns-2 c =
-    let s = c.before.before.before.before.before.before.before.before.before.before.before.before in
-    let e = told s Pairs c.before.before.before.before.before.enum-told2.given.1 in
-    let done = c.before.before.put-pairs.ensures in (
-      done.0 ∙ ap (λ (text : List ℕ). sets s.args.out.now 0 text) e,
+returns-in-Pairs c =
+    let e = told c.before.before.before.before.before.before.before.before.before.before.before.before Pairs c.enum_told-in-Pairs-1.given.1 in
+    let done = c.put_pairs.ensures in (
+      done.text ∙ ap (λ (text : List ℕ). sets c.args.out.now 0 text) e,
       (
-        done.1.0 ∙ ap length e,
-        done.1.1,
+        done.length ∙ ap length e,
+        done.fits,
       ),
     )
 
-pub put-form-spec : {M : Type 1} → statement M
-put-form-spec =
+pub put_form_spec : {M : Type 1} → statement M
+put_form_spec =
     tie.close
     (tie.spec
-    enum_told
-    put-match-requires
-    enum-told-2
-    shared-slice-read-put-pairs
-    put-pairs-requires
-    same_length_lem
-    returns
-    same-length-2
-    returns-2)
+    enum_told-1
+    put_match-requires
+    enum_told-in-Pairs
+    bounds-counts-0
+    put_pairs-requires
+    shape_of-out-in-Report
+    returns-in-Report
+    shape_of-out-in-Pairs
+    returns-in-Pairs)

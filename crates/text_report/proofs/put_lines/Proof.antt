@@ -10,115 +10,95 @@ use Rattle.text_report.proofs.Lines.{line_more, line_length, lines_rise}
 use Rattle.text_report.proofs.put_lines.Statement.{statement}
 use Rattle.text_report.proofs.put_lines.Tie as tie
 
-abbrev invariant-loop : tie.invariant-loop
-invariant-loop out₀ at n perm u v k₀ next₀ out k next = (k ≤ n) × (length out ≡ length out₀) × Wrote out₀ at (pair_lines k perm u v) out next
+abbrev invariant-loop-k : tie.invariant-loop-k
+invariant-loop-k out₀ at n perm u v k₀ next₀ out k next = (k ≤ n) × (length out ≡ length out₀) × Wrote out₀ at (pair_lines k perm u v) out next
 
-abbrev decreases-loop : tie.decreases-loop
-decreases-loop out₀ at n perm u v k₀ next₀ out k next = n - k
+abbrev decreases-loop-k : tie.decreases-loop-k
+decreases-loop-k out₀ at n perm u v k₀ next₀ out k next = n - k
 
--- places of the proof, each from a later one
-abbrev entry-of-loop : tie.At-loop invariant-loop decreases-loop → tie.Start invariant-loop decreases-loop
-entry-of-loop c = c.before.before.before.before.before
-
-abbrev in-loop-of-shared-slice-known6 : tie.After-shared-slice-known6 invariant-loop decreases-loop → tie.In-loop invariant-loop decreases-loop
-in-loop-of-shared-slice-known6 c = c.before.before.before.before
-
-abbrev loop-of-shared-slice-known6 : tie.After-shared-slice-known6 invariant-loop decreases-loop → tie.At-loop invariant-loop decreases-loop
-loop-of-shared-slice-known6 c = (in-loop-of-shared-slice-known6 c).before
-
-abbrev entry-of-shared-slice-known6 : tie.After-shared-slice-known6 invariant-loop decreases-loop → tie.Start invariant-loop decreases-loop
-entry-of-shared-slice-known6 c = entry-of-loop (loop-of-shared-slice-known6 c)
-
-abbrev loop-of-slice-known2 : tie.After-slice-known2 invariant-loop decreases-loop → tie.At-loop invariant-loop decreases-loop
-loop-of-slice-known2 c = loop-of-shared-slice-known6 c.before.before.before
-
-abbrev entry-of-slice-known2 : tie.After-slice-known2 invariant-loop decreases-loop → tie.Start invariant-loop decreases-loop
-entry-of-slice-known2 c = entry-of-loop (loop-of-slice-known2 c)
-
-loop-holds : tie.Need-loop-init invariant-loop decreases-loop
+loop-k-init : tie.Need-loop-k-init invariant-loop-k decreases-loop-k
 unfolding pair_lines
-loop-holds c = (omega arith, refl, record { bytes = refl; place = omega arith })
+loop-k-init c = (omega arith, refl, record { bytes = refl; place = omega arith })
 
-add-put-line : tie.Need-overflow-add-put-line invariant-loop decreases-loop
-add-put-line c = omega arith
+overflow_add-k : tie.Need-overflow_add-k invariant-loop-k decreases-loop-k
+overflow_add-k c = omega arith
 
-mul-put-line : tie.Need-overflow-mul-put-line invariant-loop decreases-loop
-mul-put-line c = omega arith
+offset_bounds-perm-k : tie.Need-offset_bounds-perm-k invariant-loop-k decreases-loop-k
+offset_bounds-perm-k c = omega arith
 
-shared-slice-read-put-line : tie.Need-shared-slice-read-put-line invariant-loop decreases-loop
-shared-slice-read-put-line c = omega arith
+bounds-perm-k : tie.Need-bounds-perm-k invariant-loop-k decreases-loop-k
+bounds-perm-k c = omega arith
 
-mul-put-line-2 : tie.Need-overflow-mul-put-line-2 invariant-loop decreases-loop
-mul-put-line-2 c = omega arith
+offset_bounds-u-k : tie.Need-offset_bounds-u-k invariant-loop-k decreases-loop-k
+offset_bounds-u-k c = omega arith
 
-shared-slice-read-put-line-2 : tie.Need-shared-slice-read-put-line-2 invariant-loop decreases-loop
-shared-slice-read-put-line-2 c = omega arith
+bounds-u-k : tie.Need-bounds-u-k invariant-loop-k decreases-loop-k
+bounds-u-k c = omega arith
 
-mul-put-line-3 : tie.Need-overflow-mul-put-line-3 invariant-loop decreases-loop
-mul-put-line-3 c = omega arith
+offset_bounds-v-k : tie.Need-offset_bounds-v-k invariant-loop-k decreases-loop-k
+offset_bounds-v-k c = omega arith
 
-shared-slice-read-put-line-3 : tie.Need-shared-slice-read-put-line-3 invariant-loop decreases-loop
-shared-slice-read-put-line-3 c = omega arith
+bounds-v-k : tie.Need-bounds-v-k invariant-loop-k decreases-loop-k
+bounds-v-k c = omega arith
 
-put-line-requires : tie.Need-put-line-requires invariant-loop decreases-loop
-put-line-requires c κs =
-    let args = (entry-of-shared-slice-known6 c).args in
-    let pre = (entry-of-shared-slice-known6 c).requires in
-    let loop = loop-of-shared-slice-known6 c in
-    let k = loop.loop.k in (
-      pre.1.1.1.0 k (in-loop-of-shared-slice-known6 c).loop-test.true,
+put_line-next-requires : tie.Need-put_line-next-requires invariant-loop-k decreases-loop-k
+put_line-next-requires c κs =
+    let args = c.args in
+    let pre = c.requires in
+    let k = c.loop-k.k in (
+      pre.all_printable k c.loop-k-test.true,
       (
-        pre.1.1.1.1.0 k (in-loop-of-shared-slice-known6 c).loop-test.true,
+        pre.all_printable_2 k c.loop-k-test.true,
         omega (
           arith,
-          loop.loop.inv.2.place,
-          loop.loop.inv.1,
+          c.loop-k.inv.2.place,
+          c.loop-k.inv.1,
           line_length args.perm.now args.u.now args.v.now k,
           lines_rise args.perm.now args.u.now args.v.now (suc k) args.n (omega arith),
         ),
       ),
     )
 
-add-k : tie.Need-overflow-add-k invariant-loop decreases-loop
-add-k c = omega arith
+overflow_add-k-in-loop-k : tie.Need-overflow_add-k-in-loop-k invariant-loop-k decreases-loop-k
+overflow_add-k-in-loop-k c = omega arith
 
-loop-less : tie.Need-loop-smaller invariant-loop decreases-loop
-loop-less c = omega arith
+loop-k-smaller : tie.Need-loop-k-smaller invariant-loop-k decreases-loop-k
+loop-k-smaller c = omega arith
 
-loop-again : tie.Need-loop-preserved invariant-loop decreases-loop
-loop-again c =
-    let args = (entry-of-slice-known2 c).args in
-    let loop = loop-of-slice-known2 c in (
+loop-k-preserved : tie.Need-loop-k-preserved invariant-loop-k decreases-loop-k
+loop-k-preserved c =
+    let args = c.args in
+    (
       omega arith,
-      c.before.before.put-line.auto.0 ∙ loop.loop.inv.1,
-      restated (line_more args.perm.now args.u.now args.v.now loop.loop.k) refl
-          (and_then loop.loop.inv.2 c.before.before.put-line.ensures),
+      c.put_line-next.auto.out ∙ c.loop-k.inv.1,
+      restated (line_more args.perm.now args.u.now args.v.now c.loop-k.k) refl
+          (and_then c.loop-k.inv.2 c.put_line-next.ensures),
     )
 
-same_length_lem : tie.Need-same-length invariant-loop decreases-loop
-same_length_lem c = c.before.loop.invariant.1
+shape_of-out : tie.Need-shape_of-out invariant-loop-k decreases-loop-k
+shape_of-out c = c.loop-k.invariant.1
 
-returns : tie.Need-returns invariant-loop decreases-loop
-returns c = let e : c.before.loop.k ≡ (entry-of-loop c.before).args.n = omega arith in
-    rw e at c.before.loop.invariant.2
+returns : tie.Need-returns invariant-loop-k decreases-loop-k
+returns c = let e : c.loop-k.k ≡ c.args.n = omega arith in
+    rw e at c.loop-k.invariant.2
 
-pub put-lines-spec : {M : Type 1} → statement M
-put-lines-spec =
+pub put_lines_spec : {M : Type 1} → statement M
+put_lines_spec =
     tie.close
     (tie.spec
-    invariant-loop
-    decreases-loop
-    loop-holds
-    add-put-line
-    mul-put-line
-    shared-slice-read-put-line
-    mul-put-line-2
-    shared-slice-read-put-line-2
-    mul-put-line-3
-    shared-slice-read-put-line-3
-    put-line-requires
-    add-k
-    loop-less
-    loop-again
-    same_length_lem
+    invariant-loop-k
+    decreases-loop-k
+    loop-k-init
+    overflow_add-k
+    offset_bounds-perm-k
+    bounds-perm-k
+    offset_bounds-u-k
+    bounds-u-k
+    offset_bounds-v-k
+    bounds-v-k
+    put_line-next-requires
+    overflow_add-k-in-loop-k
+    loop-k-smaller
+    loop-k-preserved
+    shape_of-out
     returns)

@@ -9,80 +9,42 @@ use Rattle.text_report.proofs.Fit.{parts_within}
 use Rattle.text_report.proofs.put_match.Statement.{statement}
 use Rattle.text_report.proofs.put_match.Tie as tie
 
--- places of the proof, each from a later one
-abbrev entry-of-slice-known : tie.After-slice-known → tie.Start
-entry-of-slice-known c = c.before.before.before.before.before
-
-abbrev put-matched-line-of-put-lines-arg : tie.After-put-lines-arg → tie.After-put-matched-line
-put-matched-line-of-put-lines-arg c = c.before.before.before
-
-abbrev slice-known-of-put-lines-arg : tie.After-put-lines-arg → tie.After-slice-known
-slice-known-of-put-lines-arg c = (put-matched-line-of-put-lines-arg c).before.before.before
-
-abbrev entry-of-put-lines-arg : tie.After-put-lines-arg → tie.Start
-entry-of-put-lines-arg c = entry-of-slice-known (slice-known-of-put-lines-arg c)
-
-abbrev put-lines-of-put-counts-arg : tie.After-put-counts-arg → tie.After-put-lines
-put-lines-of-put-counts-arg c = c.before.before.before
-
-abbrev put-matched-line-of-put-counts-arg : tie.After-put-counts-arg → tie.After-put-matched-line
-put-matched-line-of-put-counts-arg c = (put-lines-of-put-counts-arg c).before.before.before.before
-
-abbrev slice-known-of-put-counts-arg : tie.After-put-counts-arg → tie.After-slice-known
-slice-known-of-put-counts-arg c = (put-matched-line-of-put-counts-arg c).before.before.before
-
-abbrev entry-of-put-counts-arg : tie.After-put-counts-arg → tie.Start
-entry-of-put-counts-arg c = entry-of-slice-known (slice-known-of-put-counts-arg c)
-
-abbrev put-counts-arg-of-slice-known4 : tie.After-slice-known4 → tie.After-put-counts-arg
-put-counts-arg-of-slice-known4 c = c.before.before.before
-
-abbrev put-lines-of-slice-known4 : tie.After-slice-known4 → tie.After-put-lines
-put-lines-of-slice-known4 c = put-lines-of-put-counts-arg (put-counts-arg-of-slice-known4 c)
-
-abbrev put-matched-line-of-slice-known4 : tie.After-slice-known4 → tie.After-put-matched-line
-put-matched-line-of-slice-known4 c = put-matched-line-of-put-counts-arg (put-counts-arg-of-slice-known4 c)
-
-abbrev slice-known-of-slice-known4 : tie.After-slice-known4 → tie.After-slice-known
-slice-known-of-slice-known4 c = slice-known-of-put-counts-arg (put-counts-arg-of-slice-known4 c)
-
 -- all three parts fit
-parts : (c : tie.After-slice-known)
-    → length (matched_line (get_or (entry-of-slice-known c).args.counts.now 0 0)
-    (entry-of-slice-known c).args.n) + length
-    (pair_lines (entry-of-slice-known c).args.n
-    (entry-of-slice-known c).args.perm.now (entry-of-slice-known c).args.u.now
-    (entry-of-slice-known c).args.v.now) + length
-    (counts_line (entry-of-slice-known c).args.counts.now) ≤ 4096
+parts : (c : tie.After-slice_known-1)
+    → length (matched_line (get_or c.args.counts.now 0 0)
+    c.args.n) + length
+    (pair_lines c.args.n
+    c.args.perm.now c.args.u.now
+    c.args.v.now) + length
+    (counts_line c.args.counts.now) ≤ 4096
 parts c =
-    let s = entry-of-slice-known c in
-    parts_within s.args.n s.args.perm.now s.args.u.now s.args.v.now s.args.counts.now s.pre.0
-    (λ (k : ℕ). (c.before.before.before.before.shared-slice-known.given k).fits) s.pre.1.1.1.1.1.1.0
-    s.pre.1.1.1.1.1.1.1 (λ (k : ℕ). (c.before.shared-slice-known4.given k).fits)
+    parts_within c.args.n c.args.perm.now c.args.u.now c.args.v.now c.args.counts.now c.requires.small
+    (λ (k : ℕ). (c.shared_slice_known-1.given k).fits) c.requires.rows
+    c.requires.columns (λ (k : ℕ). (c.shared_slice_known-4-1.given k).fits)
 
-shared-slice-read-put-matched-line : tie.Need-shared-slice-read-put-matched-line
-shared-slice-read-put-matched-line c = omega arith
+bounds-counts-0 : tie.Need-bounds-counts-0
+bounds-counts-0 c = omega arith
 
-put-matched-line-requires : tie.Need-put-matched-line-requires
-put-matched-line-requires c κs = omega (arith, parts c.before.before)
+put_matched_line-after_first-requires : tie.Need-put_matched_line-after_first-requires
+put_matched_line-after_first-requires c κs = omega (arith, parts c.before.before)
 
-put-lines-requires : tie.Need-put-lines-requires
-put-lines-requires c κs =
-    let pre = (entry-of-put-lines-arg c).requires in (
+put_lines-after_pairs-requires : tie.Need-put_lines-after_pairs-requires
+put_lines-after_pairs-requires c κs =
+    let pre = c.requires in (
       omega arith,
       (
         omega arith,
         (
           omega arith,
           (
-            pre.1.1.1.1.1.1.0,
+            pre.rows,
             (
-              pre.1.1.1.1.1.1.1,
+              pre.columns,
               omega (
                 arith,
-                parts (slice-known-of-put-lines-arg c),
-                (put-matched-line-of-put-lines-arg c).put-matched-line.ensures.place,
-                (put-matched-line-of-put-lines-arg c).put-matched-line.auto.0,
+                parts c.before.before.before.before.before.before,
+                c.put_matched_line-after_first.ensures.place,
+                c.put_matched_line-after_first.auto.out,
               ),
             ),
           ),
@@ -90,50 +52,49 @@ put-lines-requires c κs =
       ),
     )
 
-put-counts-requires : tie.Need-put-counts-requires
-put-counts-requires c κs =
-    let put-matched-line = put-matched-line-of-put-counts-arg c in (
-      (entry-of-put-counts-arg c).requires.1.1.1.1.0,
+put_counts-requires : tie.Need-put_counts-requires
+put_counts-requires c κs =
+    (
+      c.requires.counts,
       omega (
         arith,
-        parts (slice-known-of-put-counts-arg c),
-        put-matched-line.put-matched-line.ensures.place,
-        put-matched-line.put-matched-line.kept.0,
-        (put-lines-of-put-counts-arg c).put-lines.ensures.place,
-        (put-lines-of-put-counts-arg c).put-lines.auto.0,
+        parts c.before.before.before.before.before.before.before.before.before.before,
+        c.put_matched_line-after_first.ensures.place,
+        c.put_matched_line-after_first.kept.0,
+        c.put_lines-after_pairs.ensures.place,
+        c.put_lines-after_pairs.auto.out,
       ),
     )
 
-same_length_lem : tie.Need-same-length
-same_length_lem c = c.before.before.put-counts.auto.0 ∙ (put-lines-of-slice-known4 c).put-lines.auto.0
-    ∙ (put-matched-line-of-slice-known4 c).put-matched-line.auto.0
+shape_of-out : tie.Need-shape_of-out
+shape_of-out c = c.put_counts.auto.out ∙ c.put_lines-after_pairs.auto.out
+    ∙ c.put_matched_line-after_first.auto.out
 
 returns : tie.Need-returns
 unfolding match_text
 returns c =
-    let put-matched-line = put-matched-line-of-slice-known4 c in
-    let w = from_start (and_then (and_then put-matched-line.put-matched-line.ensures
-    (put-lines-of-slice-known4 c).put-lines.ensures) c.before.before.put-counts.ensures) in (
+    let w = from_start (and_then (and_then c.put_matched_line-after_first.ensures
+    c.put_lines-after_pairs.ensures) c.put_counts.ensures) in (
       w.0,
       (
         w.1,
         omega (
           arith,
-          parts (slice-known-of-slice-known4 c),
-          put-matched-line.put-matched-line.ensures.place,
-          (put-lines-of-slice-known4 c).put-lines.ensures.place,
-          c.before.before.put-counts.ensures.place,
+          parts c.before.before.before.before.before.before.before.before.before.before.before.before.before,
+          c.put_matched_line-after_first.ensures.place,
+          c.put_lines-after_pairs.ensures.place,
+          c.put_counts.ensures.place,
         ),
       ),
     )
 
-pub put-match-spec : {M : Type 1} → statement M
-put-match-spec =
+pub put_match_spec : {M : Type 1} → statement M
+put_match_spec =
     tie.close
     (tie.spec
-    shared-slice-read-put-matched-line
-    put-matched-line-requires
-    put-lines-requires
-    put-counts-requires
-    same_length_lem
+    bounds-counts-0
+    put_matched_line-after_first-requires
+    put_lines-after_pairs-requires
+    put_counts-requires
+    shape_of-out
     returns)

@@ -1,4 +1,5 @@
 -- `put_pair` meets its contract: the two numbers one after the other, each after the one before.
+use Rattle.std.proofs.Common.{rules}
 use mathlib.Core.Path.{◌∙◌}
 use native.Mathlib.Omega.{arith}
 use borrow.Author.Rules.{rules}
@@ -9,72 +10,60 @@ use Rattle.text_report.proofs.Pairs.{matched_pair_length}
 use Rattle.text_report.proofs.put_pair.Statement.{statement}
 use Rattle.text_report.proofs.put_pair.Tie as tie
 
--- places of the proof, each from a later one
-abbrev entry-of-put-decimal : tie.After-put-decimal → tie.Start
-entry-of-put-decimal c = c.before.before.before
+overflow_add-row : tie.Need-overflow_add-row
+overflow_add-row c = search rules
 
-abbrev put-decimal-of-put-spaced : tie.After-put-spaced → tie.After-put-decimal
-put-decimal-of-put-spaced c = c.before.before.before.before
+put_decimal-after_row-requires : tie.Need-put_decimal-after_row-requires
+put_decimal-after_row-requires c κs = omega (arith, matched_pair_length c.args.row c.args.column)
 
-add-put-decimal : tie.Need-overflow-add-put-decimal
-add-put-decimal c = search rules
+overflow_add-column : tie.Need-overflow_add-column
+overflow_add-column c = search rules
 
-put-decimal-requires : tie.Need-put-decimal-requires
-put-decimal-requires c κs = omega (arith, matched_pair_length c.before.before.args.row c.before.before.args.column)
+put_spaced-last-requires : tie.Need-put_spaced-last-requires
+put_spaced-last-requires c κs =
+    let args = c.args in
+    omega (arith, matched_pair_length args.row args.column, c.put_decimal-after_row.ensures.place, c.put_decimal-after_row.auto.out)
 
-add-put-spaced : tie.Need-overflow-add-put-spaced
-add-put-spaced c = search rules
-
-put-spaced-requires : tie.Need-put-spaced-requires
-put-spaced-requires c κs =
-    let done = c.before.before.before in
-    let args = (entry-of-put-decimal done).args in
-    omega (arith, matched_pair_length args.row args.column, done.put-decimal.ensures.place, done.put-decimal.auto.0)
-
-slice-write-out : tie.Need-slice-write-out
-slice-write-out c =
-    let last = c.before.before in
-    let first = put-decimal-of-put-spaced last in
-    let args = (entry-of-put-decimal first).args in
+bounds-out-last : tie.Need-bounds-out-last
+bounds-out-last c =
+    let args = c.args in
     omega (
       arith,
       matched_pair_length args.row args.column,
-      first.put-decimal.ensures.place,
-      first.put-decimal.kept.0,
-      last.put-spaced.ensures.place,
-      last.put-spaced.auto.0,
+      c.put_decimal-after_row.ensures.place,
+      c.put_decimal-after_row.kept.0,
+      c.put_spaced-last.ensures.place,
+      c.put_spaced-last.auto.out,
     )
 
-add-result : tie.Need-overflow-add-result
-add-result c =
-    let last = c.before.before in
-    let first = put-decimal-of-put-spaced last in
-    let args = (entry-of-put-decimal first).args in
+overflow_add-result : tie.Need-overflow_add-result
+overflow_add-result c =
+    let args = c.args in
     omega (
       arith,
       matched_pair_length args.row args.column,
-      first.put-decimal.ensures.place,
-      first.put-decimal.kept.0,
-      last.put-spaced.ensures.place,
-      last.put-spaced.auto.0,
+      c.put_decimal-after_row.ensures.place,
+      c.put_decimal-after_row.kept.0,
+      c.put_spaced-last.ensures.place,
+      c.put_spaced-last.auto.out,
     )
 
-same_length_lem : tie.Need-same-length
-same_length_lem c = simp length-set (c.before.before.put-spaced.auto.0 ∙ (put-decimal-of-put-spaced c.before.before).put-decimal.auto.0)
+shape_of-out : tie.Need-shape_of-out
+shape_of-out c = simp length-set (c.put_spaced-last.auto.out ∙ c.put_decimal-after_row.auto.out)
 
 returns : tie.Need-returns
 unfolding matched_pair
-returns c = byte_last 10 (and_then (put-decimal-of-put-spaced c.before.before).put-decimal.ensures c.before.before.put-spaced.ensures)
+returns c = byte_last 10 (and_then c.put_decimal-after_row.ensures c.put_spaced-last.ensures)
 
-pub put-pair-spec : {M : Type 1} → statement M
-put-pair-spec =
+pub put_pair_spec : {M : Type 1} → statement M
+put_pair_spec =
     tie.close
     (tie.spec
-    add-put-decimal
-    put-decimal-requires
-    add-put-spaced
-    put-spaced-requires
-    slice-write-out
-    add-result
-    same_length_lem
+    overflow_add-row
+    put_decimal-after_row-requires
+    overflow_add-column
+    put_spaced-last-requires
+    bounds-out-last
+    overflow_add-result
+    shape_of-out
     returns)

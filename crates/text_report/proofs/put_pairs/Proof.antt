@@ -1,4 +1,5 @@
 -- `put_pairs` meets its contract: the three parts of the text one after the other, which fit.
+use Rattle.std.proofs.Common.{rules}
 use Prim.Native.Nat.{◌+◌, ◌≤◌}
 use native.Mathlib.Omega.{arith}
 use borrow.Author.Rules.{rules}
@@ -9,87 +10,68 @@ use Rattle.text_report.proofs.Pairs.{text_within}
 use Rattle.text_report.proofs.put_pairs.Statement.{statement}
 use Rattle.text_report.proofs.put_pairs.Tie as tie
 
--- places of the proof, each from a later one
-abbrev shared-slice-known-of-put-bytes : tie.After-put-bytes → tie.After-shared-slice-known
-shared-slice-known-of-put-bytes c = c.before.before.before.before
-
-abbrev put-bytes-of-put-pattern-size-arg : tie.After-put-pattern-size-arg → tie.After-put-bytes
-put-bytes-of-put-pattern-size-arg c = c.before.before.before
-
-abbrev shared-slice-known-of-put-pattern-size-arg : tie.After-put-pattern-size-arg → tie.After-shared-slice-known
-shared-slice-known-of-put-pattern-size-arg c = shared-slice-known-of-put-bytes (put-bytes-of-put-pattern-size-arg c)
-
 -- all three parts fit
-parts : (c : tie.After-shared-slice-known)
-    → 49 + length (pattern_size c.before.args.n c.before.args.pairs) + length (matched_pairs c.before.args.n c.before.args.perm.now) ≤ 4096
+parts : (c : tie.After-shared_slice_known-1)
+    → 49 + length (pattern_size c.args.n c.args.pairs) + length (matched_pairs c.args.n c.args.perm.now) ≤ 4096
 parts c =
-    let s = c.before in
-    text_within s.args.n s.args.pairs s.args.perm.now s.requires.0 (omega (arith, s.ranges.pairs))
-    (λ k l. (c.shared-slice-known.given k).fits)
+    text_within c.args.n c.args.pairs c.args.perm.now c.requires.small (omega (arith, c.ranges.pairs))
+    (λ k l. (c.shared_slice_known-1.given k).fits)
 
-slice-aggregate-put-bytes : tie.Need-slice-aggregate-put-bytes
-slice-aggregate-put-bytes c = search rules
+put_bytes-after_banner-requires : tie.Need-put_bytes-after_banner-requires
+put_bytes-after_banner-requires c κs = search rules
 
-put-bytes-requires : tie.Need-put-bytes-requires
-put-bytes-requires c κs = search rules
-
-put-pattern-size-requires : tie.Need-put-pattern-size-requires
-put-pattern-size-requires c κs =
+put_pattern_size-after_size-requires : tie.Need-put_pattern_size-after_size-requires
+put_pattern_size-after_size-requires c κs =
     omega (
       arith,
-      parts (shared-slice-known-of-put-pattern-size-arg c),
-      (put-bytes-of-put-pattern-size-arg c).put-bytes.ensures.place,
-      (put-bytes-of-put-pattern-size-arg c).put-bytes.auto.0,
+      parts c.before.before.before.before.before.before.before.before,
+      c.put_bytes-after_banner.ensures.place,
+      c.put_bytes-after_banner.auto.out,
     )
 
-put-columns-requires : tie.Need-put-columns-requires
-put-columns-requires c κs =
-    let sized = c.before.before.before in
-    let bannered = put-bytes-of-put-pattern-size-arg sized.before in (
-      (shared-slice-known-of-put-bytes bannered).before.pre.0,
+put_columns-requires : tie.Need-put_columns-requires
+put_columns-requires c κs =
+    (
+      c.requires.small,
       (
         omega arith,
         omega (
           arith,
-          parts (shared-slice-known-of-put-bytes bannered),
-          bannered.put-bytes.ensures.place,
-          bannered.put-bytes.kept.0,
-          sized.put-pattern-size.ensures.place,
-          sized.put-pattern-size.auto.0,
+          parts c.before.before.before.before.before.before.before.before.before.before.before.before,
+          c.put_bytes-after_banner.ensures.place,
+          c.put_bytes-after_banner.kept.0,
+          c.put_pattern_size-after_size.ensures.place,
+          c.put_pattern_size-after_size.auto.out,
         ),
       ),
     )
 
-same_length_lem : tie.Need-same-length
-same_length_lem c = search rules
+shape_of-out : tie.Need-shape_of-out
+shape_of-out c = search rules
 
 returns : tie.Need-returns
 unfolding pairs_text
 returns c =
-    let listed = c.before.before in
-    let sized = listed.before.before.before.before in
-    let bannered = put-bytes-of-put-pattern-size-arg sized.before in
-    let w = from_start (and_then (and_then bannered.put-bytes.ensures sized.put-pattern-size.ensures) listed.put-columns.ensures) in (
+    let w = from_start (and_then (and_then c.put_bytes-after_banner.ensures c.put_pattern_size-after_size.ensures) c.put_columns.ensures) in (
       w.0,
       (
         w.1,
         omega (
           arith,
-          parts (shared-slice-known-of-put-bytes bannered),
-          bannered.put-bytes.ensures.place,
-          sized.put-pattern-size.ensures.place,
-          listed.put-columns.ensures.place,
+          parts c.before.before.before.before.before.before.before.before.before.before.before.before.before.before.before,
+          c.put_bytes-after_banner.ensures.place,
+          c.put_pattern_size-after_size.ensures.place,
+          c.put_columns.ensures.place,
         ),
       ),
     )
 
-pub put-pairs-spec : {M : Type 1} → statement M
-put-pairs-spec =
+pub put_pairs_spec : {M : Type 1} → statement M
+put_pairs_spec =
     tie.close
     (tie.spec
-    slice-aggregate-put-bytes
-    put-bytes-requires
-    put-pattern-size-requires
-    put-columns-requires
-    same_length_lem
+    put_bytes-after_banner-requires
+    put_pattern_size-after_size-requires
+    put_columns-requires
+    shape_of-out
     returns)

@@ -8,95 +8,71 @@ use Rattle.text_report.proofs.Pairs.{size_length}
 use Rattle.text_report.proofs.put_pattern_size.Statement.{statement}
 use Rattle.text_report.proofs.put_pattern_size.Tie as tie
 
--- places of the proof, each from a later one
-abbrev entry-of-put-decimal : tie.After-put-decimal → tie.Start
-entry-of-put-decimal c = c.before.before.before
+put_decimal-after_rows-requires : tie.Need-put_decimal-after_rows-requires
+put_decimal-after_rows-requires c κs = omega (arith, size_length c.args.n c.args.pairs)
 
-abbrev put-decimal-of-put-spaced : tie.After-put-spaced → tie.After-put-decimal
-put-decimal-of-put-spaced c = c.before.before.before.before
+put_spaced-after_columns-requires : tie.Need-put_spaced-after_columns-requires
+put_spaced-after_columns-requires c κs =
+    let args = c.args in
+    omega (arith, size_length args.n args.pairs, c.put_decimal-after_rows.ensures.place, c.put_decimal-after_rows.auto.out)
 
-abbrev put-spaced-of-put-spaced2 : tie.After-put-spaced2 → tie.After-put-spaced
-put-spaced-of-put-spaced2 c = c.before.before.before.before
-
-put-decimal-requires : tie.Need-put-decimal-requires
-put-decimal-requires c κs = omega (arith, size_length c.before.before.args.n c.before.before.args.pairs)
-
-put-spaced-requires : tie.Need-put-spaced-requires
-put-spaced-requires c κs =
-    let done = c.before.before.before in
-    let args = (entry-of-put-decimal done).args in
-    omega (arith, size_length args.n args.pairs, done.put-decimal.ensures.place, done.put-decimal.auto.0)
-
-put-spaced-requires-2 : tie.Need-put-spaced-requires-2
-put-spaced-requires-2 c κs =
-    let second = c.before.before.before in
-    let first = put-decimal-of-put-spaced second in
-    let args = (entry-of-put-decimal first).args in
+put_spaced-last-requires : tie.Need-put_spaced-last-requires
+put_spaced-last-requires c κs =
+    let args = c.args in
     omega (
       arith,
       size_length args.n args.pairs,
-      first.put-decimal.ensures.place,
-      first.put-decimal.kept.0,
-      second.put-spaced.ensures.place,
-      second.put-spaced.auto.0,
+      c.put_decimal-after_rows.ensures.place,
+      c.put_decimal-after_rows.kept.0,
+      c.put_spaced-after_columns.ensures.place,
+      c.put_spaced-after_columns.auto.out,
     )
 
-slice-write-out : tie.Need-slice-write-out
-slice-write-out c =
-    let last = c.before.before in
-    let second = put-spaced-of-put-spaced2 last in
-    let first = put-decimal-of-put-spaced second in
-    let args = (entry-of-put-decimal first).args in
+bounds-out-last : tie.Need-bounds-out-last
+bounds-out-last c =
+    let args = c.args in
     omega (
       arith,
       size_length args.n args.pairs,
-      first.put-decimal.ensures.place,
-      first.put-decimal.kept.0,
-      second.put-spaced.ensures.place,
-      second.put-spaced.kept.0,
-      last.put-spaced2.ensures.place,
-      last.put-spaced2.auto.0,
+      c.put_decimal-after_rows.ensures.place,
+      c.put_decimal-after_rows.kept.0,
+      c.put_spaced-after_columns.ensures.place,
+      c.put_spaced-after_columns.kept.0,
+      c.put_spaced-last.ensures.place,
+      c.put_spaced-last.auto.out,
     )
 
-add-result : tie.Need-overflow-add-result
-add-result c =
-    let last = c.before.before in
-    let second = put-spaced-of-put-spaced2 last in
-    let first = put-decimal-of-put-spaced second in
-    let args = (entry-of-put-decimal first).args in
+overflow_add-result : tie.Need-overflow_add-result
+overflow_add-result c =
+    let args = c.args in
     omega (
       arith,
       size_length args.n args.pairs,
-      first.put-decimal.ensures.place,
-      first.put-decimal.kept.0,
-      second.put-spaced.ensures.place,
-      second.put-spaced.kept.0,
-      last.put-spaced2.ensures.place,
-      last.put-spaced2.auto.0,
+      c.put_decimal-after_rows.ensures.place,
+      c.put_decimal-after_rows.kept.0,
+      c.put_spaced-after_columns.ensures.place,
+      c.put_spaced-after_columns.kept.0,
+      c.put_spaced-last.ensures.place,
+      c.put_spaced-last.auto.out,
     )
 
-same_length_lem : tie.Need-same-length
-same_length_lem c =
-    let last = c.before.before in
-    let second = put-spaced-of-put-spaced2 last in
-    simp length-set (last.put-spaced2.auto.0 ∙ second.put-spaced.kept.0 ∙ (put-decimal-of-put-spaced second).put-decimal.kept.0)
+shape_of-out : tie.Need-shape_of-out
+shape_of-out c =
+    simp length-set (c.put_spaced-last.auto.out ∙ c.put_spaced-after_columns.kept.0 ∙ c.put_decimal-after_rows.kept.0)
 
 returns : tie.Need-returns
 unfolding pattern_size
 returns c =
-    let last = c.before.before in
-    let second = put-spaced-of-put-spaced2 last in
-    let first = put-decimal-of-put-spaced second in
-    byte_last 10 (and_then (and_then first.put-decimal.ensures second.put-spaced.ensures) last.put-spaced2.ensures)
+    byte_last 10 (and_then (and_then c.put_decimal-after_rows.ensures c.put_spaced-after_columns.ensures) c.put_spaced-last.ensures)
 
-pub put-pattern-size-spec : {M : Type 1} → statement M
-put-pattern-size-spec =
+pub put_pattern_size_spec : {M : Type 1} → statement M
+put_pattern_size_spec =
     tie.close
     (tie.spec
-    put-decimal-requires
-    put-spaced-requires
-    put-spaced-requires-2
-    slice-write-out
-    add-result
-    same_length_lem
+    put_decimal-after_rows-requires
+    put_spaced-after_columns-requires
+    put_spaced-last-requires
+    bounds-out-last
+    overflow_add-result
+    shape_of-out
     returns)

@@ -1,4 +1,5 @@
 -- `put_spaced` meets its contract: the space, then the number.
+use Rattle.std.proofs.Common.{rules}
 use mathlib.Core.Path.{◌∙◌}
 use native.Mathlib.Omega.{arith}
 use lib.ListN.{length-set}
@@ -7,21 +8,27 @@ use borrow.Author.Rules.{rules}
 use Rattle.text_report.proofs.put_spaced.Statement.{statement}
 use Rattle.text_report.proofs.put_spaced.Tie as tie
 
-slice-write-out : tie.Need-slice-write-out
-slice-write-out c = search rules
+bounds-out-at : tie.Need-bounds-out-at
+bounds-out-at c = search rules
 
-add-put-decimal : tie.Need-overflow-add-put-decimal
-add-put-decimal c = search rules
+overflow_add-at : tie.Need-overflow_add-at
+overflow_add-at c = search rules
 
-put-decimal-requires : tie.Need-put-decimal-requires
-put-decimal-requires c κs = simp length-set (omega arith)
+put_decimal-requires : tie.Need-put_decimal-requires
+put_decimal-requires c κs = simp length-set (omega arith)
 
-same_length_lem : tie.Need-same-length
-same_length_lem c = c.before.before.put-decimal.auto.0 ∙ simp length-set
+shape_of-out : tie.Need-shape_of-out
+shape_of-out c = c.put_decimal.auto.out ∙ simp length-set
 
 returns : tie.Need-returns
-returns c = byte_first 32 c.before.before.put-decimal.ensures
+returns c = byte_first 32 c.put_decimal.ensures
 
-pub put-spaced-spec : {M : Type 1} → statement M
-put-spaced-spec =
-    tie.close (tie.spec slice-write-out add-put-decimal put-decimal-requires same_length_lem returns)
+pub put_spaced_spec : {M : Type 1} → statement M
+put_spaced_spec =
+    tie.close
+    (tie.spec
+    bounds-out-at
+    overflow_add-at
+    put_decimal-requires
+    shape_of-out
+    returns)

@@ -1,4 +1,5 @@
 -- `put_whole` meets its contract: the size casts without loss, and the test says whether a minus comes first.
+use Rattle.std.proofs.Common.{rules}
 use mathlib.Core.Path.{refl, sym, ap, ◌∙◌}
 use native.Mathlib.Omega.{arith}
 use lib.ListN.{length, length-set}
@@ -8,99 +9,71 @@ use borrow.Author.Rules.{rules}
 use Rattle.text_report.proofs.put_whole.Statement.{statement}
 use Rattle.text_report.proofs.put_whole.Tie as tie
 
--- places of the proof, each from a later one
-abbrev entry-of-row-known : tie.After-row-known → tie.Start
-entry-of-row-known c = c.before.before.before
+abs-size-requires : tie.Need-abs-size-requires
+abs-size-requires c κs = search rules
 
-abbrev entry-of-then1 : tie.Then1 → tie.Start
-entry-of-then1 c = entry-of-row-known c.before.before
+float_to_int-size : tie.Need-float_to_int-size
+float_to_int-size c = rw c.abs-size.ensures (size_casts c.args.x c.requires.printable)
 
-abbrev entry-of-put-decimal-arg2 : tie.After-put-decimal-arg2 → tie.Start
-entry-of-put-decimal-arg2 c = entry-of-row-known c.before.before.before
+has_minus-requires : tie.Need-has_minus-requires
+has_minus-requires c κs = search rules
 
-abbrev then1-of-slice-known2 : tie.After-slice-known2 → tie.Then1
-then1-of-slice-known2 c = c.before.before.before.before
+bounds-out-at : tie.Need-bounds-out-at
+bounds-out-at c = omega
+    (arith, ap length (negative_text c.args.x c.requires.printable (sym c.has_minus.ensures ∙ c.if-has_minus.true)))
 
-abbrev has-minus-of-slice-known2 : tie.After-slice-known2 → tie.After-has-minus
-has-minus-of-slice-known2 c = (then1-of-slice-known2 c).before
+overflow_add-at : tie.Need-overflow_add-at
+overflow_add-at c = search rules
 
-abbrev entry-of-slice-known2 : tie.After-slice-known2 → tie.Start
-entry-of-slice-known2 c = entry-of-then1 (then1-of-slice-known2 c)
-
-abbrev else1-of-slice-known3 : tie.After-slice-known3 → tie.Else1
-else1-of-slice-known3 c = c.before.before.before.before
-
-abbrev has-minus-of-slice-known3 : tie.After-slice-known3 → tie.After-has-minus
-has-minus-of-slice-known3 c = (else1-of-slice-known3 c).before
-
-abbrev entry-of-slice-known3 : tie.After-slice-known3 → tie.Start
-entry-of-slice-known3 c = entry-of-put-decimal-arg2 c.before.before.before
-
-abs-requires : tie.Need-abs-requires
-abs-requires c κs = search rules
-
-float-to-int-size : tie.Need-float-to-int-size
-float-to-int-size c = rw c.before.abs.ensures (size_casts (entry-of-row-known c).args.x (entry-of-row-known c).requires.0)
-
-has-minus-requires : tie.Need-has-minus-requires
-has-minus-requires c κs = search rules
-
-slice-write-out : tie.Need-slice-write-out
-slice-write-out c = omega
-    (arith, ap length (negative_text (entry-of-then1 c).args.x (entry-of-then1 c).requires.0 (sym c.before.has-minus.ensures ∙ c.if1.true)))
-
-add-put-decimal : tie.Need-overflow-add-put-decimal
-add-put-decimal c = search rules
-
-put-decimal-requires : tie.Need-put-decimal-requires
-put-decimal-requires c κs = rw c.before.before.before.before.abs.ensures
+put_decimal-requires : tie.Need-put_decimal-requires
+put_decimal-requires c κs = rw c.abs-size.ensures
     (simp length-set (omega (
       arith,
-      ap length (negative_text (entry-of-then1 c.before).args.x
-          (entry-of-then1 c.before).requires.0 (sym c.before.before.has-minus.ensures ∙
-          c.before.if1.true)),
+      ap length (negative_text c.args.x
+          c.requires.printable (sym c.has_minus.ensures ∙
+          c.if-has_minus.true)),
     )))
 
-same_length_lem : tie.Need-same-length
-same_length_lem c = c.before.before.put-decimal.auto.0 ∙ simp length-set
+shape_of-out-then-has_minus : tie.Need-shape_of-out-then-has_minus
+shape_of-out-then-has_minus c = c.put_decimal.auto.out ∙ simp length-set
 
-returns : tie.Need-returns
-returns c = restated (sym (negative_text (entry-of-slice-known2 c).args.x
-    (entry-of-slice-known2 c).requires.0
-    (sym (has-minus-of-slice-known2 c).has-minus.ensures ∙ (then1-of-slice-known2 c).if1.true))) refl
-    (byte_first 45 (rw (has-minus-of-slice-known2 c).before.before.abs.ensures at
-    c.before.before.put-decimal.ensures))
+returns-then-has_minus : tie.Need-returns-then-has_minus
+returns-then-has_minus c = restated (sym (negative_text c.args.x
+    c.requires.printable
+    (sym c.has_minus.ensures ∙ c.if-has_minus.true))) refl
+    (byte_first 45 (rw c.abs-size.ensures at
+    c.put_decimal.ensures))
 
-put-decimal-requires-2 : tie.Need-put-decimal-requires-2
-put-decimal-requires-2 c κs = rw c.before.before.before.before.abs.ensures
+put_decimal-requires-2 : tie.Need-put_decimal-requires-2
+put_decimal-requires-2 c κs = rw c.abs-size.ensures
     (omega (
       arith,
-      ap length (other_text (entry-of-put-decimal-arg2 c).args.x
-          (entry-of-put-decimal-arg2 c).requires.0 (sym c.before.before.has-minus.ensures ∙
-          c.before.if1.false)),
+      ap length (other_text c.args.x
+          c.requires.printable (sym c.has_minus.ensures ∙
+          c.if-has_minus.false)),
     ))
 
-same-length-2 : tie.Need-same-length-2
-same-length-2 c = search rules
+shape_of-out : tie.Need-shape_of-out
+shape_of-out c = search rules
 
-returns-2 : tie.Need-returns-2
-returns-2 c = restated (sym (other_text (entry-of-slice-known3 c).args.x
-    (entry-of-slice-known3 c).requires.0
-    (sym (has-minus-of-slice-known3 c).has-minus.ensures ∙ (else1-of-slice-known3 c).if1.false))) refl
-    (rw (has-minus-of-slice-known3 c).before.before.abs.ensures at c.before.before.put-decimal2.ensures)
+returns : tie.Need-returns
+returns-then-has_minus c = restated (sym (other_text c.args.x
+    c.requires.printable
+    (sym c.has_minus.ensures ∙ c.if-has_minus.false))) refl
+    (rw c.abs-size.ensures at c.put_decimal-2.ensures)
 
-pub put-whole-spec : {M : Type 1} → statement M
-put-whole-spec =
+pub put_whole_spec : {M : Type 1} → statement M
+put_whole_spec =
     tie.close
     (tie.spec
-    abs-requires
-    float-to-int-size
-    has-minus-requires
-    slice-write-out
-    add-put-decimal
-    put-decimal-requires
-    same_length_lem
-    returns
-    put-decimal-requires-2
-    same-length-2
-    returns-2)
+    abs-size-requires
+    float_to_int-size
+    has_minus-requires
+    bounds-out-at
+    overflow_add-at
+    put_decimal-requires
+    shape_of-out-then-has_minus
+    returns-then-has_minus
+    put_decimal-requires-2
+    shape_of-out
+    returns)

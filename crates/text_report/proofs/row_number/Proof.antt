@@ -8,20 +8,25 @@ use Rattle.text_report.specs.Report.{row_number}
 use Rattle.text_report.proofs.row_number.Statement.{statement}
 use Rattle.text_report.proofs.row_number.Tie as tie
 
+returns-then-row-eq-NONE : tie.Need-returns-then-row-eq-NONE
+unfolding row_number
+returns-then-row-eq-NONE c =
+    let row = c.args.row in
+    sym (ap (λ (none : Bool). cond none 0 (row + 1)) (eq-eqb row 4294967295 c.if-row-eq-NONE.true))
+
+overflow_add-result : tie.Need-overflow_add-result
+overflow_add-result c = omega arith
+
 returns : tie.Need-returns
 unfolding row_number
-returns c =
-    let row = c.before.args.row in
-    sym (ap (λ (none : Bool). cond none 0 (row + 1)) (eq-eqb row 4294967295 c.if1.true))
+returns-then-row-eq-NONE c =
+    let row = c.args.row in
+    sym (ap (λ (none : Bool). cond none 0 (row + 1)) (ne_eqb row 4294967295 c.if-row-eq-NONE.false))
 
-add-result : tie.Need-overflow-add-result
-add-result c = omega arith
-
-returns-2 : tie.Need-returns-2
-unfolding row_number
-returns-2 c =
-    let row = c.before.args.row in
-    sym (ap (λ (none : Bool). cond none 0 (row + 1)) (ne_eqb row 4294967295 c.if1.false))
-
-pub row-number-spec : {M : Type 1} → statement M
-row-number-spec = tie.close (tie.spec returns add-result returns-2)
+pub row_number_spec : {M : Type 1} → statement M
+row_number_spec =
+    tie.close
+    (tie.spec
+    returns-then-row-eq-NONE
+    overflow_add-result
+    returns)

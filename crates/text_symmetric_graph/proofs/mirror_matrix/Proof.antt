@@ -1,4 +1,5 @@
 -- `mirror_matrix` meets its contract: the kept count tells the case, and what is assembled is what the building requires.
+use Rattle.std.proofs.Common.{rules}
 use mathlib.Core.Path.{refl, ◌∙◌}
 use borrow.Author.Rules.{rules}
 use Rattle.mc64_columns.specs.Graphs.{Slices, slices}
@@ -7,125 +8,96 @@ use Rattle.text_symmetric_graph.proofs.Calls.{some_repeated, work_same, doubles,
 use Rattle.text_symmetric_graph.proofs.mirror_matrix.Statement.{statement}
 use Rattle.text_symmetric_graph.proofs.mirror_matrix.Tie as tie
 
--- places of the proof, each from a later one
-abbrev entry-of-slice-known5 : tie.After-slice-known5 → tie.Start
-entry-of-slice-known5 c = c.before.before.before.before.before.before.before.before
-
-abbrev entry-of-assemble-arg4 : tie.After-assemble-arg4 → tie.Start
-entry-of-assemble-arg4 c = entry-of-slice-known5 c.before.before.before.before.before.before.before
-
-abbrev entry-of-assemble : tie.After-assemble → tie.Start
-entry-of-assemble c = entry-of-assemble-arg4 c.before
-
-abbrev assemble-of-then1 : tie.Then1 → tie.After-assemble
-assemble-of-then1 c = c.before.before.before.before.before.before.before.before.before
-
-abbrev assemble-of-else1 : tie.Else1 → tie.After-assemble
-assemble-of-else1 c = c.before.before.before.before.before.before.before.before.before
-
-abbrev entry-of-else1 : tie.Else1 → tie.Start
-entry-of-else1 c = entry-of-assemble (assemble-of-else1 c)
-
-abbrev else1-of-build-arg8 : tie.After-build-arg8 → tie.Else1
-else1-of-build-arg8 c = c.before.before.before.before.before.before.before.before
-
-abbrev build-of-slice-known17 : tie.After-slice-known17 → tie.After-build
-build-of-slice-known17 c = c.before.before.before.before.before.before.before.before.before.before
-
 -- what is lent for the graph, with the work as the assembly leaves it
-abbrev lent : tie.Else1 → Slices
+abbrev lent : tie.Else-kept-rows → Slices
 lent c =
-    let args = (entry-of-else1 c).args in
-    slices args.graph-ptr.now args.graph-rows.now args.cost.now args.cmax.now (assemble-of-else1 c).assemble.new.1.1.1.1.1.1.1.0
+    let args = c.args in
+    slices args.graph-ptr.now args.graph-rows.now args.cost.now args.cmax.now c.assemble-kept.new.work
 
-assemble-requires : tie.Need-assemble-requires
-assemble-requires c κs = let pre = (entry-of-assemble-arg4 c).requires in (pre.1.0, pre.1.1.0)
+assemble-kept-requires : tie.Need-assemble-kept-requires
+assemble-kept-requires c κs = let pre = c.requires in (pre.sized, pre.roomy)
 
-cast-if1 : tie.Need-overflow-cast-if1
-cast-if1 c = search rules
+overflow_cast-kept : tie.Need-overflow_cast-kept
+overflow_cast-kept c = search rules
 
-same_length_lem : tie.Need-same-length
-same_length_lem c = search rules
+shape_of-col_ptr-then-kept-rows : tie.Need-shape_of-col_ptr-then-kept-rows
+shape_of-col_ptr-then-kept-rows c = search rules
 
-same-length-2 : tie.Need-same-length-2
-same-length-2 c = search rules
+shape_of-row_idx-then-kept-rows : tie.Need-shape_of-row_idx-then-kept-rows
+shape_of-row_idx-then-kept-rows c = search rules
 
-same-length-3 : tie.Need-same-length-3
-same-length-3 c = search rules
+shape_of-stored-then-kept-rows : tie.Need-shape_of-stored-then-kept-rows
+shape_of-stored-then-kept-rows c = search rules
 
-same-length-4 : tie.Need-same-length-4
-same-length-4 c = search rules
+shape_of-work-then-kept-rows : tie.Need-shape_of-work-then-kept-rows
+shape_of-work-then-kept-rows c = search rules
+
+returns-then-kept-rows : tie.Need-returns-then-kept-rows
+returns-then-kept-rows c =
+    (some_repeated c.requires.symmetric_values c.assemble-kept.ensures c.if-kept-rows.true, refl)
+
+build-count-requires : tie.Need-build-count-requires
+build-count-requires c κs =
+    let pre = c.requires in
+    let b = c.assemble-kept.ensures in
+    symmetric_ready _ (lent c.before.before.before.before.before)
+    (fine pre.symmetric_values b c.if-kept-rows.left pre.roomy.row_room pre.roomy.value_room (lent c.before.before.before.before.before) pre.graph_room pre.cmax_len
+    (work_same pre.symmetric_values b ∙ pre.sized.room))
+    (doubles pre.symmetric_values b c.if-kept-rows.left pre.roomy.row_room pre.roomy.value_room)
+
+shape_of-col_ptr : tie.Need-shape_of-col_ptr
+shape_of-col_ptr c = search rules
+
+shape_of-row_idx : tie.Need-shape_of-row_idx
+shape_of-row_idx c = search rules
+
+shape_of-stored : tie.Need-shape_of-stored
+shape_of-stored c = search rules
+
+shape_of-work : tie.Need-shape_of-work
+shape_of-work c = search rules
+
+shape_of-graph_ptr : tie.Need-shape_of-graph_ptr
+shape_of-graph_ptr c = search rules
+
+shape_of-graph_rows : tie.Need-shape_of-graph_rows
+shape_of-graph_rows c = search rules
+
+shape_of-cost : tie.Need-shape_of-cost
+shape_of-cost c = search rules
+
+shape_of-cmax : tie.Need-shape_of-cmax
+shape_of-cmax c = search rules
 
 returns : tie.Need-returns
-returns c =
-    let assembly = assemble-of-then1 c in
-    (some_repeated (entry-of-assemble assembly).pre.0 assembly.assemble.ensures c.if1.true, refl)
-
-build-requires : tie.Need-build-requires
-build-requires c κs =
-    let other = else1-of-build-arg8 c in
-    let pre = (entry-of-else1 other).pre in
-    let b = (assemble-of-else1 other).assemble.ensures in
-    symmetric_ready _ (lent other)
-    (fine pre.0 b other.if1.left pre.1.1.0.row_room pre.1.1.0.value_room (lent other) pre.1.1.1.0 pre.1.1.1.1
-    (work_same pre.0 b ∙ pre.1.0.room))
-    (doubles pre.0 b other.if1.left pre.1.1.0.row_room pre.1.1.0.value_room)
-
-same-length-5 : tie.Need-same-length-5
-same-length-5 c = search rules
-
-same-length-6 : tie.Need-same-length-6
-same-length-6 c = search rules
-
-same-length-7 : tie.Need-same-length-7
-same-length-7 c = search rules
-
-same-length-8 : tie.Need-same-length-8
-same-length-8 c = search rules
-
-same-length-9 : tie.Need-same-length-9
-same-length-9 c = search rules
-
-same-length-10 : tie.Need-same-length-10
-same-length-10 c = search rules
-
-same-length-11 : tie.Need-same-length-11
-same-length-11 c = search rules
-
-same-length-12 : tie.Need-same-length-12
-same-length-12 c = search rules
-
-returns-2 : tie.Need-returns-2
-returns-2 c =
-    let build = build-of-slice-known17 c in
-    let other = else1-of-build-arg8 build.before in
-    let pre = (entry-of-else1 other).pre in
-    let b = (assemble-of-else1 other).assemble.ensures in
-    let work = work_same pre.0 b ∙ pre.1.0.room in (
-      holds pre.0 b other.if1.left pre.1.1.0.row_room pre.1.1.0.value_room (lent other) pre.1.1.1.0 pre.1.1.1.1 work _ _
-          build.build.ensures,
-      leaves pre.0 b other.if1.left pre.1.1.0.row_room pre.1.1.0.value_room (lent other) pre.1.1.1.0 pre.1.1.1.1 work _ _
-          build.build.ensures,
+returns-then-kept-rows c =
+    let pre = c.requires in
+    let b = c.assemble-kept.ensures in
+    let work = work_same pre.symmetric_values b ∙ pre.sized.room in (
+      holds pre.symmetric_values b c.if-kept-rows.left pre.roomy.row_room pre.roomy.value_room (lent c.before.before.before.before.before.before.before.before.before.before.before.before.before.before.before.before) pre.graph_room pre.cmax_len work _ _
+          c.build-count.ensures,
+      leaves pre.symmetric_values b c.if-kept-rows.left pre.roomy.row_room pre.roomy.value_room (lent c.before.before.before.before.before.before.before.before.before.before.before.before.before.before.before.before) pre.graph_room pre.cmax_len work _ _
+          c.build-count.ensures,
     )
 
-pub mirror-matrix-spec : {M : Type 1} → statement M
-mirror-matrix-spec =
+pub mirror_matrix_spec : {M : Type 1} → statement M
+mirror_matrix_spec =
     tie.close
     (tie.spec
-    assemble-requires
-    cast-if1
-    same_length_lem
-    same-length-2
-    same-length-3
-    same-length-4
-    returns
-    build-requires
-    same-length-5
-    same-length-6
-    same-length-7
-    same-length-8
-    same-length-9
-    same-length-10
-    same-length-11
-    same-length-12
-    returns-2)
+    assemble-kept-requires
+    overflow_cast-kept
+    shape_of-col_ptr-then-kept-rows
+    shape_of-row_idx-then-kept-rows
+    shape_of-stored-then-kept-rows
+    shape_of-work-then-kept-rows
+    returns-then-kept-rows
+    build-count-requires
+    shape_of-col_ptr
+    shape_of-row_idx
+    shape_of-stored
+    shape_of-work
+    shape_of-graph_ptr
+    shape_of-graph_rows
+    shape_of-cost
+    shape_of-cmax
+    returns)

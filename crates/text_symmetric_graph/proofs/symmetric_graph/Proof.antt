@@ -1,4 +1,5 @@
 -- `symmetric_graph` meets its contract: a part of each local array has its length.
+use Rattle.std.proofs.Common.{rules}
 use mathlib.Core.Path.{sym, ap, ◌∙◌}
 use Prim.Native.Nat.{ℕ}
 use native.Mathlib.Omega.{arith}
@@ -10,64 +11,54 @@ use Rattle.hungarian_match.proofs.LocalArrays.{part_length}
 use Rattle.text_symmetric_graph.proofs.symmetric_graph.Statement.{statement}
 use Rattle.text_symmetric_graph.proofs.symmetric_graph.Tie as tie
 
--- places of the proof, each from a later one
-abbrev entry-of-slice-known3 : tie.After-slice-known3 → tie.Start
-entry-of-slice-known3 c = c.before.before.before.before.before.before
+overflow_add-col_ptr : tie.Need-overflow_add-col_ptr
+overflow_add-col_ptr c = let held = c.requires.symmetric_values.held in omega (arith, held.few, held.short)
 
-abbrev entry-of-stored : tie.After-stored → tie.Start
-entry-of-stored c = entry-of-slice-known3 c.before.before.before
+slice_bounds-col_ptr-end : tie.Need-slice_bounds-col_ptr-end
+slice_bounds-col_ptr-end c = search rules
 
-abbrev entry-of-cmax : tie.After-cmax → tie.Start
-entry-of-cmax c = entry-of-stored c.before.before.before.before.before
+slice_bounds-mirror_matrix-end : tie.Need-slice_bounds-mirror_matrix-end
+slice_bounds-mirror_matrix-end c = let held = c.requires.symmetric_values.held in sym (part_length _ 65 _ (omega (arith, held.few, held.short)))
 
-add-col-ptr : tie.Need-overflow-add-col-ptr
-add-col-ptr c = let held = (entry-of-slice-known3 c).requires.0.held in omega (arith, held.few, held.short)
+slice_bounds-row_idx-end : tie.Need-slice_bounds-row_idx-end
+slice_bounds-row_idx-end c = search rules
 
-array-borrow-prefix-col-ptr : tie.Need-array-borrow-prefix-col-ptr
-array-borrow-prefix-col-ptr c = search rules
-
-slice-aggregate-mirror-matrix : tie.Need-slice-aggregate-mirror-matrix
-slice-aggregate-mirror-matrix c = let held = (entry-of-slice-known3 c.before).requires.0.held in sym (part_length _ 65 _ (omega (arith, held.few, held.short)))
-
-array-borrow-prefix-row-idx : tie.Need-array-borrow-prefix-row-idx
-array-borrow-prefix-row-idx c = search rules
-
-slice-aggregate-mirror-matrix-2 : tie.Need-slice-aggregate-mirror-matrix-2
-slice-aggregate-mirror-matrix-2 c = let held = (entry-of-slice-known3 c.before.before).requires.0.held in
+slice_bounds-mirror_matrix-end-2 : tie.Need-slice_bounds-mirror_matrix-end-2
+slice_bounds-mirror_matrix-end-2 c = let held = c.requires.symmetric_values.held in
     sym (part_length _ 512 _ (omega (arith, held.few, held.short)))
 
-array-borrow-prefix-stored : tie.Need-array-borrow-prefix-stored
-array-borrow-prefix-stored c = search rules
+slice_bounds-stored-end : tie.Need-slice_bounds-stored-end
+slice_bounds-stored-end c = search rules
 
-slice-aggregate-mirror-matrix-3 : tie.Need-slice-aggregate-mirror-matrix-3
-slice-aggregate-mirror-matrix-3 c = let held = (entry-of-stored c).requires.0.held in sym (part_length _ 512 _ (omega (arith, held.few, held.short)))
+slice_bounds-mirror_matrix-end-3 : tie.Need-slice_bounds-mirror_matrix-end-3
+slice_bounds-mirror_matrix-end-3 c = let held = c.requires.symmetric_values.held in sym (part_length _ 512 _ (omega (arith, held.few, held.short)))
 
-mul-work : tie.Need-overflow-mul-work
-mul-work c = let held = (entry-of-stored c).requires.0.held in omega (arith, held.few, held.short)
+overflow_mul-work : tie.Need-overflow_mul-work
+overflow_mul-work c = let held = c.requires.symmetric_values.held in omega (arith, held.few, held.short)
 
-add-work : tie.Need-overflow-add-work
-add-work c = let held = (entry-of-stored c).requires.0.held in omega (arith, held.few, held.short)
+overflow_add-work : tie.Need-overflow_add-work
+overflow_add-work c = let held = c.requires.symmetric_values.held in omega (arith, held.few, held.short)
 
-add-work-2 : tie.Need-overflow-add-work-2
-add-work-2 c = let held = (entry-of-stored c).requires.0.held in omega (arith, held.few, held.short)
+overflow_add-work-2 : tie.Need-overflow_add-work-2
+overflow_add-work-2 c = let held = c.requires.symmetric_values.held in omega (arith, held.few, held.short)
 
-array-borrow-prefix-work : tie.Need-array-borrow-prefix-work
-array-borrow-prefix-work c = search rules
+slice_bounds-work-end : tie.Need-slice_bounds-work-end
+slice_bounds-work-end c = search rules
 
-slice-aggregate-mirror-matrix-4 : tie.Need-slice-aggregate-mirror-matrix-4
-slice-aggregate-mirror-matrix-4 c = let held = (entry-of-stored c.before).requires.0.held in sym (part_length _ 642 _ (omega (arith, held.few, held.short)))
+slice_bounds-mirror_matrix-end-4 : tie.Need-slice_bounds-mirror_matrix-end-4
+slice_bounds-mirror_matrix-end-4 c = let held = c.requires.symmetric_values.held in sym (part_length _ 642 _ (omega (arith, held.few, held.short)))
 
-array-borrow-prefix-cmax : tie.Need-array-borrow-prefix-cmax
-array-borrow-prefix-cmax c = search rules
+slice_bounds-cmax-end : tie.Need-slice_bounds-cmax-end
+slice_bounds-cmax-end c = search rules
 
-slice-aggregate-mirror-matrix-5 : tie.Need-slice-aggregate-mirror-matrix-5
-slice-aggregate-mirror-matrix-5 c = let held = (entry-of-cmax c).requires.0.held in sym (part_length _ 64 _ (omega (arith, held.few, held.short)))
+slice_bounds-mirror_matrix-end-5 : tie.Need-slice_bounds-mirror_matrix-end-5
+slice_bounds-mirror_matrix-end-5 c = let held = c.requires.symmetric_values.held in sym (part_length _ 64 _ (omega (arith, held.few, held.short)))
 
-mirror-matrix-requires : tie.Need-mirror-matrix-requires
-mirror-matrix-requires c κs =
-    let pre = (entry-of-cmax c).requires in
-    let held = pre.0.held in (
-      pre.0,
+mirror_matrix-requires : tie.Need-mirror_matrix-requires
+mirror_matrix-requires c κs =
+    let pre = c.requires in
+    let held = pre.symmetric_values.held in (
+      pre.symmetric_values,
       (
         record {
           columns = omega (arith, held.few);
@@ -83,50 +74,50 @@ mirror-matrix-requires c κs =
             columns = omega (arith, held.few);
             entries = omega (arith, held.short);
             pairs = held.inside.pairs;
-            triples = ap length pre.0.valued ∙ length-map pre.0.weights (λ (x : ℕ). of_int binary64 (pos x)) ∙ held.sizes;
+            triples = ap length pre.symmetric_values.valued ∙ length-map pre.symmetric_values.weights (λ (x : ℕ). of_int binary64 (pos x)) ∙ held.sizes;
             row_room = part_length _ 512 _ (omega (arith, held.short));
             value_room = part_length _ 512 _ (omega (arith, held.short));
             room = part_length _ 642 _ (omega (arith, held.few, held.short));
             rows_in = held.inside.rows_in;
             cols_in = held.inside.cols_in;
           },
-          (pre.1, part_length _ 64 _ held.few),
+          (pre.graph_room, part_length _ 64 _ held.few),
         ),
       ),
     )
 
-same_length_lem : tie.Need-same-length
-same_length_lem c = search rules
+shape_of-graph_ptr : tie.Need-shape_of-graph_ptr
+shape_of-graph_ptr c = search rules
 
-same-length-2 : tie.Need-same-length-2
-same-length-2 c = search rules
+shape_of-graph_rows : tie.Need-shape_of-graph_rows
+shape_of-graph_rows c = search rules
 
-same-length-3 : tie.Need-same-length-3
-same-length-3 c = search rules
+shape_of-cost : tie.Need-shape_of-cost
+shape_of-cost c = search rules
 
 returns : tie.Need-returns
 returns c = search rules
 
-pub symmetric-graph-spec : {M : Type 1} → statement M
-symmetric-graph-spec =
+pub symmetric_graph_spec : {M : Type 1} → statement M
+symmetric_graph_spec =
     tie.close
     (tie.spec
-    add-col-ptr
-    array-borrow-prefix-col-ptr
-    slice-aggregate-mirror-matrix
-    array-borrow-prefix-row-idx
-    slice-aggregate-mirror-matrix-2
-    array-borrow-prefix-stored
-    slice-aggregate-mirror-matrix-3
-    mul-work
-    add-work
-    add-work-2
-    array-borrow-prefix-work
-    slice-aggregate-mirror-matrix-4
-    array-borrow-prefix-cmax
-    slice-aggregate-mirror-matrix-5
-    mirror-matrix-requires
-    same_length_lem
-    same-length-2
-    same-length-3
+    overflow_add-col_ptr
+    slice_bounds-col_ptr-end
+    slice_bounds-mirror_matrix-end
+    slice_bounds-row_idx-end
+    slice_bounds-mirror_matrix-end-2
+    slice_bounds-stored-end
+    slice_bounds-mirror_matrix-end-3
+    overflow_mul-work
+    overflow_add-work
+    overflow_add-work-2
+    slice_bounds-work-end
+    slice_bounds-mirror_matrix-end-4
+    slice_bounds-cmax-end
+    slice_bounds-mirror_matrix-end-5
+    mirror_matrix-requires
+    shape_of-graph_ptr
+    shape_of-graph_rows
+    shape_of-cost
     returns)

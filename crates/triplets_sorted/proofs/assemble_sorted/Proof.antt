@@ -1,4 +1,5 @@
 -- `assemble_sorted` meets its contract: the columns of all triplets are the matrix, and their lengths add up to its pointers.
+use Rattle.std.proofs.Common.{rules}
 use mathlib.Core.Path.{◌∙◌}
 use native.Mathlib.Omega.{arith}
 use borrow.Author.Rules.{rules}
@@ -16,98 +17,88 @@ clear-requires c κs = search rules
 clear-requires-2 : tie.Need-clear-requires-2
 clear-requires-2 c κs = search rules
 
-take-all-requires : tie.Need-take-all-requires
-take-all-requires c κs =
-    let at-clear2 = c.before.before.before.before.before in
-    let start = at-clear2.before.before.before.before.before.before.before.before.before.before.before.before.before in
-    let a = start.args in
-    let s = start.requires.0 in
-    let r = start.requires.1.0 in
-    let cleared = at-clear2.clear2 in (
-      (ready_of s, start.requires.1.1),
+take_all-kept-requires : tie.Need-take_all-kept-requires
+take_all-kept-requires c κs =
+    let a = c.args in
+    let s = c.requires.sized in
+    let r = c.requires.roomy in
+    let cleared = c.clear-2 in (
+      (ready_of s, c.requires.sorted),
       (
-        (r.triples, λ k h. omega (arith, s.cols_in k h, s.colptrs, cleared.auto.0)),
+        (r.triples, λ k h. omega (arith, s.cols_in k h, s.colptrs, cleared.auto.list)),
         (
           (r.row_room, r.value_room),
-          taken_start (triplets a.rows.now a.cols.now a.vals.now) cleared.new.0 a.row-idx.now a.values.now
+          taken_start (triplets a.rows.now a.cols.now a.vals.now) cleared.new.list a.row-idx.now a.values.now
               (zero_list (length a.col-ptr.now) cleared.ensures),
         ),
       ),
     )
 
-add-prefix-sums : tie.Need-overflow-add-prefix-sums
-add-prefix-sums c = search rules
+overflow_add-n : tie.Need-overflow_add-n
+overflow_add-n c = search rules
 
-prefix-sums-requires : tie.Need-prefix-sums-requires
-prefix-sums-requires c κs =
-    let at-take-all = c.before.before.before.before.before.before.before in
-    let at-clear2 = at-take-all.before.before.before.before.before.before in
-    let start = at-clear2.before.before.before.before.before.before.before.before.before.before.before.before.before in
-    let a = start.args in
-    let s = start.requires.0 in
-    let taken = at-take-all.take_all in
-    let room = taken.auto.1.1.1.0 ∙ at-clear2.clear2.auto.0 ∙ s.colptrs in (
+prefix_sums-requires : tie.Need-prefix_sums-requires
+prefix_sums-requires c κs =
+    let a = c.args in
+    let s = c.requires.sized in
+    let taken = c.take_all-kept in
+    let room = taken.auto.col_ptr ∙ c.clear-2.auto.list ∙ s.colptrs in (
       omega (arith, room),
       omega (
         arith,
         s.entries,
-        taken.ensures.0.few,
+        taken.ensures.fact.few,
         total (triplets a.rows.now a.cols.now a.vals.now) a.n s.rows_in s.cols_in s.pairs s.columns
-            taken.ensures.0 room,
+            taken.ensures.fact room,
       ),
     )
 
-cast-result : tie.Need-overflow-cast-result
-cast-result c = search rules
+overflow_cast-result : tie.Need-overflow_cast-result
+overflow_cast-result c = search rules
 
-same_length_lem : tie.Need-same-length
-same_length_lem c = search rules
+shape_of-col_ptr : tie.Need-shape_of-col_ptr
+shape_of-col_ptr c = search rules
 
-same-length-2 : tie.Need-same-length-2
-same-length-2 c = search rules
+shape_of-row_idx : tie.Need-shape_of-row_idx
+shape_of-row_idx c = search rules
 
-same-length-3 : tie.Need-same-length-3
-same-length-3 c = search rules
+shape_of-values : tie.Need-shape_of-values
+shape_of-values c = search rules
 
-same-length-4 : tie.Need-same-length-4
-same-length-4 c = search rules
+shape_of-work : tie.Need-shape_of-work
+shape_of-work c = search rules
 
 returns : tie.Need-returns
 unfolding built
 returns c =
-    let at-prefix-sums = c.before.before in
-    let at-take-all = at-prefix-sums.before.before.before.before.before.before.before.before in
-    let at-clear2 = at-take-all.before.before.before.before.before.before in
-    let at_clear = at-clear2.before.before.before.before in
-    let start = at_clear.before.before.before.before.before.before.before.before.before in
-    let a = start.args in
-    let s = start.requires.0 in
+    let a = c.args in
+    let s = c.requires.sized in
     let t = triplets a.rows.now a.cols.now a.vals.now in
-    let taken = at-take-all.take_all in
-    let summed = at-prefix-sums.prefix-sums in
-    let room = taken.auto.1.1.1.0 ∙ at-clear2.clear2.auto.0 ∙ s.colptrs in
+    let taken = c.take_all-kept in
+    let summed = c.prefix_sums in
+    let room = taken.auto.col_ptr ∙ c.clear-2.auto.list ∙ s.colptrs in
     record {
-      count = kept-is t a.n s.rows_in s.cols_in s.pairs s.columns taken.ensures.0 room;
+      count = kept-is t a.n s.rows_in s.cols_in s.pairs s.columns taken.ensures.fact room;
       slices = built_is a.n t a.col-ptr.now a.row-idx.now a.values.now a.work.now _ _ _ _
-          (col_ptr-is t a.n s.rows_in s.cols_in s.pairs s.columns taken.ensures.0 room _ summed.ensures
-          (summed.auto.1.0 ∙ room))
-          (row_idx-is t a.n s.rows_in s.cols_in s.pairs s.columns taken.ensures.0 room taken.ensures.1)
-          (values_is t a.n s.rows_in s.cols_in s.pairs s.columns taken.ensures.0 room taken.ensures.1)
-          at_clear.clear.ensures;
+          (col_ptr-is t a.n s.rows_in s.cols_in s.pairs s.columns taken.ensures.fact room _ summed.ensures
+          (summed.auto.list ∙ room))
+          (row_idx-is t a.n s.rows_in s.cols_in s.pairs s.columns taken.ensures.fact room taken.ensures.rest)
+          (values_is t a.n s.rows_in s.cols_in s.pairs s.columns taken.ensures.fact room taken.ensures.rest)
+          c.clear.ensures;
     }
 
-pub assemble-sorted-spec : {M : Type 1} → statement M
-assemble-sorted-spec =
+pub assemble_sorted_spec : {M : Type 1} → statement M
+assemble_sorted_spec =
     tie.close
     (tie.spec
     clear-requires
     clear-requires-2
-    take-all-requires
-    add-prefix-sums
-    prefix-sums-requires
-    cast-result
-    same_length_lem
-    same-length-2
-    same-length-3
-    same-length-4
+    take_all-kept-requires
+    overflow_add-n
+    prefix_sums-requires
+    overflow_cast-result
+    shape_of-col_ptr
+    shape_of-row_idx
+    shape_of-values
+    shape_of-work
     returns)

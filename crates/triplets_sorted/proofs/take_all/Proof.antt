@@ -9,65 +9,58 @@ use Rattle.triplets_sorted.proofs.Steps.{rest_start, rest_after}
 use Rattle.triplets_sorted.proofs.take_all.Statement.{statement}
 use Rattle.triplets_sorted.proofs.take_all.Tie as tie
 
-abbrev invariant-loop : tie.invariant-loop
-invariant-loop rows cols vals col-ptr₀ row-idx₀ values₀ kept₀ k₀ col-ptr row-idx values kept k = (k ≤ length rows)
+abbrev invariant-loop-k : tie.invariant-loop-k
+invariant-loop-k rows cols vals col-ptr₀ row-idx₀ values₀ kept₀ k₀ col-ptr row-idx values kept k = (k ≤ length rows)
     × (length col-ptr ≡ length col-ptr₀) × (length row-idx ≡ length row-idx₀) × (length values ≡ length values₀)
     × Taken (triplets rows cols vals) k kept col-ptr row-idx values
     × Rest 0 kept row-idx₀ values₀ row-idx values
 
-abbrev decreases-loop : tie.decreases-loop
-decreases-loop rows cols vals col-ptr₀ row-idx₀ values₀ kept₀ k₀ col-ptr row-idx values kept k = length rows - k
+abbrev decreases-loop-k : tie.decreases-loop-k
+decreases-loop-k rows cols vals col-ptr₀ row-idx₀ values₀ kept₀ k₀ col-ptr row-idx values kept k = length rows - k
 
-loop-holds : tie.Need-loop-init invariant-loop decreases-loop
-loop-holds c =
-    let start = c.before.before.before.before.before.before in
-    (omega arith, refl, refl, refl, start.requires.1.1.1, rest_start _ _)
+loop-k-init : tie.Need-loop-k-init invariant-loop-k decreases-loop-k
+loop-k-init c =
+    (omega arith, refl, refl, refl, c.requires.taken, rest_start _ _)
 
-take-next-requires : tie.Need-take-next-requires invariant-loop decreases-loop
-take-next-requires c κs =
-    let at-loop-test = c.before.before.before in
-    let at-loop = at-loop-test.before in
-    let start = at-loop.before.before.before.before.before.before.before in
-    let p = start.requires in
-    let l = at-loop.loop in (
-      (p.0.0, p.0.1, at-loop-test.loop-test.true),
-      ((p.1.0.0, λ x h. omega (arith, p.1.0.1 x h, l.invariant.1)), ((l.invariant.2 ∙ p.1.1.0.0, l.invariant.3 ∙ p.1.1.0.1), l.invariant.4)),
+take_next-kept-requires : tie.Need-take_next-kept-requires invariant-loop-k decreases-loop-k
+take_next-kept-requires c κs =
+    let p = c.requires in
+    let l = c.loop-k in (
+      (p.ready.0, p.ready.1, c.loop-k-test.true),
+      ((p.vals_len.0, λ x h. omega (arith, p.vals_len.1 x h, l.invariant.1)), ((l.invariant.2 ∙ p.row_idx_len.0, l.invariant.3 ∙ p.row_idx_len.1), l.invariant.4)),
     )
 
-add-k : tie.Need-overflow-add-k invariant-loop decreases-loop
-add-k c = omega arith
+overflow_add-k : tie.Need-overflow_add-k invariant-loop-k decreases-loop-k
+overflow_add-k c = omega arith
 
-loop-less : tie.Need-loop-smaller invariant-loop decreases-loop
-loop-less c = omega arith
+loop-k-smaller : tie.Need-loop-k-smaller invariant-loop-k decreases-loop-k
+loop-k-smaller c = omega arith
 
-loop-again : tie.Need-loop-preserved invariant-loop decreases-loop
-loop-again c =
-    let at-take-next = c.before.before.before.before.before.before in
-    let at-loop = at-take-next.before.before.before.before.before in
-    let l = at-loop.loop in
-    let t = at-take-next.take_next in (
+loop-k-preserved : tie.Need-loop-k-preserved invariant-loop-k decreases-loop-k
+loop-k-preserved c =
+    let l = c.loop-k in
+    let t = c.take_next-kept in (
       omega arith,
-      t.auto.1.1.1.1.1.0 ∙ l.invariant.1,
-      t.auto.1.1.1.1.1.1.0 ∙ l.invariant.2,
-      t.auto.1.1.1.1.1.1.1.0 ∙ l.invariant.3,
-      t.ensures.0,
-      rest_after l.invariant.5 t.ensures.1,
+      t.auto.col_ptr ∙ l.invariant.1,
+      t.auto.row_idx ∙ l.invariant.2,
+      t.auto.values ∙ l.invariant.3,
+      t.ensures.fact,
+      rest_after l.invariant.5 t.ensures.rest,
     )
 
-same_length_lem : tie.Need-same-length invariant-loop decreases-loop
-same_length_lem c = c.before.loop.invariant.1
+shape_of-col_ptr : tie.Need-shape_of-col_ptr invariant-loop-k decreases-loop-k
+shape_of-col_ptr c = c.loop-k.invariant.1
 
-same-length-2 : tie.Need-same-length-2 invariant-loop decreases-loop
-same-length-2 c = c.before.loop.invariant.2
+shape_of-row_idx : tie.Need-shape_of-row_idx invariant-loop-k decreases-loop-k
+shape_of-row_idx c = c.loop-k.invariant.2
 
-same-length-3 : tie.Need-same-length-3 invariant-loop decreases-loop
-same-length-3 c = c.before.loop.invariant.3
+shape_of-values : tie.Need-shape_of-values invariant-loop-k decreases-loop-k
+shape_of-values c = c.loop-k.invariant.3
 
-returns : tie.Need-returns invariant-loop decreases-loop
+returns : tie.Need-returns invariant-loop-k decreases-loop-k
 returns c =
-    let start = c.before.before.before.before.before.before.before.before in
-    let l = c.before.loop in
-    let a = start.args in
+    let l = c.loop-k in
+    let a = c.args in
     let e : l.k ≡ length a.rows.now = omega arith in (
       subst (λ (k : ℕ). Taken (triplets a.rows.now a.cols.now a.vals.now) k l.auto l.col-ptr l.row-idx l.values) e l.invariant.4,
       l.invariant.5,
@@ -77,14 +70,14 @@ pub take_all_spec : {M : Type 1} → statement M
 take_all_spec =
     tie.close
     (tie.spec
-    invariant-loop
-    decreases-loop
-    loop-holds
-    take-next-requires
-    add-k
-    loop-less
-    loop-again
-    same_length_lem
-    same-length-2
-    same-length-3
+    invariant-loop-k
+    decreases-loop-k
+    loop-k-init
+    take_next-kept-requires
+    overflow_add-k
+    loop-k-smaller
+    loop-k-preserved
+    shape_of-col_ptr
+    shape_of-row_idx
+    shape_of-values
     returns)

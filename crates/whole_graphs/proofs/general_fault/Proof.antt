@@ -1,4 +1,5 @@
 -- `general_fault` meets its contract: each test is made where nothing else is wrong.
+use Rattle.std.proofs.Common.{rules}
 use Rattle.sparse.proofs.First.{answer_first, answer_second}
 use Rattle.sparse.proofs.Validities.{number_told}
 use Rattle.whole_graphs.specs.Graphs.{general_input_fault}
@@ -6,36 +7,41 @@ use borrow.Author.Rules.{rules}
 use Rattle.whole_graphs.proofs.general_fault.Statement.{statement}
 use Rattle.whole_graphs.proofs.general_fault.Tie as tie
 
--- places of the proof, each from a later one
-abbrev validate-of-values-fault : tie.After-values-fault → tie.After-validate
-validate-of-values-fault c = c.before.before.before
+size_fault-sizes-requires : tie.Need-size_fault-sizes-requires
+size_fault-sizes-requires c κs = search rules
 
-size-fault-requires : tie.Need-size-fault-requires
-size-fault-requires c κs = search rules
-
-returns : tie.Need-returns
+returns-then-sizes-ne-ACCEPTED : tie.Need-returns-then-sizes-ne-ACCEPTED
 unfolding general_input_fault
-returns c = answer_first _ c.before.size-fault.ensures c.if1.true
+returns-then-sizes-ne-ACCEPTED c = answer_first _ c.size_fault-sizes.ensures c.if-sizes-ne-ACCEPTED.true
 
 validate-requires : tie.Need-validate-requires
 validate-requires c κs = search rules
 
-number-of-requires : tie.Need-number-of-requires
-number-of-requires c κs = search rules
+number_of-fault-requires : tie.Need-number_of-fault-requires
+number_of-fault-requires c κs = search rules
 
-returns-2 : tie.Need-returns-2
+returns-then-fault-ne-ACCEPTED : tie.Need-returns-then-fault-ne-ACCEPTED
 unfolding general_input_fault
-returns-2 c = answer_second c.before.before.before.before.size-fault.ensures c.before.before.before.if1.false
-    (answer_first _ (number_told c.before.number_of.ensures c.before.before.validate.ensures.0) c.if2.true)
+returns-then-fault-ne-ACCEPTED c = answer_second c.size_fault-sizes.ensures c.if-sizes-ne-ACCEPTED.false
+    (answer_first _ (number_told c.number_of-fault.ensures c.validate.ensures.answer) c.if-fault-ne-ACCEPTED.true)
 
-values-fault-requires : tie.Need-values-fault-requires
-values-fault-requires c κs = search rules
+values_fault-requires : tie.Need-values_fault-requires
+values_fault-requires c κs = search rules
 
-returns-3 : tie.Need-returns-3
+returns : tie.Need-returns
 unfolding general_input_fault
-returns-3 c = answer_second (validate-of-values-fault c).before.before.size-fault.ensures (validate-of-values-fault c).before.if1.false
-    (answer_second (number_told c.before.before.number_of.ensures (validate-of-values-fault c).validate.ensures.0) c.before.if2.false
-    c.values-fault.ensures)
+returns-then-sizes-ne-ACCEPTED c = answer_second c.size_fault-sizes.ensures c.if-sizes-ne-ACCEPTED.false
+    (answer_second (number_told c.number_of-fault.ensures c.validate.ensures.answer) c.if-fault-ne-ACCEPTED.false
+    c.values_fault.ensures)
 
-pub general-fault-spec : {M : Type 1} → statement M
-general-fault-spec = tie.close (tie.spec size-fault-requires returns validate-requires number-of-requires returns-2 values-fault-requires returns-3)
+pub general_fault_spec : {M : Type 1} → statement M
+general_fault_spec =
+    tie.close
+    (tie.spec
+    size_fault-sizes-requires
+    returns-then-sizes-ne-ACCEPTED
+    validate-requires
+    number_of-fault-requires
+    returns-then-fault-ne-ACCEPTED
+    values_fault-requires
+    returns)

@@ -25,58 +25,58 @@ ends : (values : List Float) (b : Bool) (k : ℕ) → length values ≤ k → Te
 unfolding finite_fault
 ends values = test_ends (fine values) value_not_finite (length values) some
 
-abbrev invariant-loop : tie.invariant-loop
-invariant-loop values fine₀ k₀ k-end b k = (k ≤ length values) × Tested (fine values) value_not_finite (length values) some b k
+abbrev invariant-loop-k : tie.invariant-loop-k
+invariant-loop-k values fine₀ k₀ k-end b k = (k ≤ length values) × Tested (fine values) value_not_finite (length values) some b k
 
-abbrev decreases-loop : tie.decreases-loop
-decreases-loop values fine₀ k₀ k-end b k = length values - k
+abbrev decreases-loop-k : tie.decreases-loop-k
+decreases-loop-k values fine₀ k₀ k-end b k = length values - k
 
-loop-holds : tie.Need-loop-init invariant-loop decreases-loop
-loop-holds c = let values = c.before.args.values.now in (omega arith, test_begins (fine values) value_not_finite (length values) some)
+loop-k-init : tie.Need-loop-k-init invariant-loop-k decreases-loop-k
+loop-k-init c = let values = c.args.values.now in (omega arith, test_begins (fine values) value_not_finite (length values) some)
 
-mul-is-finite : tie.Need-overflow-mul-is-finite invariant-loop decreases-loop
-mul-is-finite c = omega arith
+offset_bounds-values-k : tie.Need-offset_bounds-values-k invariant-loop-k decreases-loop-k
+offset_bounds-values-k c = omega arith
 
-shared-slice-read-is-finite : tie.Need-shared-slice-read-is-finite invariant-loop decreases-loop
-shared-slice-read-is-finite c = omega arith
+bounds-values-k : tie.Need-bounds-values-k invariant-loop-k decreases-loop-k
+bounds-values-k c = omega arith
 
-is-finite-requires : tie.Need-is-finite-requires invariant-loop decreases-loop
-is-finite-requires c κs = tt
+is_finite-fine-requires : tie.Need-is_finite-fine-requires invariant-loop-k decreases-loop-k
+is_finite-fine-requires c κs = tt
 
-add-k : tie.Need-overflow-add-k invariant-loop decreases-loop
-add-k c = omega arith
+overflow_step-k : tie.Need-overflow_step-k invariant-loop-k decreases-loop-k
+overflow_step-k c = omega arith
 
-loop-less : tie.Need-loop-smaller invariant-loop decreases-loop
-loop-less c = omega arith
+loop-k-smaller : tie.Need-loop-k-smaller invariant-loop-k decreases-loop-k
+loop-k-smaller c = omega arith
 
-loop-again : tie.Need-loop-preserved invariant-loop decreases-loop
-loop-again c =
-    let values = c.before.before.before.before.before.args.values.now in
-    let l = c.before.before.before.loop in
-    (omega arith, rw c.is_finite.ensures (test_goes_on (fine values) value_not_finite (length values) some l.fine l.k (omega arith) l.invariant.1))
+loop-k-preserved : tie.Need-loop-k-preserved invariant-loop-k decreases-loop-k
+loop-k-preserved c =
+    let values = c.args.values.now in
+    let l = c.loop-k in
+    (omega arith, rw c.is_finite-fine.ensures (test_goes_on (fine values) value_not_finite (length values) some l.fine l.k (omega arith) l.invariant.1))
 
-returns : tie.Need-returns invariant-loop decreases-loop
-returns c =
-    let l = c.before.before.loop in
-    sym (ends c.before.before.before.before.args.values.now l.fine l.k (omega arith) l.invariant.1 ∙ rw c.if1.true refl)
+returns-then-fine : tie.Need-returns-then-fine invariant-loop-k decreases-loop-k
+returns-then-fine c =
+    let l = c.loop-k in
+    sym (ends c.args.values.now l.fine l.k (omega arith) l.invariant.1 ∙ rw c.if-fine.true refl)
 
-returns-2 : tie.Need-returns-2 invariant-loop decreases-loop
-returns-2 c =
-    let l = c.before.before.loop in
-    sym (ends c.before.before.before.before.args.values.now l.fine l.k (omega arith) l.invariant.1 ∙ rw c.if1.false refl)
+returns-else-fine : tie.Need-returns-else-fine invariant-loop-k decreases-loop-k
+returns-else-fine c =
+    let l = c.loop-k in
+    sym (ends c.args.values.now l.fine l.k (omega arith) l.invariant.1 ∙ rw c.if-fine.false refl)
 
-pub values-fault-spec : {M : Type 1} → statement M
-values-fault-spec =
+pub values_fault_spec : {M : Type 1} → statement M
+values_fault_spec =
     tie.close
     (tie.spec
-    invariant-loop
-    decreases-loop
-    loop-holds
-    mul-is-finite
-    shared-slice-read-is-finite
-    is-finite-requires
-    add-k
-    loop-less
-    loop-again
-    returns
-    returns-2)
+    invariant-loop-k
+    decreases-loop-k
+    loop-k-init
+    offset_bounds-values-k
+    bounds-values-k
+    is_finite-fine-requires
+    overflow_step-k
+    loop-k-smaller
+    loop-k-preserved
+    returns-then-fine
+    returns-else-fine)

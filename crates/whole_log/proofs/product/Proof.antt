@@ -1,4 +1,5 @@
 -- `product` meets its contract: two numbers below 65,536 have a product below 2 ^ 32.
+use Rattle.std.proofs.Common.{rules}
 use Prim.Native.Nat.{ℕ, ◌*◌, ◌≤◌, ◌<◌}
 use native.Mathlib.Nat.{mul-le-mul}
 use native.Mathlib.Omega.{arith}
@@ -12,11 +13,15 @@ short a b p q =
     let y : b ≤ 65535 = omega arith in
     mul-le-mul x y
 
-mul-result : tie.Need-overflow-mul-result
-mul-result c = omega (arith, short c.args.a c.args.b c.ranges.a.fits c.ranges.b.fits)
+overflow_mul-result : tie.Need-overflow_mul-result
+overflow_mul-result c = omega (arith, short c.args.a c.args.b c.ranges.a.fits c.ranges.b.fits)
 
 returns : tie.Need-returns
 returns c = search rules
 
-pub product-spec : {M : Type 1} → statement M
-product-spec = tie.close (tie.spec mul-result returns)
+pub product_spec : {M : Type 1} → statement M
+product_spec =
+    tie.close
+    (tie.spec
+    overflow_mul-result
+    returns)

@@ -1,4 +1,5 @@
 -- `store_log` meets its contract: by the slice's length, then by the answer.
+use Rattle.std.proofs.Common.{rules}
 use mathlib.Core.Path.{◌≡◌, sym, ◌∙◌, subst}
 use borrow.Author.Rules.{rules}
 use lib.Dec.{T}
@@ -14,40 +15,48 @@ use Rattle.whole_log.proofs.store_log.Statement.{statement}
 use Rattle.whole_log.proofs.store_log.Tie as tie
 
 double : (c : tie.Start) → T (fits binary64 c.args.x)
-double c = subst T (sym c.well-formed.0.1) tt
+double c = subst T (sym c.well_formed.0.1) tt
 
-returns : tie.Need-returns
-returns c = other_length c.before.args.x c.before.args.p.now c.if1.true
+returns-then-p-ne1 : tie.Need-returns-then-p-ne1
+returns-then-p-ne1 c = other_length c.args.x c.args.p.now c.if-p-ne1.true
 
-whole-log-requires : tie.Need-whole-log-requires
-whole-log-requires c κs = search rules
+whole_log-answer-requires : tie.Need-whole_log-answer-requires
+whole_log-answer-requires c κs = search rules
 
-enum-known-answer : tie.Need-enum-known-answer
-enum-known-answer c = search rules
+enum_known-answer : tie.Need-enum_known-answer
+enum_known-answer c = search rules
 
-slice-set-from-log : tie.Need-slice-set-from-log
-slice-set-from-log c = search rules
+bounds-p-0 : tie.Need-bounds-p-0
+bounds-p-0 c = search rules
 
-enum-known-answer-2 : tie.Need-enum-known-answer-2
-enum-known-answer-2 c = search rules
+enum_known-answer-in-Refused-1 : tie.Need-enum_known-answer-in-Refused-1
+enum_known-answer-in-Refused-1 c = search rules
 
-same_length_lem : tie.Need-same-length
-same_length_lem c = search rules
+shape_of-p : tie.Need-shape_of-p
+shape_of-p c = search rules
 
-returns-2 : tie.Need-returns-2
-returns-2 c =
-    let start = c.before.before.before.before.before in
-    let log = c.before.answer.given.0.0 in
-    let x = start.args.x in
-    let is : whole_log x ≡ Is log = sym c.before.before.before.whole-log.ensures.0 ∙ c.before.answer.given.1 in
-    found x start.args.p.now log (to_z w32 (of_z w32 log)) (double start) c.before.before.before.before.if1.false is
-    (to_z-of_z w32 log (in_i32 x log (double start) is))
+returns-in-Is : tie.Need-returns-in-Is
+returns-in-Is c =
+    let log = c.answer-1.given.0.0 in
+    let x = c.args.x in
+    let is : whole_log x ≡ Is log = sym c.whole_log-answer.ensures.log ∙ c.answer-1.given.1 in
+    found x c.args.p.now log (to_z w32 (of_z w32 log)) (double c.before.before.before.before.before) c.if-p-ne1.false is
+    (to_z-of_z w32 log (in_i32 x log (double c.before.before.before.before.before) is))
 
-returns-3 : tie.Need-returns-3
-returns-3 c =
-    let start = c.before.before.before.before.before in
-    refused start.args.x start.args.p.now c.before.answer2.given.0.0 c.before.before.before.before.if1.false
-    (sym c.before.before.before.whole-log.ensures.0 ∙ c.before.answer2.given.1)
+returns-in-Refused : tie.Need-returns-in-Refused
+returns-in-Refused c =
+    refused c.args.x c.args.p.now c.answer-in-Refused-1.given.0.0 c.if-p-ne1.false
+    (sym c.whole_log-answer.ensures.log ∙ c.answer-in-Refused-1.given.1)
 
-pub store-log-spec : {M : Type 1} → statement M
-store-log-spec = tie.close (tie.spec returns whole-log-requires enum-known-answer slice-set-from-log enum-known-answer-2 same_length_lem returns-2 returns-3)
+pub store_log_spec : {M : Type 1} → statement M
+store_log_spec =
+    tie.close
+    (tie.spec
+    returns-then-p-ne1
+    whole_log-answer-requires
+    enum_known-answer
+    bounds-p-0
+    enum_known-answer-in-Refused-1
+    shape_of-p
+    returns-in-Is
+    returns-in-Refused)

@@ -1,4 +1,5 @@
 -- `units_log` meets its contract: the digits of the double are those that the definition takes.
+use Rattle.std.proofs.Common.{rules}
 use borrow.Author.Rules.{rules}
 use mathlib.Core.Path.{◌∙◌}
 use lib.Ieee.{binary64, of_bits}
@@ -7,25 +8,32 @@ use Rattle.whole_log.proofs.Theorems.{log_digits}
 use Rattle.whole_log.proofs.units_log.Statement.{statement}
 use Rattle.whole_log.proofs.units_log.Tie as tie
 
-full-digits-requires : tie.Need-full-digits-requires
-full-digits-requires c κs = search rules
+full_digits-x-requires : tie.Need-full_digits-x-requires
+full_digits-x-requires c κs = search rules
 
-cast-log-from : tie.Need-overflow-cast-log-from
-cast-log-from c = search rules
+overflow_cast-x : tie.Need-overflow_cast-x
+overflow_cast-x c = search rules
 
-sub-log-from : tie.Need-overflow-sub-log-from
-sub-log-from c = search rules
+overflow_sub-x : tie.Need-overflow_sub-x
+overflow_sub-x c = search rules
 
-log-from-requires : tie.Need-log-from-requires
-log-from-requires c κs = search rules
+log_from-requires : tie.Need-log_from-requires
+log_from-requires c κs = search rules
 
 returns : tie.Need-returns
 returns c =
-    let x = c.before.before.before.full-digits in (
-      c.log_from_lem.ensures.0 ∙ log_digits (magnitude (of_bits binary64 c.before.before.before.before.args.bits)) x.result.significand
+    let x = c.full_digits-x in (
+      c.log_from.ensures.0 ∙ log_digits (magnitude (of_bits binary64 c.args.bits)) x.result.significand
           x.result.exponent x.ensures,
-      c.log_from_lem.ensures.1,
+      c.log_from.ensures.1,
     )
 
-pub units-log-spec : {M : Type 1} → statement M
-units-log-spec = tie.close (tie.spec full-digits-requires cast-log-from sub-log-from log-from-requires returns)
+pub units_log_spec : {M : Type 1} → statement M
+units_log_spec =
+    tie.close
+    (tie.spec
+    full_digits-x-requires
+    overflow_cast-x
+    overflow_sub-x
+    log_from-requires
+    returns)

@@ -1,4 +1,5 @@
 -- `whole_log` meets its contract: each of its returns is a case of the definition.
+use Rattle.std.proofs.Common.{rules}
 use borrow.Author.Rules.{rules}
 use mathlib.Core.Path.{◌≡◌, sym, ap, ◌∙◌, subst}
 use lib.Dec.{T}
@@ -15,44 +16,50 @@ use Rattle.whole_log.proofs.whole_log.Statement.{statement}
 use Rattle.whole_log.proofs.whole_log.Tie as tie
 
 double : (c : tie.Start) → T (fits binary64 c.args.x)
-double c = subst T (sym c.well-formed.0.1) tt
+double c = subst T (sym c.well_formed.0.1) tt
 
-is_number : (c : tie.Then1) → T (finite c.before.before.args.x)
-is_number c = subst T (sym c.if1.true ∙ c.before.is_finite.ensures) tt
+is_number : (c : tie.Then-is_finite) → T (finite c.args.x)
+is_number c = subst T (sym c.if-is_finite.true ∙ c.is_finite.ensures) tt
 
-is-finite-requires : tie.Need-is-finite-requires
-is-finite-requires c κs = search rules
+is_finite-requires : tie.Need-is_finite-requires
+is_finite-requires c κs = search rules
 
-float-to-bits-bits : tie.Need-float-to-bits-bits
-float-to-bits-bits c = finite_no_nan c.before.before.args.x (is_number c)
+float_to_bits-bits : tie.Need-float_to_bits-bits
+float_to_bits-bits c = finite_no_nan c.args.x (is_number c)
 
-units-log-requires : tie.Need-units-log-requires
-units-log-requires c κs = (c.if2.true, in_bits c.before.before.before.args.x (double c.before.before.before) (is_number c.before))
+units_log-requires : tie.Need-units_log-requires
+units_log-requires c κs = (c.if-bits-gt0.true, in_bits c.args.x (double c.before.before.before) (is_number c.before))
 
-from-units-requires : tie.Need-from-units-requires
-from-units-requires c κs = search rules
+from_units-requires : tie.Need-from_units-requires
+from_units-requires c κs = search rules
 
-returns : tie.Need-returns
-returns c =
-    let start = c.before.before.before.before.before in
-    let x = start.args.x in
-    let q = c.before.units-log.result in
-    let p : c.from-units.result ≡ from_units q = c.from-units.ensures in
-    let kept : to_z w32 (of_z w32 c.from-units.result) ≡ from_units q =
-    ap (λ (z : ℤ). to_z w32 (of_z w32 z)) p ∙ to_z-of_z w32 (from_units q) (fits_i32 q c.before.units-log.ensures.1) in
-    promised x (double start)
-    (ap Is (kept ∙ ap from_units c.before.units-log.ensures.0) ∙ found_answer x (double start) (is_number c.before.before.before)
-    c.before.before.if2.true)
+returns-then-bits-gt0 : tie.Need-returns-then-bits-gt0
+returns-then-bits-gt0 c =
+    let x = c.args.x in
+    let q = c.units_log.result in
+    let p : c.from_units.result ≡ from_units q = c.from_units.ensures in
+    let kept : to_z w32 (of_z w32 c.from_units.result) ≡ from_units q =
+    ap (λ (z : ℤ). to_z w32 (of_z w32 z)) p ∙ to_z-of_z w32 (from_units q) (fits_i32 q c.units_log.ensures.1) in
+    promised x (double c.before.before.before.before.before)
+    (ap Is (kept ∙ ap from_units c.units_log.ensures.0) ∙ found_answer x (double c.before.before.before.before.before) (is_number c.before.before.before)
+    c.if-bits-gt0.true)
 
-returns-2 : tie.Need-returns-2
-returns-2 c =
-    let start = c.before.before.before in
-    promised start.args.x (double start) (zero_answer start.args.x (double start) c.if2.false (is_number c.before))
+returns-else-bits-gt0 : tie.Need-returns-else-bits-gt0
+returns-else-bits-gt0 c =
+    promised c.args.x (double c.before.before.before) (zero_answer c.args.x (double c.before.before.before) c.if-bits-gt0.false (is_number c.before))
 
-returns-3 : tie.Need-returns-3
-returns-3 c =
-    let start = c.before.before in
-    promised start.args.x (double start) (infinite_answer start.args.x (sym c.before.is_finite.ensures ∙ c.if1.false))
+returns-else-is_finite : tie.Need-returns-else-is_finite
+returns-else-is_finite c =
+    promised c.args.x (double c.before.before) (infinite_answer c.args.x (sym c.is_finite.ensures ∙ c.if-is_finite.false))
 
-pub whole-log-spec : {M : Type 1} → statement M
-whole-log-spec = tie.close (tie.spec is-finite-requires float-to-bits-bits units-log-requires from-units-requires returns returns-2 returns-3)
+pub whole_log_spec : {M : Type 1} → statement M
+whole_log_spec =
+    tie.close
+    (tie.spec
+    is_finite-requires
+    float_to_bits-bits
+    units_log-requires
+    from_units-requires
+    returns-then-bits-gt0
+    returns-else-bits-gt0
+    returns-else-is_finite)

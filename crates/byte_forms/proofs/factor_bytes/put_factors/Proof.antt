@@ -16,115 +16,96 @@ use Rattle.byte_forms.proofs.factor_bytes.put_factors.Tie as tie
 abbrev read_match : ℕ → (perm u v cmax : List ℕ) → Match Float
 read_match n perm u v cmax = match_of perm (doubles u n) (doubles v n) (doubles cmax n)
 
-abbrev invariant-loop : tie.invariant-loop
-invariant-loop n perm marks u v cmax factors₀ i₀ factors i =
+abbrev invariant-loop-i : tie.invariant-loop-i
+invariant-loop-i n perm marks u v cmax factors₀ i₀ factors i =
     (i ≤ n) × (length factors ≡ 8 * n) × (factors ≡ laid_to (factor_at n (read_match n perm u v cmax)) n factors₀ i)
 
-abbrev decreases-loop : tie.decreases-loop
-decreases-loop n perm marks u v cmax factors₀ i₀ factors i = n - i
+abbrev decreases-loop-i : tie.decreases-loop-i
+decreases-loop-i n perm marks u v cmax factors₀ i₀ factors i = n - i
 
--- places of the proof, each from a later one
-abbrev log-factor-of-slice-known2 : tie.After-slice-known2 invariant-loop decreases-loop → tie.After-log-factor invariant-loop decreases-loop
-log-factor-of-slice-known2 c = c.before.before.before.before
+loop-i-init : tie.Need-loop-i-init invariant-loop-i decreases-loop-i
+loop-i-init c =
+    let a = c.args in
+    (omega arith, c.requires.perm_len.1, laid_none (factor_at a.n (read_match a.n a.perm.now a.u.now a.v.now a.cmax.now)) a.n _)
 
-abbrev get-double3-of-slice-known2 : tie.After-slice-known2 invariant-loop decreases-loop → tie.After-get-double3 invariant-loop decreases-loop
-get-double3-of-slice-known2 c = (log-factor-of-slice-known2 c).before
+overflow_mul-at : tie.Need-overflow_mul-at invariant-loop-i decreases-loop-i
+overflow_mul-at c = omega arith
 
-abbrev in-loop-of-slice-known2 : tie.After-slice-known2 invariant-loop decreases-loop → tie.In-loop invariant-loop decreases-loop
-in-loop-of-slice-known2 c = (get-double3-of-slice-known2 c).before.before.before.before.before
+offset_bounds-perm-i : tie.Need-offset_bounds-perm-i invariant-loop-i decreases-loop-i
+offset_bounds-perm-i c = omega arith
 
-abbrev loop-of-slice-known2 : tie.After-slice-known2 invariant-loop decreases-loop → tie.At-loop invariant-loop decreases-loop
-loop-of-slice-known2 c = (in-loop-of-slice-known2 c).before
+bounds-perm-i : tie.Need-bounds-perm-i invariant-loop-i decreases-loop-i
+bounds-perm-i c = omega arith
 
-abbrev entry-of-loop : tie.At-loop invariant-loop decreases-loop → tie.Start invariant-loop decreases-loop
-entry-of-loop c = c.before.before.before.before.before.before.before
+offset_bounds-marks-i : tie.Need-offset_bounds-marks-i invariant-loop-i decreases-loop-i
+offset_bounds-marks-i c = omega arith
 
-loop-holds : tie.Need-loop-init invariant-loop decreases-loop
-loop-holds c =
-    let entry = c.before.before.before.before.before.before in
-    let a = entry.args in
-    (omega arith, entry.requires.1.0.1, laid_none (factor_at a.n (read_match a.n a.perm.now a.u.now a.v.now a.cmax.now)) a.n _)
+bounds-marks-i : tie.Need-bounds-marks-i invariant-loop-i decreases-loop-i
+bounds-marks-i c = omega arith
 
-mul_at : tie.Need-overflow-mul-at invariant-loop decreases-loop
-mul_at c = omega arith
+get_double-row-requires : tie.Need-get_double-row-requires invariant-loop-i decreases-loop-i
+get_double-row-requires c κs = omega arith
 
-mul-both : tie.Need-overflow-mul-both invariant-loop decreases-loop
-mul-both c = omega arith
+get_double-column-requires : tie.Need-get_double-column-requires invariant-loop-i decreases-loop-i
+get_double-column-requires c κs = omega arith
 
-shared-slice-read-both : tie.Need-shared-slice-read-both invariant-loop decreases-loop
-shared-slice-read-both c = omega arith
+get_double-largest-requires : tie.Need-get_double-largest-requires invariant-loop-i decreases-loop-i
+get_double-largest-requires c κs = omega arith
 
-mul-both-2 : tie.Need-overflow-mul-both-2 invariant-loop decreases-loop
-mul-both-2 c = omega arith
+log_factor-factor-requires : tie.Need-log_factor-factor-requires invariant-loop-i decreases-loop-i
+log_factor-factor-requires c κs = tt
 
-shared-slice-read-both-2 : tie.Need-shared-slice-read-both-2 invariant-loop decreases-loop
-shared-slice-read-both-2 c = omega arith
+put_double-requires : tie.Need-put_double-requires invariant-loop-i decreases-loop-i
+put_double-requires c κs = omega arith
 
-get-double-requires : tie.Need-get-double-requires invariant-loop decreases-loop
-get-double-requires c κs = omega arith
+overflow_step-i : tie.Need-overflow_step-i invariant-loop-i decreases-loop-i
+overflow_step-i c = omega arith
 
-get-double-requires-2 : tie.Need-get-double-requires-2 invariant-loop decreases-loop
-get-double-requires-2 c κs = omega arith
+loop-i-smaller : tie.Need-loop-i-smaller invariant-loop-i decreases-loop-i
+loop-i-smaller c = omega arith
 
-get-double-requires-3 : tie.Need-get-double-requires-3 invariant-loop decreases-loop
-get-double-requires-3 c κs = omega arith
-
-log-factor-requires : tie.Need-log-factor-requires invariant-loop decreases-loop
-log-factor-requires c κs = tt
-
-put-double-requires : tie.Need-put-double-requires invariant-loop decreases-loop
-put-double-requires c κs = omega arith
-
-add-i : tie.Need-overflow-add-i invariant-loop decreases-loop
-add-i c = omega arith
-
-loop-less : tie.Need-loop-smaller invariant-loop decreases-loop
-loop-less c = omega arith
-
-loop-again : tie.Need-loop-preserved invariant-loop decreases-loop
-loop-again c =
-    let entry = entry-of-loop (loop-of-slice-known2 c) in
-    let a = entry.args in
-    let l = (loop-of-slice-known2 c).loop in
-    let h : l.i < a.n = (in-loop-of-slice-known2 c).loop-test.true in
-    let third = get-double3-of-slice-known2 c in (
+loop-i-preserved : tie.Need-loop-i-preserved invariant-loop-i decreases-loop-i
+loop-i-preserved c =
+    let a = c.args in
+    let l = c.loop-i in
+    let h : l.i < a.n = c.loop-i-test.true in
+    (
       omega arith,
-      c.before.before.put-double.auto.0 ∙ l.inv.1,
-      c.before.before.put-double.ensures
+      c.put_double.auto.out ∙ l.inv.1,
+      c.put_double.ensures
           ∙ laid_more (factor_at a.n (read_match a.n a.perm.now a.u.now a.v.now a.cmax.now)) a.n _ l.i _ h l.inv.1 l.inv.2
-          (factor_read _ _ _ l.i entry.pre.1.1 h (log-factor-of-slice-known2 c).log-factor.ensures third.before.before.get-double.ensures
-          third.before.get-double2.ensures third.get-double3.ensures),
+          (factor_read _ _ _ l.i c.requires.marked h c.log_factor-factor.ensures c.get_double-row.ensures
+          c.get_double-column.ensures c.get_double-largest.ensures),
     )
 
-same_length_lem : tie.Need-same-length invariant-loop decreases-loop
-same_length_lem c = omega (arith, c.before.loop.invariant.1)
+shape_of-factors : tie.Need-shape_of-factors invariant-loop-i decreases-loop-i
+shape_of-factors c = omega (arith, c.loop-i.invariant.1)
 
-returns : tie.Need-returns invariant-loop decreases-loop
+returns : tie.Need-returns invariant-loop-i decreases-loop-i
 returns c =
-    let entry = entry-of-loop c.before in
-    let l = c.before.loop in
-    let e : l.i ≡ entry.args.n = omega arith in
-    l.invariant.2 ∙ laid_all _ entry.args.n _ l.i e entry.pre.1.0.1
+    let l = c.loop-i in
+    let e : l.i ≡ c.args.n = omega arith in
+    l.invariant.2 ∙ laid_all _ c.args.n _ l.i e c.requires.perm_len.1
 
-pub put-factors-spec : {M : Type 1} → statement M
-put-factors-spec =
+pub put_factors_spec : {M : Type 1} → statement M
+put_factors_spec =
     tie.close
     (tie.spec
-    invariant-loop
-    decreases-loop
-    loop-holds
-    mul_at
-    mul-both
-    shared-slice-read-both
-    mul-both-2
-    shared-slice-read-both-2
-    get-double-requires
-    get-double-requires-2
-    get-double-requires-3
-    log-factor-requires
-    put-double-requires
-    add-i
-    loop-less
-    loop-again
-    same_length_lem
+    invariant-loop-i
+    decreases-loop-i
+    loop-i-init
+    overflow_mul-at
+    offset_bounds-perm-i
+    bounds-perm-i
+    offset_bounds-marks-i
+    bounds-marks-i
+    get_double-row-requires
+    get_double-column-requires
+    get_double-largest-requires
+    log_factor-factor-requires
+    put_double-requires
+    overflow_step-i
+    loop-i-smaller
+    loop-i-preserved
+    shape_of-factors
     returns)

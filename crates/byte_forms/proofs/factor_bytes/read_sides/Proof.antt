@@ -21,122 +21,103 @@ row_at n u j = held (get_or (doubles u n) j nan)
 abbrev column_at : ℕ → List ℕ → List ℕ → ℕ → Float
 column_at n v cmax j = held (sub binary64 (get_or (doubles v n) j nan) (get_or (doubles cmax n) j nan))
 
-abbrev invariant-loop : tie.invariant-loop
-invariant-loop n u v cmax rows₀ columns₀ size i₀ rows columns i =
+abbrev invariant-loop-i : tie.invariant-loop-i
+invariant-loop-i n u v cmax rows₀ columns₀ size i₀ rows columns i =
     (i ≤ n) × (length rows ≡ 8 * n) × (length columns ≡ 8 * n) × (rows ≡ laid_to (row_at n u) n rows₀ i) × (columns ≡ laid_to (column_at n v cmax) n columns₀ i)
 
-abbrev decreases-loop : tie.decreases-loop
-decreases-loop n u v cmax rows₀ columns₀ size i₀ rows columns i = n - i
+abbrev decreases-loop-i : tie.decreases-loop-i
+decreases-loop-i n u v cmax rows₀ columns₀ size i₀ rows columns i = n - i
 
--- places of the proof, each from a later one
-abbrev put-double2-of-slice-known4 : tie.After-slice-known4 invariant-loop decreases-loop → tie.After-put-double2 invariant-loop decreases-loop
-put-double2-of-slice-known4 c = c.before.before
+loop-i-init : tie.Need-loop-i-init invariant-loop-i decreases-loop-i
+loop-i-init c =
+    let a = c.args in
+    let pre = c.requires in
+    (omega arith, pre.row_factors_len.0, pre.row_factors_len.1, laid_none (row_at a.n a.u.now) a.n _, laid_none (column_at a.n a.v.now a.cmax.now) a.n _)
 
-abbrev put-double-of-slice-known4 : tie.After-slice-known4 invariant-loop decreases-loop → tie.After-put-double invariant-loop decreases-loop
-put-double-of-slice-known4 c = (put-double2-of-slice-known4 c).before.before.before.before.before
+overflow_mul-at : tie.Need-overflow_mul-at invariant-loop-i decreases-loop-i
+overflow_mul-at c = omega arith
 
-abbrev get-double3-of-slice-known4 : tie.After-slice-known4 invariant-loop decreases-loop → tie.After-get-double3 invariant-loop decreases-loop
-get-double3-of-slice-known4 c = (put-double-of-slice-known4 c).before.before.before
+get_double-row-requires : tie.Need-get_double-row-requires invariant-loop-i decreases-loop-i
+get_double-row-requires c κs = omega arith
 
-abbrev in-loop-of-slice-known4 : tie.After-slice-known4 invariant-loop decreases-loop → tie.In-loop invariant-loop decreases-loop
-in-loop-of-slice-known4 c = (get-double3-of-slice-known4 c).before.before.before
+get_double-requires : tie.Need-get_double-requires invariant-loop-i decreases-loop-i
+get_double-requires c κs = omega arith
 
-abbrev loop-of-slice-known4 : tie.After-slice-known4 invariant-loop decreases-loop → tie.At-loop invariant-loop decreases-loop
-loop-of-slice-known4 c = (in-loop-of-slice-known4 c).before
+get_double-requires-in-loop-i : tie.Need-get_double-requires-in-loop-i invariant-loop-i decreases-loop-i
+get_double-requires-in-loop-i c κs = omega arith
 
-abbrev entry-of-loop : tie.At-loop invariant-loop decreases-loop → tie.Start invariant-loop decreases-loop
-entry-of-loop c = c.before.before.before.before.before.before
-
-loop-holds : tie.Need-loop-init invariant-loop decreases-loop
-loop-holds c =
-    let a = c.before.before.before.before.before.args in
-    let pre = c.before.before.before.before.before.requires in
-    (omega arith, pre.1.0, pre.1.1, laid_none (row_at a.n a.u.now) a.n _, laid_none (column_at a.n a.v.now a.cmax.now) a.n _)
-
-mul_at : tie.Need-overflow-mul-at invariant-loop decreases-loop
-mul_at c = omega arith
-
-get-double-requires : tie.Need-get-double-requires invariant-loop decreases-loop
-get-double-requires c κs = omega arith
-
-get-double-requires-2 : tie.Need-get-double-requires-2 invariant-loop decreases-loop
-get-double-requires-2 c κs = omega arith
-
-get-double-requires-3 : tie.Need-get-double-requires-3 invariant-loop decreases-loop
-get-double-requires-3 c κs = omega arith
-
-hold-requires : tie.Need-hold-requires invariant-loop decreases-loop
+hold-requires : tie.Need-hold-requires invariant-loop-i decreases-loop-i
 hold-requires c κs = tt
 
-put-double-requires : tie.Need-put-double-requires invariant-loop decreases-loop
-put-double-requires c κs = omega arith
+put_double-requires : tie.Need-put_double-requires invariant-loop-i decreases-loop-i
+put_double-requires c κs = omega arith
 
-hold-requires-2 : tie.Need-hold-requires-2 invariant-loop decreases-loop
-hold-requires-2 c κs = tt
+hold-requires-in-loop-i : tie.Need-hold-requires-in-loop-i invariant-loop-i decreases-loop-i
+hold-requires-in-loop-i c κs = tt
 
-put-double-requires-2 : tie.Need-put-double-requires-2 invariant-loop decreases-loop
-put-double-requires-2 c κs = omega arith
+put_double-requires-in-loop-i : tie.Need-put_double-requires-in-loop-i invariant-loop-i decreases-loop-i
+put_double-requires-in-loop-i c κs = omega arith
 
-add-i : tie.Need-overflow-add-i invariant-loop decreases-loop
-add-i c = omega arith
+overflow_step-i : tie.Need-overflow_step-i invariant-loop-i decreases-loop-i
+overflow_step-i c = omega arith
 
-loop-less : tie.Need-loop-smaller invariant-loop decreases-loop
-loop-less c = omega arith
+loop-i-smaller : tie.Need-loop-i-smaller invariant-loop-i decreases-loop-i
+loop-i-smaller c = omega arith
 
-loop-again : tie.Need-loop-preserved invariant-loop decreases-loop
-loop-again c =
-    let a = (entry-of-loop (loop-of-slice-known4 c)).args in
-    let l = (loop-of-slice-known4 c).loop in
-    let h : l.i < a.n = (in-loop-of-slice-known4 c).loop-test.true in
-    let third = get-double3-of-slice-known4 c in (
+loop-i-preserved : tie.Need-loop-i-preserved invariant-loop-i decreases-loop-i
+loop-i-preserved c =
+    let a = c.args in
+    let l = c.loop-i in
+    let h : l.i < a.n = c.loop-i-test.true in
+    (
       omega arith,
-      (put-double-of-slice-known4 c).put-double.auto.0 ∙ l.inv.1,
-      (put-double2-of-slice-known4 c).put-double2.auto.0 ∙ l.inv.2,
-      (put-double-of-slice-known4 c).put-double.ensures ∙ laid_more (row_at a.n a.u.now) a.n _ l.i _ h l.inv.1 l.inv.3
-          ((put-double-of-slice-known4 c).before.hold.ensures ∙ ap held (third.before.before.get-double.ensures
+      c.put_double.auto.out ∙ l.inv.1,
+      c.put_double-in-loop-i.auto.out ∙ l.inv.2,
+      c.put_double.ensures ∙ laid_more (row_at a.n a.u.now) a.n _ l.i _ h l.inv.1 l.inv.3
+          (c.hold.ensures ∙ ap held (c.get_double-row.ensures
           ∙ sym (double_at_lem a.u.now a.n l.i h))),
-      (put-double2-of-slice-known4 c).put-double2.ensures ∙ laid_more (column_at a.n a.v.now a.cmax.now) a.n _ l.i _ h
+      c.put_double-in-loop-i.ensures ∙ laid_more (column_at a.n a.v.now a.cmax.now) a.n _ l.i _ h
           l.inv.2 l.inv.4
-          ((put-double2-of-slice-known4 c).before.hold2.ensures ∙ ap₂ (λ (x y : Float). held (sub binary64 x y))
-          (third.before.get-double2.ensures ∙ sym (double_at_lem a.v.now a.n l.i h))
-          (third.get-double3.ensures ∙ sym (double_at_lem a.cmax.now a.n l.i h))),
+          (c.hold-in-loop-i.ensures ∙ ap₂ (λ (x y : Float). held (sub binary64 x y))
+          (c.get_double.ensures ∙ sym (double_at_lem a.v.now a.n l.i h))
+          (c.get_double-in-loop-i.ensures ∙ sym (double_at_lem a.cmax.now a.n l.i h))),
     )
 
-same_length_lem : tie.Need-same-length invariant-loop decreases-loop
-same_length_lem c = omega (arith, c.before.loop.invariant.1)
+shape_of-row_factors : tie.Need-shape_of-row_factors invariant-loop-i decreases-loop-i
+shape_of-row_factors c = omega (arith, c.loop-i.invariant.1)
 
-same-length-2 : tie.Need-same-length-2 invariant-loop decreases-loop
-same-length-2 c = omega (arith, c.before.loop.invariant.2)
+shape_of-column_factors : tie.Need-shape_of-column_factors invariant-loop-i decreases-loop-i
+shape_of-column_factors c = omega (arith, c.loop-i.invariant.2)
 
-returns : tie.Need-returns invariant-loop decreases-loop
+returns : tie.Need-returns invariant-loop-i decreases-loop-i
 unfolding sides_laid
 returns c =
-    let a = (entry-of-loop c.before).args in
-    let pre = (entry-of-loop c.before).pre in
-    let l = c.before.loop in
+    let a = c.args in
+    let pre = c.requires in
+    let l = c.loop-i in
     let e : l.i ≡ a.n = omega arith in
     ap₂ (λ (x y : List ℕ). outcome_is 0 (factor_bytes x y))
-    (l.invariant.3 ∙ laid_all (row_at a.n a.u.now) a.n _ l.i e pre.1.0)
-    (l.invariant.4 ∙ laid_all (column_at a.n a.v.now a.cmax.now) a.n _ l.i e pre.1.1)
+    (l.invariant.3 ∙ laid_all (row_at a.n a.u.now) a.n _ l.i e pre.row_factors_len.0)
+    (l.invariant.4 ∙ laid_all (column_at a.n a.v.now a.cmax.now) a.n _ l.i e pre.row_factors_len.1)
 
-pub read-sides-spec : {M : Type 1} → statement M
-read-sides-spec =
+pub read_sides_spec : {M : Type 1} → statement M
+read_sides_spec =
     tie.close
     (tie.spec
-    invariant-loop
-    decreases-loop
-    loop-holds
-    mul_at
-    get-double-requires
-    get-double-requires-2
-    get-double-requires-3
+    invariant-loop-i
+    decreases-loop-i
+    loop-i-init
+    overflow_mul-at
+    get_double-row-requires
+    get_double-requires
+    get_double-requires-in-loop-i
     hold-requires
-    put-double-requires
-    hold-requires-2
-    put-double-requires-2
-    add-i
-    loop-less
-    loop-again
-    same_length_lem
-    same-length-2
+    put_double-requires
+    hold-requires-in-loop-i
+    put_double-requires-in-loop-i
+    overflow_step-i
+    loop-i-smaller
+    loop-i-preserved
+    shape_of-row_factors
+    shape_of-column_factors
     returns)

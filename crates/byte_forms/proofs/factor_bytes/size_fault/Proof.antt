@@ -1,4 +1,5 @@
 -- `factor_bytes::size_fault` meets its contract: each return follows the tests before it.
+use Rattle.std.proofs.Common.{rules}
 use native.Mathlib.Omega.{arith}
 use borrow.Author.Tests.{le-leb, lt-leb}
 use Rattle.byte_forms.specs.MatchBytes.{byte_columns}
@@ -7,20 +8,26 @@ use borrow.Author.Rules.{rules}
 use Rattle.byte_forms.proofs.factor_bytes.size_fault.Statement.{statement}
 use Rattle.byte_forms.proofs.factor_bytes.size_fault.Tie as tie
 
-returns : tie.Need-returns
+returns-then-n-gt-MAX_COLUMNS : tie.Need-returns-then-n-gt-MAX_COLUMNS
 unfolding factor_sizes
-returns c = rw (lt-leb c.before.args.n byte_columns (omega arith))
+returns-then-n-gt-MAX_COLUMNS c = rw (lt-leb c.args.n byte_columns (omega arith))
 
-mul-doubles : tie.Need-overflow-mul-doubles
-mul-doubles c = search rules
+overflow_mul-doubles : tie.Need-overflow_mul-doubles
+overflow_mul-doubles c = search rules
 
-returns-2 : tie.Need-returns-2
+returns-then-u-doubles : tie.Need-returns-then-u-doubles
 unfolding factor_sizes
-returns-2 c = rw (le-leb c.before.before.args.n byte_columns c.before.if1.false, c.if2.true)
+returns-then-u-doubles c = rw (le-leb c.args.n byte_columns c.if-n-gt-MAX_COLUMNS.false, c.if-u-doubles.true)
 
-returns-3 : tie.Need-returns-3
+returns-else-u-doubles : tie.Need-returns-else-u-doubles
 unfolding factor_sizes
-returns-3 c = rw (le-leb c.before.before.args.n byte_columns c.before.if1.false, c.if2.false)
+returns-else-u-doubles c = rw (le-leb c.args.n byte_columns c.if-n-gt-MAX_COLUMNS.false, c.if-u-doubles.false)
 
-pub size-fault-spec : {M : Type 1} → statement M
-size-fault-spec = tie.close (tie.spec returns mul-doubles returns-2 returns-3)
+pub size_fault_spec : {M : Type 1} → statement M
+size_fault_spec =
+    tie.close
+    (tie.spec
+    returns-then-n-gt-MAX_COLUMNS
+    overflow_mul-doubles
+    returns-then-u-doubles
+    returns-else-u-doubles)

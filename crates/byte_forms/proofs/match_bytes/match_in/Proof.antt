@@ -1,152 +1,97 @@
 -- `match_bytes::match_in` meets its contract: the answer of the match by its two cases.
+use Rattle.std.proofs.Common.{rules}
 use mathlib.Core.Path.{◌∙◌}
 use Rattle.byte_forms.proofs.ByteMatches.{laying, matched_bytes, refused_bytes}
 use borrow.Author.Rules.{rules}
 use Rattle.byte_forms.proofs.match_bytes.match_in.Statement.{statement}
 use Rattle.byte_forms.proofs.match_bytes.match_in.Tie as tie
 
--- places of the proof, each from a later one
-abbrev entry-of-lent : tie.After-slice-known9 → tie.Start
-entry-of-lent c = c.before.before.before.before.before.before.before.before.before.before.before.before
+hungarian_match-outcome-requires : tie.Need-hungarian_match-outcome-requires
+hungarian_match-outcome-requires c κs = search rules
 
-abbrev entry-of-hungarian-match : tie.After-hungarian-match → tie.Start
-entry-of-hungarian-match c = entry-of-lent c.before.before.before.before.before.before
+enum_known-outcome : tie.Need-enum_known-outcome
+enum_known-outcome c = search rules
 
-abbrev hungarian-match-of-left : tie.After-slice-known14 → tie.After-hungarian-match
-hungarian-match-of-left c = c.before.before.before.before.before.before.before.before.before.before
+put_match-requires : tie.Need-put_match-requires
+put_match-requires c κs =
+    let pre = c.requires in
+    laying pre.roomy (c.hungarian_match-outcome.kept.1.1.1.1.0 ∙ pre.fact.perm)
+    (c.hungarian_match-outcome.kept.1.1.1.1.1.0 ∙ pre.fact.u) (c.hungarian_match-outcome.kept.1.1.1.1.1.1.0 ∙ pre.fact.v)
 
-abbrev hungarian-match-of-outcome : tie.After-outcome → tie.After-hungarian-match
-hungarian-match-of-outcome c = hungarian-match-of-left c.before.before
+enum_known-outcome-in-Refused-1 : tie.Need-enum_known-outcome-in-Refused-1
+enum_known-outcome-in-Refused-1 c = search rules
 
-abbrev entry-of-outcome : tie.After-outcome → tie.Start
-entry-of-outcome c = entry-of-hungarian-match (hungarian-match-of-outcome c)
+shape_of-rows_of-in-Matched : tie.Need-shape_of-rows_of-in-Matched
+shape_of-rows_of-in-Matched c = search rules
 
-abbrev hungarian-match-of-known-told2 : tie.After-known-told2 → tie.After-hungarian-match
-hungarian-match-of-known-told2 c = hungarian-match-of-left c.before.before.before
+shape_of-row_duals-in-Matched : tie.Need-shape_of-row_duals-in-Matched
+shape_of-row_duals-in-Matched c = search rules
 
-abbrev entry-of-known-told2 : tie.After-known-told2 → tie.Start
-entry-of-known-told2 c = entry-of-hungarian-match (hungarian-match-of-known-told2 c)
+shape_of-col_duals-in-Matched : tie.Need-shape_of-col_duals-in-Matched
+shape_of-col_duals-in-Matched c = search rules
 
-abbrev outcome-of-put-match-arg7 : tie.After-put-match-arg7 → tie.After-outcome
-outcome-of-put-match-arg7 c = c.before.before.before.before.before.before.before.before
+shape_of-work-in-Matched : tie.Need-shape_of-work-in-Matched
+shape_of-work-in-Matched c = search rules
 
-abbrev hungarian-match-of-put-match-arg7 : tie.After-put-match-arg7 → tie.After-hungarian-match
-hungarian-match-of-put-match-arg7 c = hungarian-match-of-outcome (outcome-of-put-match-arg7 c)
+shape_of-fwork-in-Matched : tie.Need-shape_of-fwork-in-Matched
+shape_of-fwork-in-Matched c = search rules
 
-abbrev entry-of-put-match-arg7 : tie.After-put-match-arg7 → tie.Start
-entry-of-put-match-arg7 c = entry-of-outcome (outcome-of-put-match-arg7 c)
+shape_of-perm : tie.Need-shape_of-perm
+shape_of-perm c = search rules
 
-abbrev put-match-arg7-of-put-match : tie.After-put-match → tie.After-put-match-arg7
-put-match-arg7-of-put-match c = c.before
+shape_of-u : tie.Need-shape_of-u
+shape_of-u c = search rules
 
-abbrev outcome-of-put-match : tie.After-put-match → tie.After-outcome
-outcome-of-put-match c = outcome-of-put-match-arg7 (put-match-arg7-of-put-match c)
+shape_of-v : tie.Need-shape_of-v
+shape_of-v c = search rules
 
-abbrev hungarian-match-of-put-match : tie.After-put-match → tie.After-hungarian-match
-hungarian-match-of-put-match c = hungarian-match-of-put-match-arg7 (put-match-arg7-of-put-match c)
+shape_of-answer : tie.Need-shape_of-answer
+shape_of-answer c = search rules
 
-abbrev entry-of-put-match : tie.After-put-match → tie.Start
-entry-of-put-match c = entry-of-put-match-arg7 (put-match-arg7-of-put-match c)
+returns-in-Matched : tie.Need-returns-in-Matched
+returns-in-Matched c = matched_bytes c.requires.fact _ c.hungarian_match-outcome.ensures.outcome
+    c.outcome-1.given.1 c.put_match.ensures
 
-abbrev put-match-of-slice-known18 : tie.After-slice-known18 → tie.After-put-match
-put-match-of-slice-known18 c = c.before.before.before.before.before.before.before.before
+shape_of-rows_of-in-Refused : tie.Need-shape_of-rows_of-in-Refused
+shape_of-rows_of-in-Refused c = search rules
 
-abbrev outcome-of-slice-known18 : tie.After-slice-known18 → tie.After-outcome
-outcome-of-slice-known18 c = outcome-of-put-match (put-match-of-slice-known18 c)
+shape_of-row_duals-in-Refused : tie.Need-shape_of-row_duals-in-Refused
+shape_of-row_duals-in-Refused c = search rules
 
-abbrev hungarian-match-of-slice-known18 : tie.After-slice-known18 → tie.After-hungarian-match
-hungarian-match-of-slice-known18 c = hungarian-match-of-put-match (put-match-of-slice-known18 c)
+shape_of-col_duals-in-Refused : tie.Need-shape_of-col_duals-in-Refused
+shape_of-col_duals-in-Refused c = search rules
 
-abbrev entry-of-slice-known18 : tie.After-slice-known18 → tie.Start
-entry-of-slice-known18 c = entry-of-put-match (put-match-of-slice-known18 c)
+shape_of-work-in-Refused : tie.Need-shape_of-work-in-Refused
+shape_of-work-in-Refused c = search rules
 
-hungarian-match-requires : tie.Need-hungarian-match-requires
-hungarian-match-requires c κs = search rules
+shape_of-fwork-in-Refused : tie.Need-shape_of-fwork-in-Refused
+shape_of-fwork-in-Refused c = search rules
 
-enum-known-outcome : tie.Need-enum-known-outcome
-enum-known-outcome c = search rules
+returns-in-Refused : tie.Need-returns-in-Refused
+returns-in-Refused c = refused_bytes c.requires.fact _ c.hungarian_match-outcome.ensures.outcome
+    c.outcome-in-Refused-1.given.1
 
-put-match-requires : tie.Need-put-match-requires
-put-match-requires c κs =
-    let hungarian-match = hungarian-match-of-put-match-arg7 c in
-    let pre = (entry-of-put-match-arg7 c).pre in
-    laying pre.1 (hungarian-match.hungarian-match.kept.1.1.1.1.0 ∙ pre.0.perm)
-    (hungarian-match.hungarian-match.kept.1.1.1.1.1.0 ∙ pre.0.u) (hungarian-match.hungarian-match.kept.1.1.1.1.1.1.0 ∙ pre.0.v)
-
-enum-known-outcome-2 : tie.Need-enum-known-outcome-2
-enum-known-outcome-2 c = search rules
-
-same_length_lem : tie.Need-same-length
-same_length_lem c = search rules
-
-same-length-2 : tie.Need-same-length-2
-same-length-2 c = search rules
-
-same-length-3 : tie.Need-same-length-3
-same-length-3 c = search rules
-
-same-length-4 : tie.Need-same-length-4
-same-length-4 c = search rules
-
-same-length-5 : tie.Need-same-length-5
-same-length-5 c = search rules
-
-same-length-6 : tie.Need-same-length-6
-same-length-6 c = search rules
-
-same-length-7 : tie.Need-same-length-7
-same-length-7 c = search rules
-
-same-length-8 : tie.Need-same-length-8
-same-length-8 c = search rules
-
-same-length-9 : tie.Need-same-length-9
-same-length-9 c = search rules
-
-returns : tie.Need-returns
-returns c = matched_bytes (entry-of-slice-known18 c).pre.0 _ (hungarian-match-of-slice-known18 c).hungarian-match.ensures.outcome
-    (outcome-of-slice-known18 c).outcome.given.1 (put-match-of-slice-known18 c).put-match.ensures
-
-same-length-10 : tie.Need-same-length-10
-same-length-10 c = search rules
-
-same-length-11 : tie.Need-same-length-11
-same-length-11 c = search rules
-
-same-length-12 : tie.Need-same-length-12
-same-length-12 c = search rules
-
-same-length-13 : tie.Need-same-length-13
-same-length-13 c = search rules
-
-same-length-14 : tie.Need-same-length-14
-same-length-14 c = search rules
-
-returns-2 : tie.Need-returns-2
-returns-2 c = refused_bytes (entry-of-known-told2 c).pre.0 _ (hungarian-match-of-known-told2 c).hungarian-match.ensures.outcome
-    c.before.outcome2.given.1
-
-pub match-in-spec : {M : Type 1} → statement M
-match-in-spec =
+pub match_in_spec : {M : Type 1} → statement M
+match_in_spec =
     tie.close
     (tie.spec
-    hungarian-match-requires
-    enum-known-outcome
-    put-match-requires
-    enum-known-outcome-2
-    same_length_lem
-    same-length-2
-    same-length-3
-    same-length-4
-    same-length-5
-    same-length-6
-    same-length-7
-    same-length-8
-    same-length-9
-    returns
-    same-length-10
-    same-length-11
-    same-length-12
-    same-length-13
-    same-length-14
-    returns-2)
+    hungarian_match-outcome-requires
+    enum_known-outcome
+    put_match-requires
+    enum_known-outcome-in-Refused-1
+    shape_of-rows_of-in-Matched
+    shape_of-row_duals-in-Matched
+    shape_of-col_duals-in-Matched
+    shape_of-work-in-Matched
+    shape_of-fwork-in-Matched
+    shape_of-perm
+    shape_of-u
+    shape_of-v
+    shape_of-answer
+    returns-in-Matched
+    shape_of-rows_of-in-Refused
+    shape_of-row_duals-in-Refused
+    shape_of-col_duals-in-Refused
+    shape_of-work-in-Refused
+    shape_of-fwork-in-Refused
+    returns-in-Refused)

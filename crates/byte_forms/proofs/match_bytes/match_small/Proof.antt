@@ -1,4 +1,5 @@
 -- `match_bytes::match_small` meets its contract: a part of each local array has its length.
+use Rattle.std.proofs.Common.{rules}
 use mathlib.Core.Path.{sym}
 use native.Mathlib.Omega.{arith}
 use Rattle.hungarian_match.proofs.LocalArrays.{part_length}
@@ -6,103 +7,93 @@ use borrow.Author.Rules.{rules}
 use Rattle.byte_forms.proofs.match_bytes.match_small.Statement.{statement}
 use Rattle.byte_forms.proofs.match_bytes.match_small.Tie as tie
 
--- places of the proof, each from a later one
-abbrev entry-of-rows-of : tie.After-rows-of → tie.Start
-entry-of-rows-of c = c.before.before.before.before.before.before.before.before
+slice_bounds-rows_of-end : tie.Need-slice_bounds-rows_of-end
+slice_bounds-rows_of-end c = search rules
 
-abbrev entry-of-col-duals : tie.After-col-duals → tie.Start
-entry-of-col-duals c = entry-of-rows-of c.before.before
+slice_bounds-match_in-end : tie.Need-slice_bounds-match_in-end
+slice_bounds-match_in-end c = sym (part_length _ 256 _ (omega (arith, c.requires.small.columns)))
 
-abbrev entry-of-match-in-arg4 : tie.After-match-in-arg4 → tie.Start
-entry-of-match-in-arg4 c = entry-of-col-duals c.before.before.before.before.before.before
+slice_bounds-row_duals-end : tie.Need-slice_bounds-row_duals-end
+slice_bounds-row_duals-end c = search rules
 
-array-borrow-prefix-rows-of : tie.Need-array-borrow-prefix-rows-of
-array-borrow-prefix-rows-of c = search rules
+slice_bounds-match_in-end-2 : tie.Need-slice_bounds-match_in-end-2
+slice_bounds-match_in-end-2 c = sym (part_length _ 256 _ (omega (arith, c.requires.small.columns)))
 
-slice-aggregate-match-in : tie.Need-slice-aggregate-match-in
-slice-aggregate-match-in c = sym (part_length _ 256 _ (omega (arith, (entry-of-rows-of c).requires.0.columns)))
+slice_bounds-col_duals-end : tie.Need-slice_bounds-col_duals-end
+slice_bounds-col_duals-end c = search rules
 
-array-borrow-prefix-row-duals : tie.Need-array-borrow-prefix-row-duals
-array-borrow-prefix-row-duals c = search rules
+slice_bounds-match_in-end-3 : tie.Need-slice_bounds-match_in-end-3
+slice_bounds-match_in-end-3 c = sym (part_length _ 256 _ (omega (arith, c.requires.small.columns)))
 
-slice-aggregate-match-in-2 : tie.Need-slice-aggregate-match-in-2
-slice-aggregate-match-in-2 c = sym (part_length _ 256 _ (omega (arith, (entry-of-rows-of c.before).requires.0.columns)))
+overflow_mul-work : tie.Need-overflow_mul-work
+overflow_mul-work c = search rules
 
-array-borrow-prefix-col-duals : tie.Need-array-borrow-prefix-col-duals
-array-borrow-prefix-col-duals c = search rules
+overflow_add-work : tie.Need-overflow_add-work
+overflow_add-work c = search rules
 
-slice-aggregate-match-in-3 : tie.Need-slice-aggregate-match-in-3
-slice-aggregate-match-in-3 c = sym (part_length _ 256 _ (omega (arith, (entry-of-col-duals c).requires.0.columns)))
+slice_bounds-work-end : tie.Need-slice_bounds-work-end
+slice_bounds-work-end c = search rules
 
-mul-work : tie.Need-overflow-mul-work
-mul-work c = search rules
+slice_bounds-match_in-end-4 : tie.Need-slice_bounds-match_in-end-4
+slice_bounds-match_in-end-4 c = sym (part_length _ 3073 _ (omega (arith, c.requires.small.columns)))
 
-add-work : tie.Need-overflow-add-work
-add-work c = search rules
+overflow_mul-fwork : tie.Need-overflow_mul-fwork
+overflow_mul-fwork c = search rules
 
-array-borrow-prefix-work : tie.Need-array-borrow-prefix-work
-array-borrow-prefix-work c = search rules
+slice_bounds-fwork-end : tie.Need-slice_bounds-fwork-end
+slice_bounds-fwork-end c = search rules
 
-slice-aggregate-match-in-4 : tie.Need-slice-aggregate-match-in-4
-slice-aggregate-match-in-4 c = sym (part_length _ 3073 _ (omega (arith, (entry-of-col-duals c.before).requires.0.columns)))
+slice_bounds-match_in-end-5 : tie.Need-slice_bounds-match_in-end-5
+slice_bounds-match_in-end-5 c = sym (part_length _ 512 _ (omega (arith, c.requires.small.columns)))
 
-mul-fwork : tie.Need-overflow-mul-fwork
-mul-fwork c = search rules
-
-array-borrow-prefix-fwork : tie.Need-array-borrow-prefix-fwork
-array-borrow-prefix-fwork c = search rules
-
-slice-aggregate-match-in-5 : tie.Need-slice-aggregate-match-in-5
-slice-aggregate-match-in-5 c = sym (part_length _ 512 _ (omega (arith, (entry-of-col-duals c.before.before).requires.0.columns)))
-
-match-in-requires : tie.Need-match-in-requires
-match-in-requires c κs = (
+match_in-requires : tie.Need-match_in-requires
+match_in-requires c κs = (
   record {
-    graph = (entry-of-match-in-arg4 c).requires.0.lengths;
-    perm = part_length _ 256 _ (omega (arith, (entry-of-match-in-arg4 c).requires.0.columns));
-    u = part_length _ 256 _ (omega (arith, (entry-of-match-in-arg4 c).requires.0.columns));
-    v = part_length _ 256 _ (omega (arith, (entry-of-match-in-arg4 c).requires.0.columns));
-    work = part_length _ 3073 _ (omega (arith, (entry-of-match-in-arg4 c).requires.0.columns));
-    fwork = part_length _ 512 _ (omega (arith, (entry-of-match-in-arg4 c).requires.0.columns));
+    graph = c.requires.small.lengths;
+    perm = part_length _ 256 _ (omega (arith, c.requires.small.columns));
+    u = part_length _ 256 _ (omega (arith, c.requires.small.columns));
+    v = part_length _ 256 _ (omega (arith, c.requires.small.columns));
+    work = part_length _ 3073 _ (omega (arith, c.requires.small.columns));
+    fwork = part_length _ 512 _ (omega (arith, c.requires.small.columns));
   },
-  (entry-of-match-in-arg4 c).requires.1,
+  c.requires.roomy,
 )
 
-same_length_lem : tie.Need-same-length
-same_length_lem c = search rules
+shape_of-perm : tie.Need-shape_of-perm
+shape_of-perm c = search rules
 
-same-length-2 : tie.Need-same-length-2
-same-length-2 c = search rules
+shape_of-u : tie.Need-shape_of-u
+shape_of-u c = search rules
 
-same-length-3 : tie.Need-same-length-3
-same-length-3 c = search rules
+shape_of-v : tie.Need-shape_of-v
+shape_of-v c = search rules
 
-same-length-4 : tie.Need-same-length-4
-same-length-4 c = search rules
+shape_of-answer : tie.Need-shape_of-answer
+shape_of-answer c = search rules
 
 returns : tie.Need-returns
 returns c = search rules
 
-pub match-small-spec : {M : Type 1} → statement M
-match-small-spec =
+pub match_small_spec : {M : Type 1} → statement M
+match_small_spec =
     tie.close
     (tie.spec
-    array-borrow-prefix-rows-of
-    slice-aggregate-match-in
-    array-borrow-prefix-row-duals
-    slice-aggregate-match-in-2
-    array-borrow-prefix-col-duals
-    slice-aggregate-match-in-3
-    mul-work
-    add-work
-    array-borrow-prefix-work
-    slice-aggregate-match-in-4
-    mul-fwork
-    array-borrow-prefix-fwork
-    slice-aggregate-match-in-5
-    match-in-requires
-    same_length_lem
-    same-length-2
-    same-length-3
-    same-length-4
+    slice_bounds-rows_of-end
+    slice_bounds-match_in-end
+    slice_bounds-row_duals-end
+    slice_bounds-match_in-end-2
+    slice_bounds-col_duals-end
+    slice_bounds-match_in-end-3
+    overflow_mul-work
+    overflow_add-work
+    slice_bounds-work-end
+    slice_bounds-match_in-end-4
+    overflow_mul-fwork
+    slice_bounds-fwork-end
+    slice_bounds-match_in-end-5
+    match_in-requires
+    shape_of-perm
+    shape_of-u
+    shape_of-v
+    shape_of-answer
     returns)

@@ -1,4 +1,5 @@
 -- `match_bytes::size_fault` meets its contract: each return follows the tests before it.
+use Rattle.std.proofs.Common.{rules}
 use mathlib.Core.Path.{sym}
 use native.Mathlib.Omega.{arith}
 use borrow.Author.Tests.{le-leb, lt-leb}
@@ -7,48 +8,48 @@ use borrow.Author.Rules.{rules}
 use Rattle.byte_forms.proofs.match_bytes.size_fault.Statement.{statement}
 use Rattle.byte_forms.proofs.match_bytes.size_fault.Tie as tie
 
--- places of the proof, each from a later one
-abbrev entry-of-then3 : tie.Then3 → tie.Start
-entry-of-then3 c = c.before.before.before.before
-
-abbrev entry-of-else3 : tie.Else3 → tie.Start
-entry-of-else3 c = c.before.before.before.before
-
-returns : tie.Need-returns
+returns-then-n-gt-MAX_COLUMNS : tie.Need-returns-then-n-gt-MAX_COLUMNS
 unfolding byte_sizes
-returns c = rw (lt-leb c.before.args.n byte_columns (omega arith))
+returns-then-n-gt-MAX_COLUMNS c = rw (lt-leb c.args.n byte_columns (omega arith))
 
-returns-2 : tie.Need-returns-2
+returns-then-row_idx-gt-MAX_ENTRIES : tie.Need-returns-then-row_idx-gt-MAX_ENTRIES
 unfolding byte_sizes
-returns-2 c = rw (
-  le-leb c.before.before.args.n byte_columns c.before.if1.false,
-  lt-leb (word_count c.before.before.args.row-idx) byte_entries c.if2.true,
+returns-then-row_idx-gt-MAX_ENTRIES c = rw (
+  le-leb c.args.n byte_columns c.if-n-gt-MAX_COLUMNS.false,
+  lt-leb (word_count c.args.row-idx) byte_entries c.if-row_idx-gt-MAX_ENTRIES.true,
 )
 
-lengths-fit-requires : tie.Need-lengths-fit-requires
-lengths-fit-requires c κs = search rules
+lengths_fit-requires : tie.Need-lengths_fit-requires
+lengths_fit-requires c κs = search rules
 
-returns-3 : tie.Need-returns-3
+returns-then-lengths_fit : tie.Need-returns-then-lengths_fit
 unfolding byte_sizes
-returns-3 c = rw (
-  le-leb (entry-of-then3 c).args.n byte_columns c.before.before.before.if1.false,
+returns-then-lengths_fit c = rw (
+  le-leb c.args.n byte_columns c.if-n-gt-MAX_COLUMNS.false,
   le-leb
-      (word_count (entry-of-then3 c).args.row-idx) byte_entries c.before.before.if2.false,
+      (word_count c.args.row-idx) byte_entries c.if-row_idx-gt-MAX_ENTRIES.false,
   sym
-      c.before.lengths_fit_lem.ensures,
-  c.if3.true,
+      c.lengths_fit.ensures,
+  c.if-lengths_fit.true,
 )
 
-returns-4 : tie.Need-returns-4
+returns-else-lengths_fit : tie.Need-returns-else-lengths_fit
 unfolding byte_sizes
-returns-4 c = rw (
-  le-leb (entry-of-else3 c).args.n byte_columns c.before.before.before.if1.false,
+returns-else-lengths_fit c = rw (
+  le-leb c.args.n byte_columns c.if-n-gt-MAX_COLUMNS.false,
   le-leb
-      (word_count (entry-of-else3 c).args.row-idx) byte_entries c.before.before.if2.false,
+      (word_count c.args.row-idx) byte_entries c.if-row_idx-gt-MAX_ENTRIES.false,
   sym
-      c.before.lengths_fit_lem.ensures,
-  c.if3.false,
+      c.lengths_fit.ensures,
+  c.if-lengths_fit.false,
 )
 
-pub size-fault-spec : {M : Type 1} → statement M
-size-fault-spec = tie.close (tie.spec returns returns-2 lengths-fit-requires returns-3 returns-4)
+pub size_fault_spec : {M : Type 1} → statement M
+size_fault_spec =
+    tie.close
+    (tie.spec
+    returns-then-n-gt-MAX_COLUMNS
+    returns-then-row_idx-gt-MAX_ENTRIES
+    lengths_fit-requires
+    returns-then-lengths_fit
+    returns-else-lengths_fit)

@@ -3,80 +3,67 @@ use Rattle.std.proofs.Common.{◌∙◌, rules}
 use Rattle.evidence_cases.proofs.factors.infnorm_lent.Statement.{statement}
 use Rattle.evidence_cases.proofs.factors.infnorm_lent.Tie as tie
 
--- places of the proof, each from a later one
-abbrev compute-infnorm-of-expect-doubles2 : tie.After-expect-doubles2 → tie.After-compute-infnorm
-compute-infnorm-of-expect-doubles2 c = c.before.before.before.before.before.before.before.before.before.before
+fill-place-requires : tie.Need-fill-place-requires
+fill-place-requires c κs = tt
 
-abbrev doubles2-of-expect-doubles2 : tie.After-expect-doubles2 → tie.After-doubles2
-doubles2-of-expect-doubles2 c = (compute-infnorm-of-expect-doubles2 c).before.before.before.before.before.before.before.before
+doubles-place-requires : tie.Need-doubles-place-requires
+doubles-place-requires c κs = tt
 
-abbrev doubles-of-expect-doubles2 : tie.After-expect-doubles2 → tie.After-doubles
-doubles-of-expect-doubles2 c = (doubles2-of-expect-doubles2 c).before.before.before.before
+doubles-place-requires-2 : tie.Need-doubles-place-requires-2
+doubles-place-requires-2 c κs = tt
 
-abbrev fill-of-expect-doubles2 : tie.After-expect-doubles2 → tie.After-fill
-fill-of-expect-doubles2 c = (doubles-of-expect-doubles2 c).before.before.before.before.before.before.before.before
+compute_infnorm-answer-requires : tie.Need-compute_infnorm-answer-requires
+compute_infnorm-answer-requires c κs = tt
 
-fill-requires : tie.Need-fill-requires
-fill-requires c κs = tt
+number_of-requires : tie.Need-number_of-requires
+number_of-requires c κs = tt
 
-doubles-requires : tie.Need-doubles-requires
-doubles-requires c κs = tt
+overflow_cast-number_of : tie.Need-overflow_cast-number_of
+overflow_cast-number_of c = search rules
 
-doubles-requires-2 : tie.Need-doubles-requires-2
-doubles-requires-2 c κs = tt
+expect-place-requires : tie.Need-expect-place-requires
+expect-place-requires c κs = tt
 
-compute-infnorm-requires : tie.Need-compute-infnorm-requires
-compute-infnorm-requires c κs = tt
+expect_doubles-place-requires : tie.Need-expect_doubles-place-requires
+expect_doubles-place-requires c κs = tt
 
-number-of-requires : tie.Need-number-of-requires
-number-of-requires c κs = tt
+expect_doubles-requires : tie.Need-expect_doubles-requires
+expect_doubles-requires c κs = tt
 
-cast-expect : tie.Need-overflow-cast-expect
-cast-expect c = search rules
+shape_of-col_ptr : tie.Need-shape_of-col_ptr
+shape_of-col_ptr c = c.fill-place.auto.perm
 
-expect-requires : tie.Need-expect-requires
-expect-requires c κs = tt
+shape_of-rows : tie.Need-shape_of-rows
+shape_of-rows c = c.fill-place.auto.u
 
-expect-doubles-requires : tie.Need-expect-doubles-requires
-expect-doubles-requires c κs = tt
+shape_of-values : tie.Need-shape_of-values
+shape_of-values c = c.fill-place.auto.v
 
-expect-doubles-requires-2 : tie.Need-expect-doubles-requires-2
-expect-doubles-requires-2 c κs = tt
+shape_of-factors : tie.Need-shape_of-factors
+shape_of-factors c = c.compute_infnorm-answer.auto.factors ∙ c.doubles-place.auto.out
 
-same_length_lem : tie.Need-same-length
-same_length_lem c = (fill-of-expect-doubles2 c).fill.auto.1.1.0
-
-same-length-2 : tie.Need-same-length-2
-same-length-2 c = (fill-of-expect-doubles2 c).fill.auto.1.1.1.0
-
-same-length-3 : tie.Need-same-length-3
-same-length-3 c = (fill-of-expect-doubles2 c).fill.auto.1.1.1.1.0
-
-same-length-4 : tie.Need-same-length-4
-same-length-4 c = (compute-infnorm-of-expect-doubles2 c).compute-infnorm.auto.1.1.1.1.0 ∙ (doubles-of-expect-doubles2 c).doubles.auto.1.1.0
-
-same-length-5 : tie.Need-same-length-5
-same-length-5 c = (compute-infnorm-of-expect-doubles2 c).compute-infnorm.auto.1.1.1.1.1.0 ∙ (doubles2-of-expect-doubles2 c).doubles2.auto.1.1.0
+shape_of-work : tie.Need-shape_of-work
+shape_of-work c = c.compute_infnorm-answer.auto.work ∙ c.doubles-place-2.auto.out
 
 returns : tie.Need-returns
 returns c = tt
 
-pub infnorm-lent-spec : {M : Type 1} → statement M
-infnorm-lent-spec =
+pub infnorm_lent_spec : {M : Type 1} → statement M
+infnorm_lent_spec =
     tie.close
     (tie.spec
-    fill-requires
-    doubles-requires
-    doubles-requires-2
-    compute-infnorm-requires
-    number-of-requires
-    cast-expect
-    expect-requires
-    expect-doubles-requires
-    expect-doubles-requires-2
-    same_length_lem
-    same-length-2
-    same-length-3
-    same-length-4
-    same-length-5
+    fill-place-requires
+    doubles-place-requires
+    doubles-place-requires-2
+    compute_infnorm-answer-requires
+    number_of-requires
+    overflow_cast-number_of
+    expect-place-requires
+    expect_doubles-place-requires
+    expect_doubles-requires
+    shape_of-col_ptr
+    shape_of-rows
+    shape_of-values
+    shape_of-factors
+    shape_of-work
     returns)

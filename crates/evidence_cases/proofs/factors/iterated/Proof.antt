@@ -3,23 +3,23 @@ use Rattle.std.proofs.Common.{sym, length-take-le}
 use Rattle.evidence_cases.proofs.factors.iterated.Statement.{statement}
 use Rattle.evidence_cases.proofs.factors.iterated.Tie as tie
 
-next-u32-requires : tie.Need-next-u32-requires
-next-u32-requires c κs = tt
+next_u32-n-requires : tie.Need-next_u32-n-requires
+next_u32-n-requires c κs = tt
 
-length-requires : tie.Need-length-requires
-length-requires c κs = tt
+length-l0-requires : tie.Need-length-l0-requires
+length-l0-requires c κs = tt
 
-length-requires-2 : tie.Need-length-requires-2
-length-requires-2 c κs = tt
+length-l1-requires : tie.Need-length-l1-requires
+length-l1-requires c κs = tt
 
-length-requires-3 : tie.Need-length-requires-3
-length-requires-3 c κs = tt
+length-l2-requires : tie.Need-length-l2-requires
+length-l2-requires c κs = tt
 
-length-requires-4 : tie.Need-length-requires-4
-length-requires-4 c κs = tt
+length-l3-requires : tie.Need-length-l3-requires
+length-l3-requires c κs = tt
 
-length-requires-5 : tie.Need-length-requires-5
-length-requires-5 c κs = tt
+length-l4-requires : tie.Need-length-l4-requires
+length-l4-requires c κs = tt
 
 word-requires : tie.Need-word-requires
 word-requires c κs = tt
@@ -27,87 +27,87 @@ word-requires c κs = tt
 size-requires : tie.Need-size-requires
 size-requires c κs = tt
 
-array-borrow-prefix-col-ptr : tie.Need-array-borrow-prefix-col-ptr
-array-borrow-prefix-col-ptr c = c.size.ensures
+slice_bounds-col_ptr-end : tie.Need-slice_bounds-col_ptr-end
+slice_bounds-col_ptr-end c = c.size.ensures
 
-slice-aggregate-infnorm-lent : tie.Need-slice-aggregate-infnorm-lent
-slice-aggregate-infnorm-lent c = sym (length-take-le _ _ c.before.size.ensures)
+slice_bounds-infnorm_lent-end : tie.Need-slice_bounds-infnorm_lent-end
+slice_bounds-infnorm_lent-end c = sym (length-take-le _ _ c.size.ensures)
 
 size-requires-2 : tie.Need-size-requires-2
 size-requires-2 c κs = tt
 
-slice-relend-prefix-infnorm-lent : tie.Need-slice-relend-prefix-infnorm-lent
-slice-relend-prefix-infnorm-lent c = c.size2.ensures
+slice_bounds-infnorm_lent-end-2 : tie.Need-slice_bounds-infnorm_lent-end-2
+slice_bounds-infnorm_lent-end-2 c = c.size-2.ensures
 
-slice-aggregate-infnorm-lent-2 : tie.Need-slice-aggregate-infnorm-lent-2
-slice-aggregate-infnorm-lent-2 c = sym (length-take-le _ _ c.before.size2.ensures)
+slice_bounds-infnorm_lent-end-3 : tie.Need-slice_bounds-infnorm_lent-end-3
+slice_bounds-infnorm_lent-end-3 c = sym (length-take-le _ _ c.size-2.ensures)
 
 size-requires-3 : tie.Need-size-requires-3
 size-requires-3 c κs = tt
 
-slice-relend-prefix-infnorm-lent-2 : tie.Need-slice-relend-prefix-infnorm-lent-2
-slice-relend-prefix-infnorm-lent-2 c = c.size3.ensures
+slice_bounds-infnorm_lent-end-4 : tie.Need-slice_bounds-infnorm_lent-end-4
+slice_bounds-infnorm_lent-end-4 c = c.size-3.ensures
 
-slice-aggregate-infnorm-lent-3 : tie.Need-slice-aggregate-infnorm-lent-3
-slice-aggregate-infnorm-lent-3 c = sym (length-take-le _ _ c.before.size3.ensures)
+slice_bounds-infnorm_lent-end-5 : tie.Need-slice_bounds-infnorm_lent-end-5
+slice_bounds-infnorm_lent-end-5 c = sym (length-take-le _ _ c.size-3.ensures)
 
 size-requires-4 : tie.Need-size-requires-4
 size-requires-4 c κs = tt
 
-array-borrow-prefix-factors : tie.Need-array-borrow-prefix-factors
-array-borrow-prefix-factors c = c.size4.ensures
+slice_bounds-factors-end : tie.Need-slice_bounds-factors-end
+slice_bounds-factors-end c = c.size-4.ensures
 
-slice-aggregate-infnorm-lent-4 : tie.Need-slice-aggregate-infnorm-lent-4
-slice-aggregate-infnorm-lent-4 c = sym (length-take-le _ _ c.before.size4.ensures)
+slice_bounds-infnorm_lent-end-6 : tie.Need-slice_bounds-infnorm_lent-end-6
+slice_bounds-infnorm_lent-end-6 c = sym (length-take-le _ _ c.size-4.ensures)
 
 size-requires-5 : tie.Need-size-requires-5
 size-requires-5 c κs = tt
 
-array-borrow-prefix-work : tie.Need-array-borrow-prefix-work
-array-borrow-prefix-work c = c.size5.ensures
+slice_bounds-work-end : tie.Need-slice_bounds-work-end
+slice_bounds-work-end c = c.size-5.ensures
 
-slice-aggregate-infnorm-lent-5 : tie.Need-slice-aggregate-infnorm-lent-5
-slice-aggregate-infnorm-lent-5 c = sym (length-take-le _ _ c.before.size5.ensures)
+slice_bounds-infnorm_lent-end-7 : tie.Need-slice_bounds-infnorm_lent-end-7
+slice_bounds-infnorm_lent-end-7 c = sym (length-take-le _ _ c.size-5.ensures)
 
-infnorm-lent-requires : tie.Need-infnorm-lent-requires
-infnorm-lent-requires c κs = tt
+infnorm_lent-requires : tie.Need-infnorm_lent-requires
+infnorm_lent-requires c κs = tt
 
-same_length_lem : tie.Need-same-length
-same_length_lem c = c.before.before.before.before.before.rows.given.1
+shape_of-rows : tie.Need-shape_of-rows
+shape_of-rows c = c.rows-1.given.1
 
-same-length-2 : tie.Need-same-length-2
-same-length-2 c = c.before.before.before.values.given.1
+shape_of-values : tie.Need-shape_of-values
+shape_of-values c = c.values-1.given.1
 
 returns : tie.Need-returns
 returns c = tt
 
-pub iterated-spec : {M : Type 1} → statement M
-iterated-spec =
+pub iterated_spec : {M : Type 1} → statement M
+iterated_spec =
     tie.close
     (tie.spec
-    next-u32-requires
-    length-requires
-    length-requires-2
-    length-requires-3
-    length-requires-4
-    length-requires-5
+    next_u32-n-requires
+    length-l0-requires
+    length-l1-requires
+    length-l2-requires
+    length-l3-requires
+    length-l4-requires
     word-requires
     size-requires
-    array-borrow-prefix-col-ptr
-    slice-aggregate-infnorm-lent
+    slice_bounds-col_ptr-end
+    slice_bounds-infnorm_lent-end
     size-requires-2
-    slice-relend-prefix-infnorm-lent
-    slice-aggregate-infnorm-lent-2
+    slice_bounds-infnorm_lent-end-2
+    slice_bounds-infnorm_lent-end-3
     size-requires-3
-    slice-relend-prefix-infnorm-lent-2
-    slice-aggregate-infnorm-lent-3
+    slice_bounds-infnorm_lent-end-4
+    slice_bounds-infnorm_lent-end-5
     size-requires-4
-    array-borrow-prefix-factors
-    slice-aggregate-infnorm-lent-4
+    slice_bounds-factors-end
+    slice_bounds-infnorm_lent-end-6
     size-requires-5
-    array-borrow-prefix-work
-    slice-aggregate-infnorm-lent-5
-    infnorm-lent-requires
-    same_length_lem
-    same-length-2
+    slice_bounds-work-end
+    slice_bounds-infnorm_lent-end-7
+    infnorm_lent-requires
+    shape_of-rows
+    shape_of-values
     returns)

@@ -3,83 +3,67 @@ use Rattle.std.proofs.Common.{◌∙◌}
 use Rattle.evidence_cases.proofs.factors.symmetric_lent.Statement.{statement}
 use Rattle.evidence_cases.proofs.factors.symmetric_lent.Tie as tie
 
--- places of the proof, each from a later one
-abbrev log-factors-of-expect-words : tie.After-expect-words → tie.After-log-factors
-log-factors-of-expect-words c = c.before.before.before.before.before.before.before.before.before
+words-place-requires : tie.Need-words-place-requires
+words-place-requires c κs = tt
 
-abbrev words2-of-expect-words : tie.After-expect-words → tie.After-words2
-words2-of-expect-words c = (log-factors-of-expect-words c).before.before.before.before.before.before.before.before.before
+fill_duals-place-requires : tie.Need-fill_duals-place-requires
+fill_duals-place-requires c κs = tt
 
-abbrev doubles-of-expect-words : tie.After-expect-words → tie.After-doubles
-doubles-of-expect-words c = (words2-of-expect-words c).before.before.before.before
+doubles-place-requires : tie.Need-doubles-place-requires
+doubles-place-requires c κs = tt
 
-abbrev fill-duals-of-expect-words : tie.After-expect-words → tie.After-fill-duals
-fill-duals-of-expect-words c = (doubles-of-expect-words c).before.before.before.before.before.before.before.before
+words-place-requires-2 : tie.Need-words-place-requires-2
+words-place-requires-2 c κs = tt
 
-abbrev words-of-expect-words : tie.After-expect-words → tie.After-words
-words-of-expect-words c = (fill-duals-of-expect-words c).before.before.before.before.before.before
+log_factors-answer-requires : tie.Need-log_factors-answer-requires
+log_factors-answer-requires c κs = tt
 
-words-requires : tie.Need-words-requires
-words-requires c κs = tt
+expect_scaled-place-requires : tie.Need-expect_scaled-place-requires
+expect_scaled-place-requires c κs = tt
 
-fill-duals-requires : tie.Need-fill-duals-requires
-fill-duals-requires c κs = tt
+expect_doubles-place-requires : tie.Need-expect_doubles-place-requires
+expect_doubles-place-requires c κs = tt
 
-doubles-requires : tie.Need-doubles-requires
-doubles-requires c κs = tt
+expect_words-requires : tie.Need-expect_words-requires
+expect_words-requires c κs = tt
 
-words-requires-2 : tie.Need-words-requires-2
-words-requires-2 c κs = tt
+shape_of-perm : tie.Need-shape_of-perm
+shape_of-perm c = c.words-place.auto.out
 
-log-factors-requires : tie.Need-log-factors-requires
-log-factors-requires c κs = tt
+shape_of-u : tie.Need-shape_of-u
+shape_of-u c = c.fill_duals-place.auto.u
 
-expect-scaled-requires : tie.Need-expect-scaled-requires
-expect-scaled-requires c κs = tt
+shape_of-v : tie.Need-shape_of-v
+shape_of-v c = c.fill_duals-place.auto.v
 
-expect-doubles-requires : tie.Need-expect-doubles-requires
-expect-doubles-requires c κs = tt
+shape_of-cmax : tie.Need-shape_of-cmax
+shape_of-cmax c = c.fill_duals-place.auto.cmax
 
-expect-words-requires : tie.Need-expect-words-requires
-expect-words-requires c κs = tt
+shape_of-factors : tie.Need-shape_of-factors
+shape_of-factors c = c.log_factors-answer.auto.factors ∙ c.doubles-place.auto.out
 
-same_length_lem : tie.Need-same-length
-same_length_lem c = (words-of-expect-words c).words.auto.1.1.0
-
-same-length-2 : tie.Need-same-length-2
-same-length-2 c = (fill-duals-of-expect-words c).fill-duals.auto.1.1.0
-
-same-length-3 : tie.Need-same-length-3
-same-length-3 c = (fill-duals-of-expect-words c).fill-duals.auto.1.1.1.0
-
-same-length-4 : tie.Need-same-length-4
-same-length-4 c = (fill-duals-of-expect-words c).fill-duals.auto.1.1.1.1.0
-
-same-length-5 : tie.Need-same-length-5
-same-length-5 c = (log-factors-of-expect-words c).log-factors.auto.1.1.1.1.1.1.0 ∙ (doubles-of-expect-words c).doubles.auto.1.1.0
-
-same-length-6 : tie.Need-same-length-6
-same-length-6 c = (log-factors-of-expect-words c).log-factors.auto.1.1.1.1.1.1.1.0 ∙ (words2-of-expect-words c).words2.auto.1.1.0
+shape_of-work : tie.Need-shape_of-work
+shape_of-work c = c.log_factors-answer.auto.work ∙ c.words-place-2.auto.out
 
 returns : tie.Need-returns
 returns c = tt
 
-pub symmetric-lent-spec : {M : Type 1} → statement M
-symmetric-lent-spec =
+pub symmetric_lent_spec : {M : Type 1} → statement M
+symmetric_lent_spec =
     tie.close
     (tie.spec
-    words-requires
-    fill-duals-requires
-    doubles-requires
-    words-requires-2
-    log-factors-requires
-    expect-scaled-requires
-    expect-doubles-requires
-    expect-words-requires
-    same_length_lem
-    same-length-2
-    same-length-3
-    same-length-4
-    same-length-5
-    same-length-6
+    words-place-requires
+    fill_duals-place-requires
+    doubles-place-requires
+    words-place-requires-2
+    log_factors-answer-requires
+    expect_scaled-place-requires
+    expect_doubles-place-requires
+    expect_words-requires
+    shape_of-perm
+    shape_of-u
+    shape_of-v
+    shape_of-cmax
+    shape_of-factors
+    shape_of-work
     returns)

@@ -3,76 +3,63 @@ use Rattle.std.proofs.Common.{◌∙◌, rules}
 use Rattle.evidence_cases.proofs.factors.unsymmetric_lent.Statement.{statement}
 use Rattle.evidence_cases.proofs.factors.unsymmetric_lent.Tie as tie
 
--- places of the proof, each from a later one
-abbrev unsymmetric-factors-of-expect-doubles2 : tie.After-expect-doubles2 → tie.After-unsymmetric-factors
-unsymmetric-factors-of-expect-doubles2 c = c.before.before.before.before.before.before.before.before.before
+fill_duals-place-requires : tie.Need-fill_duals-place-requires
+fill_duals-place-requires c κs = tt
 
-abbrev doubles2-of-expect-doubles2 : tie.After-expect-doubles2 → tie.After-doubles2
-doubles2-of-expect-doubles2 c = (unsymmetric-factors-of-expect-doubles2 c).before.before.before.before.before.before.before.before
+doubles-place-requires : tie.Need-doubles-place-requires
+doubles-place-requires c κs = tt
 
-abbrev doubles-of-expect-doubles2 : tie.After-expect-doubles2 → tie.After-doubles
-doubles-of-expect-doubles2 c = (doubles2-of-expect-doubles2 c).before.before.before.before
+doubles-place-requires-2 : tie.Need-doubles-place-requires-2
+doubles-place-requires-2 c κs = tt
 
-abbrev fill-duals-of-expect-doubles2 : tie.After-expect-doubles2 → tie.After-fill-duals
-fill-duals-of-expect-doubles2 c = (doubles-of-expect-doubles2 c).before.before.before.before.before.before.before.before
+unsymmetric_factors-number-requires : tie.Need-unsymmetric_factors-number-requires
+unsymmetric_factors-number-requires c κs = tt
 
-fill-duals-requires : tie.Need-fill-duals-requires
-fill-duals-requires c κs = tt
+overflow_cast-number : tie.Need-overflow_cast-number
+overflow_cast-number c = search rules
 
-doubles-requires : tie.Need-doubles-requires
-doubles-requires c κs = tt
+expect-place-requires : tie.Need-expect-place-requires
+expect-place-requires c κs = tt
 
-doubles-requires-2 : tie.Need-doubles-requires-2
-doubles-requires-2 c κs = tt
+expect_doubles-place-requires : tie.Need-expect_doubles-place-requires
+expect_doubles-place-requires c κs = tt
 
-unsymmetric-factors-requires : tie.Need-unsymmetric-factors-requires
-unsymmetric-factors-requires c κs = tt
+expect_doubles-requires : tie.Need-expect_doubles-requires
+expect_doubles-requires c κs = tt
 
-cast-expect : tie.Need-overflow-cast-expect
-cast-expect c = search rules
+shape_of-u : tie.Need-shape_of-u
+shape_of-u c = c.fill_duals-place.auto.u
 
-expect-requires : tie.Need-expect-requires
-expect-requires c κs = tt
+shape_of-v : tie.Need-shape_of-v
+shape_of-v c = c.fill_duals-place.auto.v
 
-expect-doubles-requires : tie.Need-expect-doubles-requires
-expect-doubles-requires c κs = tt
+shape_of-cmax : tie.Need-shape_of-cmax
+shape_of-cmax c = c.fill_duals-place.auto.cmax
 
-expect-doubles-requires-2 : tie.Need-expect-doubles-requires-2
-expect-doubles-requires-2 c κs = tt
+shape_of-rows : tie.Need-shape_of-rows
+shape_of-rows c = c.unsymmetric_factors-number.auto.rows ∙ c.doubles-place.auto.out
 
-same_length_lem : tie.Need-same-length
-same_length_lem c = (fill-duals-of-expect-doubles2 c).fill-duals.auto.1.1.0
-
-same-length-2 : tie.Need-same-length-2
-same-length-2 c = (fill-duals-of-expect-doubles2 c).fill-duals.auto.1.1.1.0
-
-same-length-3 : tie.Need-same-length-3
-same-length-3 c = (fill-duals-of-expect-doubles2 c).fill-duals.auto.1.1.1.1.0
-
-same-length-4 : tie.Need-same-length-4
-same-length-4 c = (unsymmetric-factors-of-expect-doubles2 c).unsymmetric-factors.auto.1.1.1.1.0 ∙ (doubles-of-expect-doubles2 c).doubles.auto.1.1.0
-
-same-length-5 : tie.Need-same-length-5
-same-length-5 c = (unsymmetric-factors-of-expect-doubles2 c).unsymmetric-factors.auto.1.1.1.1.1.0 ∙ (doubles2-of-expect-doubles2 c).doubles2.auto.1.1.0
+shape_of-columns : tie.Need-shape_of-columns
+shape_of-columns c = c.unsymmetric_factors-number.auto.columns ∙ c.doubles-place-2.auto.out
 
 returns : tie.Need-returns
 returns c = tt
 
-pub unsymmetric-lent-spec : {M : Type 1} → statement M
-unsymmetric-lent-spec =
+pub unsymmetric_lent_spec : {M : Type 1} → statement M
+unsymmetric_lent_spec =
     tie.close
     (tie.spec
-    fill-duals-requires
-    doubles-requires
-    doubles-requires-2
-    unsymmetric-factors-requires
-    cast-expect
-    expect-requires
-    expect-doubles-requires
-    expect-doubles-requires-2
-    same_length_lem
-    same-length-2
-    same-length-3
-    same-length-4
-    same-length-5
+    fill_duals-place-requires
+    doubles-place-requires
+    doubles-place-requires-2
+    unsymmetric_factors-number-requires
+    overflow_cast-number
+    expect-place-requires
+    expect_doubles-place-requires
+    expect_doubles-requires
+    shape_of-u
+    shape_of-v
+    shape_of-cmax
+    shape_of-rows
+    shape_of-columns
     returns)

@@ -3,39 +3,35 @@ use Rattle.std.proofs.Common.{sym, length-take-le}
 use Rattle.evidence_cases.proofs.graphs.graph.Statement.{statement}
 use Rattle.evidence_cases.proofs.graphs.graph.Tie as tie
 
--- places of the proof, each from a later one
-abbrev values-of-work2 : tie.After-work2 → tie.After-values
-values-of-work2 c = c.before.before.before.before.before.before.before
+next_u32-n-requires : tie.Need-next_u32-n-requires
+next_u32-n-requires c κs = tt
 
-next-u32-requires : tie.Need-next-u32-requires
-next-u32-requires c κs = tt
+length-l0-requires : tie.Need-length-l0-requires
+length-l0-requires c κs = tt
 
-length-requires : tie.Need-length-requires
-length-requires c κs = tt
+length-l1-requires : tie.Need-length-l1-requires
+length-l1-requires c κs = tt
 
-length-requires-2 : tie.Need-length-requires-2
-length-requires-2 c κs = tt
+length-l2-requires : tie.Need-length-l2-requires
+length-l2-requires c κs = tt
 
-length-requires-3 : tie.Need-length-requires-3
-length-requires-3 c κs = tt
+length-l3-requires : tie.Need-length-l3-requires
+length-l3-requires c κs = tt
 
-length-requires-4 : tie.Need-length-requires-4
-length-requires-4 c κs = tt
+length-l4-requires : tie.Need-length-l4-requires
+length-l4-requires c κs = tt
 
-length-requires-5 : tie.Need-length-requires-5
-length-requires-5 c κs = tt
+length-l5-requires : tie.Need-length-l5-requires
+length-l5-requires c κs = tt
 
-length-requires-6 : tie.Need-length-requires-6
-length-requires-6 c κs = tt
+length-l6-requires : tie.Need-length-l6-requires
+length-l6-requires c κs = tt
 
-length-requires-7 : tie.Need-length-requires-7
-length-requires-7 c κs = tt
+length-l7-requires : tie.Need-length-l7-requires
+length-l7-requires c κs = tt
 
-length-requires-8 : tie.Need-length-requires-8
-length-requires-8 c κs = tt
-
-length-requires-9 : tie.Need-length-requires-9
-length-requires-9 c κs = tt
+length-l8-requires : tie.Need-length-l8-requires
+length-l8-requires c κs = tt
 
 word-requires : tie.Need-word-requires
 word-requires c κs = tt
@@ -43,139 +39,139 @@ word-requires c κs = tt
 size-requires : tie.Need-size-requires
 size-requires c κs = tt
 
-array-borrow-prefix-col-ptr : tie.Need-array-borrow-prefix-col-ptr
-array-borrow-prefix-col-ptr c = c.size.ensures
+slice_bounds-col_ptr-end : tie.Need-slice_bounds-col_ptr-end
+slice_bounds-col_ptr-end c = c.size.ensures
 
-slice-aggregate-graph-lent : tie.Need-slice-aggregate-graph-lent
-slice-aggregate-graph-lent c = sym (length-take-le _ _ c.before.size.ensures)
+slice_bounds-graph_lent-end : tie.Need-slice_bounds-graph_lent-end
+slice_bounds-graph_lent-end c = sym (length-take-le _ _ c.size.ensures)
 
 size-requires-2 : tie.Need-size-requires-2
 size-requires-2 c κs = tt
 
-slice-relend-prefix-graph-lent : tie.Need-slice-relend-prefix-graph-lent
-slice-relend-prefix-graph-lent c = c.size2.ensures
+slice_bounds-graph_lent-end-2 : tie.Need-slice_bounds-graph_lent-end-2
+slice_bounds-graph_lent-end-2 c = c.size-2.ensures
 
-slice-aggregate-graph-lent-2 : tie.Need-slice-aggregate-graph-lent-2
-slice-aggregate-graph-lent-2 c = sym (length-take-le _ _ c.before.size2.ensures)
+slice_bounds-graph_lent-end-3 : tie.Need-slice_bounds-graph_lent-end-3
+slice_bounds-graph_lent-end-3 c = sym (length-take-le _ _ c.size-2.ensures)
 
 size-requires-3 : tie.Need-size-requires-3
 size-requires-3 c κs = tt
 
-slice-relend-prefix-graph-lent-2 : tie.Need-slice-relend-prefix-graph-lent-2
-slice-relend-prefix-graph-lent-2 c = c.size3.ensures
+slice_bounds-graph_lent-end-4 : tie.Need-slice_bounds-graph_lent-end-4
+slice_bounds-graph_lent-end-4 c = c.size-3.ensures
 
-slice-aggregate-graph-lent-3 : tie.Need-slice-aggregate-graph-lent-3
-slice-aggregate-graph-lent-3 c = sym (length-take-le _ _ c.before.size3.ensures)
+slice_bounds-graph_lent-end-5 : tie.Need-slice_bounds-graph_lent-end-5
+slice_bounds-graph_lent-end-5 c = sym (length-take-le _ _ c.size-3.ensures)
 
 size-requires-4 : tie.Need-size-requires-4
 size-requires-4 c κs = tt
 
-array-borrow-prefix-logs : tie.Need-array-borrow-prefix-logs
-array-borrow-prefix-logs c = c.size4.ensures
+slice_bounds-logs-end : tie.Need-slice_bounds-logs-end
+slice_bounds-logs-end c = c.size-4.ensures
 
-slice-aggregate-graph-lent-4 : tie.Need-slice-aggregate-graph-lent-4
-slice-aggregate-graph-lent-4 c = sym (length-take-le _ _ c.before.size4.ensures)
+slice_bounds-graph_lent-end-6 : tie.Need-slice_bounds-graph_lent-end-6
+slice_bounds-graph_lent-end-6 c = sym (length-take-le _ _ c.size-4.ensures)
 
 size-requires-5 : tie.Need-size-requires-5
 size-requires-5 c κs = tt
 
-array-borrow-prefix-graph-ptr : tie.Need-array-borrow-prefix-graph-ptr
-array-borrow-prefix-graph-ptr c = c.size5.ensures
+slice_bounds-graph_ptr-end : tie.Need-slice_bounds-graph_ptr-end
+slice_bounds-graph_ptr-end c = c.size-5.ensures
 
-slice-aggregate-graph-lent-5 : tie.Need-slice-aggregate-graph-lent-5
-slice-aggregate-graph-lent-5 c = sym (length-take-le _ _ c.before.size5.ensures)
+slice_bounds-graph_lent-end-7 : tie.Need-slice_bounds-graph_lent-end-7
+slice_bounds-graph_lent-end-7 c = sym (length-take-le _ _ c.size-5.ensures)
 
 size-requires-6 : tie.Need-size-requires-6
 size-requires-6 c κs = tt
 
-array-borrow-prefix-graph-rows : tie.Need-array-borrow-prefix-graph-rows
-array-borrow-prefix-graph-rows c = c.size6.ensures
+slice_bounds-graph_rows-end : tie.Need-slice_bounds-graph_rows-end
+slice_bounds-graph_rows-end c = c.size-6.ensures
 
-slice-aggregate-graph-lent-6 : tie.Need-slice-aggregate-graph-lent-6
-slice-aggregate-graph-lent-6 c = sym (length-take-le _ _ c.before.size6.ensures)
+slice_bounds-graph_lent-end-8 : tie.Need-slice_bounds-graph_lent-end-8
+slice_bounds-graph_lent-end-8 c = sym (length-take-le _ _ c.size-6.ensures)
 
 size-requires-7 : tie.Need-size-requires-7
 size-requires-7 c κs = tt
 
-array-borrow-prefix-cost : tie.Need-array-borrow-prefix-cost
-array-borrow-prefix-cost c = c.size7.ensures
+slice_bounds-cost-end : tie.Need-slice_bounds-cost-end
+slice_bounds-cost-end c = c.size-7.ensures
 
-slice-aggregate-graph-lent-7 : tie.Need-slice-aggregate-graph-lent-7
-slice-aggregate-graph-lent-7 c = sym (length-take-le _ _ c.before.size7.ensures)
+slice_bounds-graph_lent-end-9 : tie.Need-slice_bounds-graph_lent-end-9
+slice_bounds-graph_lent-end-9 c = sym (length-take-le _ _ c.size-7.ensures)
 
 size-requires-8 : tie.Need-size-requires-8
 size-requires-8 c κs = tt
 
-array-borrow-prefix-cmax : tie.Need-array-borrow-prefix-cmax
-array-borrow-prefix-cmax c = c.size8.ensures
+slice_bounds-cmax-end : tie.Need-slice_bounds-cmax-end
+slice_bounds-cmax-end c = c.size-8.ensures
 
-slice-aggregate-graph-lent-8 : tie.Need-slice-aggregate-graph-lent-8
-slice-aggregate-graph-lent-8 c = sym (length-take-le _ _ c.before.size8.ensures)
+slice_bounds-graph_lent-end-10 : tie.Need-slice_bounds-graph_lent-end-10
+slice_bounds-graph_lent-end-10 c = sym (length-take-le _ _ c.size-8.ensures)
 
 size-requires-9 : tie.Need-size-requires-9
 size-requires-9 c κs = tt
 
-array-borrow-prefix-work : tie.Need-array-borrow-prefix-work
-array-borrow-prefix-work c = c.size9.ensures
+slice_bounds-work-end : tie.Need-slice_bounds-work-end
+slice_bounds-work-end c = c.size-9.ensures
 
-slice-aggregate-graph-lent-9 : tie.Need-slice-aggregate-graph-lent-9
-slice-aggregate-graph-lent-9 c = sym (length-take-le _ _ c.before.size9.ensures)
+slice_bounds-graph_lent-end-11 : tie.Need-slice_bounds-graph_lent-end-11
+slice_bounds-graph_lent-end-11 c = sym (length-take-le _ _ c.size-9.ensures)
 
-graph-lent-requires : tie.Need-graph-lent-requires
-graph-lent-requires c κs = tt
+graph_lent-requires : tie.Need-graph_lent-requires
+graph_lent-requires c κs = tt
 
-same_length_lem : tie.Need-same-length
-same_length_lem c = (values-of-work2 c).before.before.rows.given.1
+shape_of-rows : tie.Need-shape_of-rows
+shape_of-rows c = c.rows-1.given.1
 
-same-length-2 : tie.Need-same-length-2
-same-length-2 c = (values-of-work2 c).values.given.1
+shape_of-values : tie.Need-shape_of-values
+shape_of-values c = c.values-1.given.1
 
 returns : tie.Need-returns
 returns c = tt
 
-pub graph-spec : {M : Type 1} → statement M
-graph-spec =
+pub graph_spec : {M : Type 1} → statement M
+graph_spec =
     tie.close
     (tie.spec
-    next-u32-requires
-    length-requires
-    length-requires-2
-    length-requires-3
-    length-requires-4
-    length-requires-5
-    length-requires-6
-    length-requires-7
-    length-requires-8
-    length-requires-9
+    next_u32-n-requires
+    length-l0-requires
+    length-l1-requires
+    length-l2-requires
+    length-l3-requires
+    length-l4-requires
+    length-l5-requires
+    length-l6-requires
+    length-l7-requires
+    length-l8-requires
     word-requires
     size-requires
-    array-borrow-prefix-col-ptr
-    slice-aggregate-graph-lent
+    slice_bounds-col_ptr-end
+    slice_bounds-graph_lent-end
     size-requires-2
-    slice-relend-prefix-graph-lent
-    slice-aggregate-graph-lent-2
+    slice_bounds-graph_lent-end-2
+    slice_bounds-graph_lent-end-3
     size-requires-3
-    slice-relend-prefix-graph-lent-2
-    slice-aggregate-graph-lent-3
+    slice_bounds-graph_lent-end-4
+    slice_bounds-graph_lent-end-5
     size-requires-4
-    array-borrow-prefix-logs
-    slice-aggregate-graph-lent-4
+    slice_bounds-logs-end
+    slice_bounds-graph_lent-end-6
     size-requires-5
-    array-borrow-prefix-graph-ptr
-    slice-aggregate-graph-lent-5
+    slice_bounds-graph_ptr-end
+    slice_bounds-graph_lent-end-7
     size-requires-6
-    array-borrow-prefix-graph-rows
-    slice-aggregate-graph-lent-6
+    slice_bounds-graph_rows-end
+    slice_bounds-graph_lent-end-8
     size-requires-7
-    array-borrow-prefix-cost
-    slice-aggregate-graph-lent-7
+    slice_bounds-cost-end
+    slice_bounds-graph_lent-end-9
     size-requires-8
-    array-borrow-prefix-cmax
-    slice-aggregate-graph-lent-8
+    slice_bounds-cmax-end
+    slice_bounds-graph_lent-end-10
     size-requires-9
-    array-borrow-prefix-work
-    slice-aggregate-graph-lent-9
-    graph-lent-requires
-    same_length_lem
-    same-length-2
+    slice_bounds-work-end
+    slice_bounds-graph_lent-end-11
+    graph_lent-requires
+    shape_of-rows
+    shape_of-values
     returns)

@@ -3,93 +3,71 @@ use Rattle.std.proofs.Common.{◌∙◌}
 use Rattle.evidence_cases.proofs.graphs.graph_lent.Statement.{statement}
 use Rattle.evidence_cases.proofs.graphs.graph_lent.Tie as tie
 
--- places of the proof, each from a later one
-abbrev fill2-of-work : tie.After-work → tie.After-fill2
-fill2-of-work c = c.before.before.before.before.before.before.before.before.before
+fill-place-requires : tie.Need-fill-place-requires
+fill-place-requires c κs = tt
 
-abbrev fill2-of-build : tie.After-build → tie.After-fill2
-fill2-of-build c = fill2-of-work c.before.before.before.before.before.before.before.before.before.before.before
+doubles-place-requires : tie.Need-doubles-place-requires
+doubles-place-requires c κs = tt
 
-abbrev build-of-work2 : tie.After-work2 → tie.After-build
-build-of-work2 c = c.before.before.before.before.before.before.before.before.before
+fill-place-requires-2 : tie.Need-fill-place-requires-2
+fill-place-requires-2 c κs = tt
 
-abbrev build-of-expect : tie.After-expect → tie.After-build
-build-of-expect c = build-of-work2 c.before.before.before.before.before.before.before.before
+build-answer-requires : tie.Need-build-answer-requires
+build-answer-requires c κs = tt
 
-abbrev fill2-of-expect : tie.After-expect → tie.After-fill2
-fill2-of-expect c = fill2-of-build (build-of-expect c)
-
-abbrev doubles-of-expect : tie.After-expect → tie.After-doubles
-doubles-of-expect c = (fill2-of-expect c).before.before.before.before.before.before.before.before
-
-abbrev fill-of-expect : tie.After-expect → tie.After-fill
-fill-of-expect c = (doubles-of-expect c).before.before.before.before.before.before.before.before
-
-fill-requires : tie.Need-fill-requires
-fill-requires c κs = tt
-
-doubles-requires : tie.Need-doubles-requires
-doubles-requires c κs = tt
-
-fill-requires-2 : tie.Need-fill-requires-2
-fill-requires-2 c κs = tt
-
-build-requires : tie.Need-build-requires
-build-requires c κs = tt
-
-expect-built-requires : tie.Need-expect-built-requires
-expect-built-requires c κs = tt
+expect_built-place-requires : tie.Need-expect_built-place-requires
+expect_built-place-requires c κs = tt
 
 expect-requires : tie.Need-expect-requires
 expect-requires c κs = tt
 
-same_length_lem : tie.Need-same-length
-same_length_lem c = (fill-of-expect c).fill.auto.1.1.0
+shape_of-col_ptr : tie.Need-shape_of-col_ptr
+shape_of-col_ptr c = c.fill-place.auto.perm
 
-same-length-2 : tie.Need-same-length-2
-same-length-2 c = (fill-of-expect c).fill.auto.1.1.1.0
+shape_of-rows : tie.Need-shape_of-rows
+shape_of-rows c = c.fill-place.auto.u
 
-same-length-3 : tie.Need-same-length-3
-same-length-3 c = (fill-of-expect c).fill.auto.1.1.1.1.0
+shape_of-values : tie.Need-shape_of-values
+shape_of-values c = c.fill-place.auto.v
 
-same-length-4 : tie.Need-same-length-4
-same-length-4 c = (doubles-of-expect c).doubles.auto.1.1.0
+shape_of-logs : tie.Need-shape_of-logs
+shape_of-logs c = c.doubles-place.auto.out
 
-same-length-5 : tie.Need-same-length-5
-same-length-5 c = (build-of-expect c).build.auto.1.1.1.1.1.1.0 ∙ (fill2-of-expect c).fill2.auto.1.1.0
+shape_of-graph_ptr : tie.Need-shape_of-graph_ptr
+shape_of-graph_ptr c = c.build-answer.auto.graph_ptr ∙ c.fill-place-2.auto.perm
 
-same-length-6 : tie.Need-same-length-6
-same-length-6 c = (build-of-expect c).build.auto.1.1.1.1.1.1.1.0 ∙ (fill2-of-expect c).fill2.auto.1.1.1.0
+shape_of-graph_rows : tie.Need-shape_of-graph_rows
+shape_of-graph_rows c = c.build-answer.auto.graph_rows ∙ c.fill-place-2.auto.u
 
-same-length-7 : tie.Need-same-length-7
-same-length-7 c = (build-of-expect c).build.auto.1.1.1.1.1.1.1.1.0 ∙ (fill2-of-expect c).fill2.auto.1.1.1.1.0
+shape_of-cost : tie.Need-shape_of-cost
+shape_of-cost c = c.build-answer.auto.cost ∙ c.fill-place-2.auto.v
 
-same-length-8 : tie.Need-same-length-8
-same-length-8 c = (build-of-expect c).build.auto.1.1.1.1.1.1.1.1.1.0 ∙ (fill2-of-expect c).fill2.auto.1.1.1.1.1.0
+shape_of-cmax : tie.Need-shape_of-cmax
+shape_of-cmax c = c.build-answer.auto.cmax ∙ c.fill-place-2.auto.work
 
-same-length-9 : tie.Need-same-length-9
-same-length-9 c = (build-of-expect c).build.auto.1.1.1.1.1.1.1.1.1.1.0 ∙ (fill2-of-expect c).fill2.auto.1.1.1.1.1.1.0
+shape_of-work : tie.Need-shape_of-work
+shape_of-work c = c.build-answer.auto.work ∙ c.fill-place-2.auto.distances
 
 returns : tie.Need-returns
 returns c = tt
 
-pub graph-lent-spec : {M : Type 1} → statement M
-graph-lent-spec =
+pub graph_lent_spec : {M : Type 1} → statement M
+graph_lent_spec =
     tie.close
     (tie.spec
-    fill-requires
-    doubles-requires
-    fill-requires-2
-    build-requires
-    expect-built-requires
+    fill-place-requires
+    doubles-place-requires
+    fill-place-requires-2
+    build-answer-requires
+    expect_built-place-requires
     expect-requires
-    same_length_lem
-    same-length-2
-    same-length-3
-    same-length-4
-    same-length-5
-    same-length-6
-    same-length-7
-    same-length-8
-    same-length-9
+    shape_of-col_ptr
+    shape_of-rows
+    shape_of-values
+    shape_of-logs
+    shape_of-graph_ptr
+    shape_of-graph_rows
+    shape_of-cost
+    shape_of-cmax
+    shape_of-work
     returns)

@@ -3,47 +3,47 @@ use Rattle.std.proofs.Common.{◌-◌, ◌≤◌, length, arith, rules}
 use Rattle.evidence_cases.proofs.list.expect_numbers.Statement.{statement}
 use Rattle.evidence_cases.proofs.list.expect_numbers.Tie as tie
 
-abbrev invariant-loop : tie.invariant-loop
-invariant-loop input got place₀ i₀ i-end place i = i ≤ length got
+abbrev invariant-loop-i : tie.invariant-loop-i
+invariant-loop-i input got place₀ i₀ i-end place i = i ≤ length got
 
-abbrev decreases-loop : tie.decreases-loop
-decreases-loop input got place₀ i₀ i-end place i = length got - i
+abbrev decreases-loop-i : tie.decreases-loop-i
+decreases-loop-i input got place₀ i₀ i-end place i = length got - i
 
-loop-holds : tie.Need-loop-init invariant-loop decreases-loop
-loop-holds c = omega arith
+loop-i-init : tie.Need-loop-i-init invariant-loop-i decreases-loop-i
+loop-i-init c = omega arith
 
-mul-expect : tie.Need-overflow-mul-expect invariant-loop decreases-loop
-mul-expect c = omega arith
+offset_bounds-got-i : tie.Need-offset_bounds-got-i invariant-loop-i decreases-loop-i
+offset_bounds-got-i c = omega arith
 
-shared-slice-read-expect : tie.Need-shared-slice-read-expect invariant-loop decreases-loop
-shared-slice-read-expect c = omega arith
+bounds-got-i : tie.Need-bounds-got-i invariant-loop-i decreases-loop-i
+bounds-got-i c = omega arith
 
-expect-requires : tie.Need-expect-requires invariant-loop decreases-loop
-expect-requires c κs = search rules
+expect-place-requires : tie.Need-expect-place-requires invariant-loop-i decreases-loop-i
+expect-place-requires c κs = search rules
 
-add-i : tie.Need-overflow-add-i invariant-loop decreases-loop
-add-i c = omega arith
+overflow_step-i : tie.Need-overflow_step-i invariant-loop-i decreases-loop-i
+overflow_step-i c = omega arith
 
-loop-less : tie.Need-loop-smaller invariant-loop decreases-loop
-loop-less c = omega arith
+loop-i-smaller : tie.Need-loop-i-smaller invariant-loop-i decreases-loop-i
+loop-i-smaller c = omega arith
 
-loop-again : tie.Need-loop-preserved invariant-loop decreases-loop
-loop-again c = omega arith
+loop-i-preserved : tie.Need-loop-i-preserved invariant-loop-i decreases-loop-i
+loop-i-preserved c = omega arith
 
-returns : tie.Need-returns invariant-loop decreases-loop
+returns : tie.Need-returns invariant-loop-i decreases-loop-i
 returns c = search rules
 
-pub expect-numbers-spec : {M : Type 1} → statement M
-expect-numbers-spec =
+pub expect_numbers_spec : {M : Type 1} → statement M
+expect_numbers_spec =
     tie.close
     (tie.spec
-    invariant-loop
-    decreases-loop
-    loop-holds
-    mul-expect
-    shared-slice-read-expect
-    expect-requires
-    add-i
-    loop-less
-    loop-again
+    invariant-loop-i
+    decreases-loop-i
+    loop-i-init
+    offset_bounds-got-i
+    bounds-got-i
+    expect-place-requires
+    overflow_step-i
+    loop-i-smaller
+    loop-i-preserved
     returns)

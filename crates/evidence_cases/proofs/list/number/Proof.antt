@@ -3,59 +3,59 @@ use Rattle.std.proofs.Common.{◌-◌, length, arith, rules}
 use Rattle.evidence_cases.proofs.list.number.Statement.{statement}
 use Rattle.evidence_cases.proofs.list.number.Tie as tie
 
-abbrev invariant-loop : tie.invariant-loop
-invariant-loop input from at₀ value₀ at value = Unit {0}
+abbrev invariant-loop-at : tie.invariant-loop-at
+invariant-loop-at input from at₀ value₀ at value = Unit {0}
 
-abbrev decreases-loop : tie.decreases-loop
-decreases-loop input from at₀ value₀ at value = length input - at
+abbrev decreases-loop-at : tie.decreases-loop-at
+decreases-loop-at input from at₀ value₀ at value = length input - at
 
-loop-holds : tie.Need-loop-init invariant-loop decreases-loop
-loop-holds c = tt
+loop-at-init : tie.Need-loop-at-init invariant-loop-at decreases-loop-at
+loop-at-init c = tt
 
-shared-slice-read-digit : tie.Need-shared-slice-read-digit invariant-loop decreases-loop
-shared-slice-read-digit c = search rules
+bounds-input-at : tie.Need-bounds-input-at invariant-loop-at decreases-loop-at
+bounds-input-at c = search rules
 
-digit-requires : tie.Need-digit-requires invariant-loop decreases-loop
-digit-requires c κs = search rules
+digit-digit-requires : tie.Need-digit-digit-requires invariant-loop-at decreases-loop-at
+digit-digit-requires c κs = search rules
 
-returns : tie.Need-returns invariant-loop decreases-loop
-returns c = search rules
+returns-then-digit-gt15 : tie.Need-returns-then-digit-gt15 invariant-loop-at decreases-loop-at
+returns-then-digit-gt15 c = search rules
 
-returns-2 : tie.Need-returns-2 invariant-loop decreases-loop
-returns-2 c = search rules
+returns-then-value-gt1152921504606846975 : tie.Need-returns-then-value-gt1152921504606846975 invariant-loop-at decreases-loop-at
+returns-then-value-gt1152921504606846975 c = search rules
 
-mul-value : tie.Need-overflow-mul-value invariant-loop decreases-loop
-mul-value c = omega arith
+overflow_mul-value : tie.Need-overflow_mul-value invariant-loop-at decreases-loop-at
+overflow_mul-value c = omega arith
 
-add-value : tie.Need-overflow-add-value invariant-loop decreases-loop
-add-value c = omega arith
+overflow_add-value : tie.Need-overflow_add-value invariant-loop-at decreases-loop-at
+overflow_add-value c = omega arith
 
-add_at : tie.Need-overflow-add-at invariant-loop decreases-loop
-add_at c = omega arith
+overflow_add-at : tie.Need-overflow_add-at invariant-loop-at decreases-loop-at
+overflow_add-at c = omega arith
 
-loop-less : tie.Need-loop-smaller invariant-loop decreases-loop
-loop-less c = omega arith
+loop-at-smaller : tie.Need-loop-at-smaller invariant-loop-at decreases-loop-at
+loop-at-smaller c = omega arith
 
-loop-again : tie.Need-loop-preserved invariant-loop decreases-loop
-loop-again c = tt
+loop-at-preserved : tie.Need-loop-at-preserved invariant-loop-at decreases-loop-at
+loop-at-preserved c = tt
 
-returns-3 : tie.Need-returns-3 invariant-loop decreases-loop
-returns-3 c = search rules
+returns : tie.Need-returns invariant-loop-at decreases-loop-at
+returns-then-digit-gt15 c = search rules
 
-pub number-spec : {M : Type 1} → statement M
-number-spec =
+pub number_spec : {M : Type 1} → statement M
+number_spec =
     tie.close
     (tie.spec
-    invariant-loop
-    decreases-loop
-    loop-holds
-    shared-slice-read-digit
-    digit-requires
-    returns
-    returns-2
-    mul-value
-    add-value
-    add_at
-    loop-less
-    loop-again
-    returns-3)
+    invariant-loop-at
+    decreases-loop-at
+    loop-at-init
+    bounds-input-at
+    digit-digit-requires
+    returns-then-digit-gt15
+    returns-then-value-gt1152921504606846975
+    overflow_mul-value
+    overflow_add-value
+    overflow_add-at
+    loop-at-smaller
+    loop-at-preserved
+    returns)

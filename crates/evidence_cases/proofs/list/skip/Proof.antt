@@ -3,43 +3,43 @@ use Rattle.std.proofs.Common.{◌-◌, length, arith, rules}
 use Rattle.evidence_cases.proofs.list.skip.Statement.{statement}
 use Rattle.evidence_cases.proofs.list.skip.Tie as tie
 
-abbrev invariant-loop : tie.invariant-loop
-invariant-loop input from at₀ comment₀ at comment = Unit {0}
+abbrev invariant-loop-at : tie.invariant-loop-at
+invariant-loop-at input from at₀ comment₀ at comment = Unit {0}
 
-abbrev decreases-loop : tie.decreases-loop
-decreases-loop input from at₀ comment₀ at comment = length input - at
+abbrev decreases-loop-at : tie.decreases-loop-at
+decreases-loop-at input from at₀ comment₀ at comment = length input - at
 
-loop-holds : tie.Need-loop-init invariant-loop decreases-loop
-loop-holds c = tt
+loop-at-init : tie.Need-loop-at-init invariant-loop-at decreases-loop-at
+loop-at-init c = tt
 
-shared-slice-read-byte : tie.Need-shared-slice-read-byte invariant-loop decreases-loop
-shared-slice-read-byte c = search rules
+bounds-input-at : tie.Need-bounds-input-at invariant-loop-at decreases-loop-at
+bounds-input-at c = search rules
 
-returns : tie.Need-returns invariant-loop decreases-loop
-returns c = search rules
+returns-then-byte-ne10 : tie.Need-returns-then-byte-ne10 invariant-loop-at decreases-loop-at
+returns-then-byte-ne10 c = search rules
 
-add_at : tie.Need-overflow-add-at invariant-loop decreases-loop
-add_at c = omega arith
+overflow_add-at : tie.Need-overflow_add-at invariant-loop-at decreases-loop-at
+overflow_add-at c = omega arith
 
-loop-less : tie.Need-loop-smaller invariant-loop decreases-loop
-loop-less c = omega arith
+loop-at-smaller : tie.Need-loop-at-smaller invariant-loop-at decreases-loop-at
+loop-at-smaller c = omega arith
 
-loop-again : tie.Need-loop-preserved invariant-loop decreases-loop
-loop-again c = tt
+loop-at-preserved : tie.Need-loop-at-preserved invariant-loop-at decreases-loop-at
+loop-at-preserved c = tt
 
-returns-2 : tie.Need-returns-2 invariant-loop decreases-loop
-returns-2 c = search rules
+returns : tie.Need-returns invariant-loop-at decreases-loop-at
+returns-then-byte-ne10 c = search rules
 
-pub skip-spec : {M : Type 1} → statement M
-skip-spec =
+pub skip_spec : {M : Type 1} → statement M
+skip_spec =
     tie.close
     (tie.spec
-    invariant-loop
-    decreases-loop
-    loop-holds
-    shared-slice-read-byte
-    returns
-    add_at
-    loop-less
-    loop-again
-    returns-2)
+    invariant-loop-at
+    decreases-loop-at
+    loop-at-init
+    bounds-input-at
+    returns-then-byte-ne10
+    overflow_add-at
+    loop-at-smaller
+    loop-at-preserved
+    returns)

@@ -3,59 +3,55 @@ use Rattle.std.proofs.Common.{◌≡◌, ◌-◌, ◌≤◌, length, refl, arith
 use Rattle.evidence_cases.proofs.list.words.Statement.{statement}
 use Rattle.evidence_cases.proofs.list.words.Tie as tie
 
-abbrev invariant-loop : tie.invariant-loop
-invariant-loop input out₀ place₀ i₀ i-end out place i = (i ≤ length out₀) × (length out ≡ length out₀)
+abbrev invariant-loop-i : tie.invariant-loop-i
+invariant-loop-i input out₀ place₀ i₀ i-end out place i = (i ≤ length out₀) × (length out ≡ length out₀)
 
-abbrev decreases-loop : tie.decreases-loop
-decreases-loop input out₀ place₀ i₀ i-end out place i = length out₀ - i
+abbrev decreases-loop-i : tie.decreases-loop-i
+decreases-loop-i input out₀ place₀ i₀ i-end out place i = length out₀ - i
 
--- places of the proof, each from a later one
-abbrev loop-of-word : tie.After-word invariant-loop decreases-loop → tie.At-loop invariant-loop decreases-loop
-loop-of-word c = c.before.before.before
+loop-i-init : tie.Need-loop-i-init invariant-loop-i decreases-loop-i
+loop-i-init c = (omega arith, refl)
 
-loop-holds : tie.Need-loop-init invariant-loop decreases-loop
-loop-holds c = (omega arith, refl)
+next_u32-place-requires : tie.Need-next_u32-place-requires invariant-loop-i decreases-loop-i
+next_u32-place-requires c κs = search rules
 
-next-u32-requires : tie.Need-next-u32-requires invariant-loop decreases-loop
-next-u32-requires c κs = search rules
-
-word-requires : tie.Need-word-requires invariant-loop decreases-loop
+word-requires : tie.Need-word-requires invariant-loop-i decreases-loop-i
 word-requires c κs = search rules
 
-mul-out : tie.Need-overflow-mul-out invariant-loop decreases-loop
-mul-out c = omega (arith, (loop-of-word c).loop.invariant.1)
+offset_bounds-out-i : tie.Need-offset_bounds-out-i invariant-loop-i decreases-loop-i
+offset_bounds-out-i c = omega (arith, c.loop-i.invariant.1)
 
-slice-write-out : tie.Need-slice-write-out invariant-loop decreases-loop
-slice-write-out c = omega (arith, (loop-of-word c).loop.invariant.1)
+bounds-out-i : tie.Need-bounds-out-i invariant-loop-i decreases-loop-i
+bounds-out-i c = omega (arith, c.loop-i.invariant.1)
 
-add-i : tie.Need-overflow-add-i invariant-loop decreases-loop
-add-i c = omega (arith, (loop-of-word c).loop.invariant.1)
+overflow_step-i : tie.Need-overflow_step-i invariant-loop-i decreases-loop-i
+overflow_step-i c = omega (arith, c.loop-i.invariant.1)
 
-loop-less : tie.Need-loop-smaller invariant-loop decreases-loop
-loop-less c = omega (arith, (loop-of-word c).loop.invariant.1)
+loop-i-smaller : tie.Need-loop-i-smaller invariant-loop-i decreases-loop-i
+loop-i-smaller c = omega (arith, c.loop-i.invariant.1)
 
-loop-again : tie.Need-loop-preserved invariant-loop decreases-loop
-loop-again c = (omega (arith, (loop-of-word c).loop.invariant.1), simp length-set (loop-of-word c).loop.invariant.1)
+loop-i-preserved : tie.Need-loop-i-preserved invariant-loop-i decreases-loop-i
+loop-i-preserved c = (omega (arith, c.loop-i.invariant.1), simp length-set c.loop-i.invariant.1)
 
-same_length_lem : tie.Need-same-length invariant-loop decreases-loop
-same_length_lem c = c.before.loop.invariant.1
+shape_of-out : tie.Need-shape_of-out invariant-loop-i decreases-loop-i
+shape_of-out c = c.loop-i.invariant.1
 
-returns : tie.Need-returns invariant-loop decreases-loop
+returns : tie.Need-returns invariant-loop-i decreases-loop-i
 returns c = search rules
 
-pub words-spec : {M : Type 1} → statement M
-words-spec =
+pub words_spec : {M : Type 1} → statement M
+words_spec =
     tie.close
     (tie.spec
-    invariant-loop
-    decreases-loop
-    loop-holds
-    next-u32-requires
+    invariant-loop-i
+    decreases-loop-i
+    loop-i-init
+    next_u32-place-requires
     word-requires
-    mul-out
-    slice-write-out
-    add-i
-    loop-less
-    loop-again
-    same_length_lem
+    offset_bounds-out-i
+    bounds-out-i
+    overflow_step-i
+    loop-i-smaller
+    loop-i-preserved
+    shape_of-out
     returns)

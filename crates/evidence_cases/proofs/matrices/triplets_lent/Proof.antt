@@ -3,91 +3,75 @@ use Rattle.std.proofs.Common.{◌∙◌}
 use Rattle.evidence_cases.proofs.matrices.triplets_lent.Statement.{statement}
 use Rattle.evidence_cases.proofs.matrices.triplets_lent.Tie as tie
 
--- places of the proof, each from a later one
-abbrev assemble-of-expect-assembled : tie.After-expect-assembled → tie.After-assemble
-assemble-of-expect-assembled c = c.before.before.before.before.before.before.before.before.before
+fill-place-requires : tie.Need-fill-place-requires
+fill-place-requires c κs = tt
 
-abbrev assemble-of-expect-words3 : tie.After-expect-words3 → tie.After-assemble
-assemble-of-expect-words3 c = assemble-of-expect-assembled c.before.before.before.before.before.before.before.before
+fill-place-requires-2 : tie.Need-fill-place-requires-2
+fill-place-requires-2 c κs = tt
 
-abbrev words-of-expect-words3 : tie.After-expect-words3 → tie.After-words
-words-of-expect-words3 c = (assemble-of-expect-words3 c).before.before.before.before.before.before.before.before.before.before
+words-place-requires : tie.Need-words-place-requires
+words-place-requires c κs = tt
 
-abbrev fill2-of-expect-words3 : tie.After-expect-words3 → tie.After-fill2
-fill2-of-expect-words3 c = (words-of-expect-words3 c).before.before.before.before.before.before.before.before
+assemble-answer-requires : tie.Need-assemble-answer-requires
+assemble-answer-requires c κs = tt
 
-abbrev fill-of-expect-words3 : tie.After-expect-words3 → tie.After-fill
-fill-of-expect-words3 c = (fill2-of-expect-words3 c).before.before.before.before.before.before.before.before.before.before
+expect_assembled-place-requires : tie.Need-expect_assembled-place-requires
+expect_assembled-place-requires c κs = tt
 
-fill-requires : tie.Need-fill-requires
-fill-requires c κs = tt
+expect_words-place-requires : tie.Need-expect_words-place-requires
+expect_words-place-requires c κs = tt
 
-fill-requires-2 : tie.Need-fill-requires-2
-fill-requires-2 c κs = tt
+expect_words-place-requires-2 : tie.Need-expect_words-place-requires-2
+expect_words-place-requires-2 c κs = tt
 
-words-requires : tie.Need-words-requires
-words-requires c κs = tt
+expect_doubles-place-requires : tie.Need-expect_doubles-place-requires
+expect_doubles-place-requires c κs = tt
 
-assemble-requires : tie.Need-assemble-requires
-assemble-requires c κs = tt
+expect_words-requires : tie.Need-expect_words-requires
+expect_words-requires c κs = tt
 
-expect-assembled-requires : tie.Need-expect-assembled-requires
-expect-assembled-requires c κs = tt
+shape_of-rows : tie.Need-shape_of-rows
+shape_of-rows c = c.fill-place.auto.perm
 
-expect-words-requires : tie.Need-expect-words-requires
-expect-words-requires c κs = tt
+shape_of-cols : tie.Need-shape_of-cols
+shape_of-cols c = c.fill-place.auto.u
 
-expect-words-requires-2 : tie.Need-expect-words-requires-2
-expect-words-requires-2 c κs = tt
+shape_of-vals : tie.Need-shape_of-vals
+shape_of-vals c = c.fill-place.auto.v
 
-expect-doubles-requires : tie.Need-expect-doubles-requires
-expect-doubles-requires c κs = tt
+shape_of-col_ptr : tie.Need-shape_of-col_ptr
+shape_of-col_ptr c = c.assemble-answer.auto.col_ptr ∙ c.fill-place-2.auto.perm
 
-expect-words-requires-3 : tie.Need-expect-words-requires-3
-expect-words-requires-3 c κs = tt
+shape_of-row_idx : tie.Need-shape_of-row_idx
+shape_of-row_idx c = c.assemble-answer.auto.row_idx ∙ c.fill-place-2.auto.u
 
-same_length_lem : tie.Need-same-length
-same_length_lem c = (fill-of-expect-words3 c).fill.auto.1.1.0
+shape_of-values : tie.Need-shape_of-values
+shape_of-values c = c.assemble-answer.auto.values ∙ c.fill-place-2.auto.v
 
-same-length-2 : tie.Need-same-length-2
-same-length-2 c = (fill-of-expect-words3 c).fill.auto.1.1.1.0
-
-same-length-3 : tie.Need-same-length-3
-same-length-3 c = (fill-of-expect-words3 c).fill.auto.1.1.1.1.0
-
-same-length-4 : tie.Need-same-length-4
-same-length-4 c = (assemble-of-expect-words3 c).assemble.auto.1.1.1.1.1.0 ∙ (fill2-of-expect-words3 c).fill2.auto.1.1.0
-
-same-length-5 : tie.Need-same-length-5
-same-length-5 c = (assemble-of-expect-words3 c).assemble.auto.1.1.1.1.1.1.0 ∙ (fill2-of-expect-words3 c).fill2.auto.1.1.1.0
-
-same-length-6 : tie.Need-same-length-6
-same-length-6 c = (assemble-of-expect-words3 c).assemble.auto.1.1.1.1.1.1.1.0 ∙ (fill2-of-expect-words3 c).fill2.auto.1.1.1.1.0
-
-same-length-7 : tie.Need-same-length-7
-same-length-7 c = (assemble-of-expect-words3 c).assemble.auto.1.1.1.1.1.1.1.1.0 ∙ (words-of-expect-words3 c).words.auto.1.1.0
+shape_of-work : tie.Need-shape_of-work
+shape_of-work c = c.assemble-answer.auto.work ∙ c.words-place.auto.out
 
 returns : tie.Need-returns
 returns c = tt
 
-pub triplets-lent-spec : {M : Type 1} → statement M
-triplets-lent-spec =
+pub triplets_lent_spec : {M : Type 1} → statement M
+triplets_lent_spec =
     tie.close
     (tie.spec
-    fill-requires
-    fill-requires-2
-    words-requires
-    assemble-requires
-    expect-assembled-requires
-    expect-words-requires
-    expect-words-requires-2
-    expect-doubles-requires
-    expect-words-requires-3
-    same_length_lem
-    same-length-2
-    same-length-3
-    same-length-4
-    same-length-5
-    same-length-6
-    same-length-7
+    fill-place-requires
+    fill-place-requires-2
+    words-place-requires
+    assemble-answer-requires
+    expect_assembled-place-requires
+    expect_words-place-requires
+    expect_words-place-requires-2
+    expect_doubles-place-requires
+    expect_words-requires
+    shape_of-rows
+    shape_of-cols
+    shape_of-vals
+    shape_of-col_ptr
+    shape_of-row_idx
+    shape_of-values
+    shape_of-work
     returns)

@@ -3,17 +3,17 @@ use Rattle.std.proofs.Common.{sym, length-take-le}
 use Rattle.evidence_cases.proofs.matrices.validate.Statement.{statement}
 use Rattle.evidence_cases.proofs.matrices.validate.Tie as tie
 
-next-u32-requires : tie.Need-next-u32-requires
-next-u32-requires c κs = tt
+next_u32-n-requires : tie.Need-next_u32-n-requires
+next_u32-n-requires c κs = tt
 
-length-requires : tie.Need-length-requires
-length-requires c κs = tt
+length-l0-requires : tie.Need-length-l0-requires
+length-l0-requires c κs = tt
 
-length-requires-2 : tie.Need-length-requires-2
-length-requires-2 c κs = tt
+length-l1-requires : tie.Need-length-l1-requires
+length-l1-requires c κs = tt
 
-length-requires-3 : tie.Need-length-requires-3
-length-requires-3 c κs = tt
+length-l2-requires : tie.Need-length-l2-requires
+length-l2-requires c κs = tt
 
 word-requires : tie.Need-word-requires
 word-requires c κs = tt
@@ -21,61 +21,61 @@ word-requires c κs = tt
 size-requires : tie.Need-size-requires
 size-requires c κs = tt
 
-array-borrow-prefix-col-ptr : tie.Need-array-borrow-prefix-col-ptr
-array-borrow-prefix-col-ptr c = c.size.ensures
+slice_bounds-col_ptr-end : tie.Need-slice_bounds-col_ptr-end
+slice_bounds-col_ptr-end c = c.size.ensures
 
-slice-aggregate-validate-lent : tie.Need-slice-aggregate-validate-lent
-slice-aggregate-validate-lent c = sym (length-take-le _ _ c.before.size.ensures)
+slice_bounds-validate_lent-end : tie.Need-slice_bounds-validate_lent-end
+slice_bounds-validate_lent-end c = sym (length-take-le _ _ c.size.ensures)
 
 size-requires-2 : tie.Need-size-requires-2
 size-requires-2 c κs = tt
 
-slice-relend-prefix-validate-lent : tie.Need-slice-relend-prefix-validate-lent
-slice-relend-prefix-validate-lent c = c.size2.ensures
+slice_bounds-validate_lent-end-2 : tie.Need-slice_bounds-validate_lent-end-2
+slice_bounds-validate_lent-end-2 c = c.size-2.ensures
 
-slice-aggregate-validate-lent-2 : tie.Need-slice-aggregate-validate-lent-2
-slice-aggregate-validate-lent-2 c = sym (length-take-le _ _ c.before.size2.ensures)
+slice_bounds-validate_lent-end-3 : tie.Need-slice_bounds-validate_lent-end-3
+slice_bounds-validate_lent-end-3 c = sym (length-take-le _ _ c.size-2.ensures)
 
 size-requires-3 : tie.Need-size-requires-3
 size-requires-3 c κs = tt
 
-slice-relend-prefix-validate-lent-2 : tie.Need-slice-relend-prefix-validate-lent-2
-slice-relend-prefix-validate-lent-2 c = c.size3.ensures
+slice_bounds-validate_lent-end-4 : tie.Need-slice_bounds-validate_lent-end-4
+slice_bounds-validate_lent-end-4 c = c.size-3.ensures
 
-slice-aggregate-validate-lent-3 : tie.Need-slice-aggregate-validate-lent-3
-slice-aggregate-validate-lent-3 c = sym (length-take-le _ _ c.before.size3.ensures)
+slice_bounds-validate_lent-end-5 : tie.Need-slice_bounds-validate_lent-end-5
+slice_bounds-validate_lent-end-5 c = sym (length-take-le _ _ c.size-3.ensures)
 
-validate-lent-requires : tie.Need-validate-lent-requires
-validate-lent-requires c κs = tt
+validate_lent-requires : tie.Need-validate_lent-requires
+validate_lent-requires c κs = tt
 
-same_length_lem : tie.Need-same-length
-same_length_lem c = c.before.before.before.rows.given.1
+shape_of-rows : tie.Need-shape_of-rows
+shape_of-rows c = c.rows-1.given.1
 
-same-length-2 : tie.Need-same-length-2
-same-length-2 c = c.before.values.given.1
+shape_of-values : tie.Need-shape_of-values
+shape_of-values c = c.values-1.given.1
 
 returns : tie.Need-returns
 returns c = tt
 
-pub validate-spec : {M : Type 1} → statement M
-validate-spec =
+pub validate_spec : {M : Type 1} → statement M
+validate_spec =
     tie.close
     (tie.spec
-    next-u32-requires
-    length-requires
-    length-requires-2
-    length-requires-3
+    next_u32-n-requires
+    length-l0-requires
+    length-l1-requires
+    length-l2-requires
     word-requires
     size-requires
-    array-borrow-prefix-col-ptr
-    slice-aggregate-validate-lent
+    slice_bounds-col_ptr-end
+    slice_bounds-validate_lent-end
     size-requires-2
-    slice-relend-prefix-validate-lent
-    slice-aggregate-validate-lent-2
+    slice_bounds-validate_lent-end-2
+    slice_bounds-validate_lent-end-3
     size-requires-3
-    slice-relend-prefix-validate-lent-2
-    slice-aggregate-validate-lent-3
-    validate-lent-requires
-    same_length_lem
-    same-length-2
+    slice_bounds-validate_lent-end-4
+    slice_bounds-validate_lent-end-5
+    validate_lent-requires
+    shape_of-rows
+    shape_of-values
     returns)

@@ -2,96 +2,83 @@
 use Rattle.evidence_replay.proofs.choices.choice_held.Statement.{statement}
 use Rattle.evidence_replay.proofs.choices.choice_held.Tie as tie
 
--- places of the proof, each from a later one
-abbrev compute-scaling-of-cmax : tie.After-cmax → tie.After-compute-scaling
-compute-scaling-of-cmax c = c.before.before.before.before.before.before.before.before.before.before.before
+strategy_for-requires : tie.Need-strategy_for-requires
+strategy_for-requires c κs = tt
 
-abbrev compute-scaling-of-v : tie.After-v → tie.After-compute-scaling
-compute-scaling-of-v c = compute-scaling-of-cmax c.before.before.before.before.before.before.before.before
+compute_scaling-answer-requires : tie.Need-compute_scaling-answer-requires
+compute_scaling-answer-requires c κs = tt
 
-abbrev compute-scaling-of-expect-scaling : tie.After-expect-scaling → tie.After-compute-scaling
-compute-scaling-of-expect-scaling c = compute-scaling-of-v c.before.before.before.before.before.before.before.before
+expect_scaling-place-requires : tie.Need-expect_scaling-place-requires
+expect_scaling-place-requires c κs = tt
 
-abbrev compute-scaling-of-expect-words : tie.After-expect-words → tie.After-compute-scaling
-compute-scaling-of-expect-words c = compute-scaling-of-expect-scaling c.before.before.before.before.before.before.before.before
+expect-place-requires : tie.Need-expect-place-requires
+expect-place-requires c κs = tt
 
-strategy-for-requires : tie.Need-strategy-for-requires
-strategy-for-requires c κs = tt
+expect_words-requires : tie.Need-expect_words-requires
+expect_words-requires c κs = tt
 
-compute-scaling-requires : tie.Need-compute-scaling-requires
-compute-scaling-requires c κs = tt
+shape_of-factors : tie.Need-shape_of-factors
+shape_of-factors c = c.compute_scaling-answer.auto.factors
 
-expect-scaling-requires : tie.Need-expect-scaling-requires
-expect-scaling-requires c κs = tt
+shape_of-maxima : tie.Need-shape_of-maxima
+shape_of-maxima c = c.compute_scaling-answer.auto.maxima
 
-expect-requires : tie.Need-expect-requires
-expect-requires c κs = tt
+shape_of-graph_ptr : tie.Need-shape_of-graph_ptr
+shape_of-graph_ptr c = c.compute_scaling-answer.auto.graph_ptr
 
-expect-words-requires : tie.Need-expect-words-requires
-expect-words-requires c κs = tt
+shape_of-graph_rows : tie.Need-shape_of-graph_rows
+shape_of-graph_rows c = c.compute_scaling-answer.auto.graph_rows
 
-same_length_lem : tie.Need-same-length
-same_length_lem c = (compute-scaling-of-expect-words c).compute-scaling.auto.1.1.1.1.1.1.1.0
+shape_of-cost : tie.Need-shape_of-cost
+shape_of-cost c = c.compute_scaling-answer.auto.cost
 
-same-length-2 : tie.Need-same-length-2
-same-length-2 c = (compute-scaling-of-expect-words c).compute-scaling.auto.1.1.1.1.1.1.1.1.0
+shape_of-cmax : tie.Need-shape_of-cmax
+shape_of-cmax c = c.compute_scaling-answer.auto.cmax
 
-same-length-3 : tie.Need-same-length-3
-same-length-3 c = (compute-scaling-of-expect-words c).compute-scaling.auto.1.1.1.1.1.1.1.1.1.0
+shape_of-graph_work : tie.Need-shape_of-graph_work
+shape_of-graph_work c = c.compute_scaling-answer.auto.graph_work
 
-same-length-4 : tie.Need-same-length-4
-same-length-4 c = (compute-scaling-of-expect-words c).compute-scaling.auto.1.1.1.1.1.1.1.1.1.1.0
+shape_of-perm : tie.Need-shape_of-perm
+shape_of-perm c = c.compute_scaling-answer.auto.perm
 
-same-length-5 : tie.Need-same-length-5
-same-length-5 c = (compute-scaling-of-expect-words c).compute-scaling.auto.1.1.1.1.1.1.1.1.1.1.1.0
+shape_of-u : tie.Need-shape_of-u
+shape_of-u c = c.compute_scaling-answer.auto.u
 
-same-length-6 : tie.Need-same-length-6
-same-length-6 c = (compute-scaling-of-expect-words c).compute-scaling.auto.1.1.1.1.1.1.1.1.1.1.1.1.0
+shape_of-v : tie.Need-shape_of-v
+shape_of-v c = c.compute_scaling-answer.auto.v
 
-same-length-7 : tie.Need-same-length-7
-same-length-7 c = (compute-scaling-of-expect-words c).compute-scaling.auto.1.1.1.1.1.1.1.1.1.1.1.1.1.0
+shape_of-match_work : tie.Need-shape_of-match_work
+shape_of-match_work c = c.compute_scaling-answer.auto.match_work
 
-same-length-8 : tie.Need-same-length-8
-same-length-8 c = (compute-scaling-of-expect-words c).compute-scaling.auto.1.1.1.1.1.1.1.1.1.1.1.1.1.1.0
+shape_of-distances : tie.Need-shape_of-distances
+shape_of-distances c = c.compute_scaling-answer.auto.distances
 
-same-length-9 : tie.Need-same-length-9
-same-length-9 c = (compute-scaling-of-expect-words c).compute-scaling.auto.1.1.1.1.1.1.1.1.1.1.1.1.1.1.1.0
-
-same-length-10 : tie.Need-same-length-10
-same-length-10 c = (compute-scaling-of-expect-words c).compute-scaling.auto.1.1.1.1.1.1.1.1.1.1.1.1.1.1.1.1.0
-
-same-length-11 : tie.Need-same-length-11
-same-length-11 c = (compute-scaling-of-expect-words c).compute-scaling.auto.1.1.1.1.1.1.1.1.1.1.1.1.1.1.1.1.1.0
-
-same-length-12 : tie.Need-same-length-12
-same-length-12 c = (compute-scaling-of-expect-words c).compute-scaling.auto.1.1.1.1.1.1.1.1.1.1.1.1.1.1.1.1.1.1.0
-
-same-length-13 : tie.Need-same-length-13
-same-length-13 c = (compute-scaling-of-expect-words c).compute-scaling.auto.1.1.1.1.1.1.1.1.1.1.1.1.1.1.1.1.1.1.1.0
+shape_of-factor_work : tie.Need-shape_of-factor_work
+shape_of-factor_work c = c.compute_scaling-answer.auto.factor_work
 
 returns : tie.Need-returns
 returns c = tt
 
-pub choice-held-spec : {M : Type 1} → statement M
-choice-held-spec =
+pub choice_held_spec : {M : Type 1} → statement M
+choice_held_spec =
     tie.close
     (tie.spec
-    strategy-for-requires
-    compute-scaling-requires
-    expect-scaling-requires
-    expect-requires
-    expect-words-requires
-    same_length_lem
-    same-length-2
-    same-length-3
-    same-length-4
-    same-length-5
-    same-length-6
-    same-length-7
-    same-length-8
-    same-length-9
-    same-length-10
-    same-length-11
-    same-length-12
-    same-length-13
+    strategy_for-requires
+    compute_scaling-answer-requires
+    expect_scaling-place-requires
+    expect-place-requires
+    expect_words-requires
+    shape_of-factors
+    shape_of-maxima
+    shape_of-graph_ptr
+    shape_of-graph_rows
+    shape_of-cost
+    shape_of-cmax
+    shape_of-graph_work
+    shape_of-perm
+    shape_of-u
+    shape_of-v
+    shape_of-match_work
+    shape_of-distances
+    shape_of-factor_work
     returns)

@@ -3,73 +3,57 @@ use Rattle.std.proofs.Common.{◌∙◌}
 use Rattle.evidence_replay.proofs.choices.choice_lent.Statement.{statement}
 use Rattle.evidence_replay.proofs.choices.choice_lent.Tie as tie
 
--- places of the proof, each from a later one
-abbrev fill-of-external : tie.After-external → tie.After-fill
-fill-of-external c = c.before.before.before.before.before.before.before
+fill-place-requires : tie.Need-fill-place-requires
+fill-place-requires c κs = tt
 
-abbrev fill-of-maxima : tie.After-maxima → tie.After-fill
-fill-of-maxima c = fill-of-external c.before.before.before.before.before.before
+with_graph-place-requires : tie.Need-with_graph-place-requires
+with_graph-place-requires c κs = tt
 
-abbrev fill-of-with-graph : tie.After-with-graph → tie.After-fill
-fill-of-with-graph c = fill-of-maxima c.before.before.before.before.before.before.before.before.before
+expect_doubles-place-requires : tie.Need-expect_doubles-place-requires
+expect_doubles-place-requires c κs = tt
 
-abbrev with-graph-of-expect-doubles2 : tie.After-expect-doubles2 → tie.After-with-graph
-with-graph-of-expect-doubles2 c = c.before.before.before.before.before.before.before.before
+expect_doubles-requires : tie.Need-expect_doubles-requires
+expect_doubles-requires c κs = tt
 
-abbrev fill-of-expect-doubles2 : tie.After-expect-doubles2 → tie.After-fill
-fill-of-expect-doubles2 c = fill-of-with-graph (with-graph-of-expect-doubles2 c)
+shape_of-col_ptr : tie.Need-shape_of-col_ptr
+shape_of-col_ptr c = c.fill-place.auto.col_ptr
 
-fill-requires : tie.Need-fill-requires
-fill-requires c κs = tt
+shape_of-rows : tie.Need-shape_of-rows
+shape_of-rows c = c.fill-place.auto.rows
 
-with-graph-requires : tie.Need-with-graph-requires
-with-graph-requires c κs = tt
+shape_of-values : tie.Need-shape_of-values
+shape_of-values c = c.fill-place.auto.values
 
-expect-doubles-requires : tie.Need-expect-doubles-requires
-expect-doubles-requires c κs = tt
+shape_of-external : tie.Need-shape_of-external
+shape_of-external c = c.fill-place.auto.external
 
-expect-doubles-requires-2 : tie.Need-expect-doubles-requires-2
-expect-doubles-requires-2 c κs = tt
+shape_of-logs : tie.Need-shape_of-logs
+shape_of-logs c = c.fill-place.auto.logs
 
-same_length_lem : tie.Need-same-length
-same_length_lem c = (fill-of-expect-doubles2 c).fill.auto.1.1.0
+shape_of-factors : tie.Need-shape_of-factors
+shape_of-factors c = c.with_graph-place.auto.factors
+    ∙ c.fill-place.auto.factors
 
-same-length-2 : tie.Need-same-length-2
-same-length-2 c = (fill-of-expect-doubles2 c).fill.auto.1.1.1.0
-
-same-length-3 : tie.Need-same-length-3
-same-length-3 c = (fill-of-expect-doubles2 c).fill.auto.1.1.1.1.0
-
-same-length-4 : tie.Need-same-length-4
-same-length-4 c = (fill-of-expect-doubles2 c).fill.auto.1.1.1.1.1.0
-
-same-length-5 : tie.Need-same-length-5
-same-length-5 c = (fill-of-expect-doubles2 c).fill.auto.1.1.1.1.1.1.0
-
-same-length-6 : tie.Need-same-length-6
-same-length-6 c = (with-graph-of-expect-doubles2 c).with-graph.auto.1.1.1.1.1.1.1.1.1.0
-    ∙ (fill-of-expect-doubles2 c).fill.auto.1.1.1.1.1.1.1.0
-
-same-length-7 : tie.Need-same-length-7
-same-length-7 c = (with-graph-of-expect-doubles2 c).with-graph.auto.1.1.1.1.1.1.1.1.1.1.0
-    ∙ (fill-of-expect-doubles2 c).fill.auto.1.1.1.1.1.1.1.1.0
+shape_of-maxima : tie.Need-shape_of-maxima
+shape_of-maxima c = c.with_graph-place.auto.maxima
+    ∙ c.fill-place.auto.maxima
 
 returns : tie.Need-returns
 returns c = tt
 
-pub choice-lent-spec : {M : Type 1} → statement M
-choice-lent-spec =
+pub choice_lent_spec : {M : Type 1} → statement M
+choice_lent_spec =
     tie.close
     (tie.spec
-    fill-requires
-    with-graph-requires
-    expect-doubles-requires
-    expect-doubles-requires-2
-    same_length_lem
-    same-length-2
-    same-length-3
-    same-length-4
-    same-length-5
-    same-length-6
-    same-length-7
+    fill-place-requires
+    with_graph-place-requires
+    expect_doubles-place-requires
+    expect_doubles-requires
+    shape_of-col_ptr
+    shape_of-rows
+    shape_of-values
+    shape_of-external
+    shape_of-logs
+    shape_of-factors
+    shape_of-maxima
     returns)

@@ -2,54 +2,41 @@
 use Rattle.evidence_replay.proofs.choices.fill.Statement.{statement}
 use Rattle.evidence_replay.proofs.choices.fill.Tie as tie
 
--- places of the proof, each from a later one
-abbrev doubles3-of-slice-known14 : tie.After-slice-known14 → tie.After-doubles3
-doubles3-of-slice-known14 c = c.before.before.before.before.before.before
+fill-place-requires : tie.Need-fill-place-requires
+fill-place-requires c κs = tt
 
-abbrev doubles2-of-slice-known14 : tie.After-slice-known14 → tie.After-doubles2
-doubles2-of-slice-known14 c = (doubles3-of-slice-known14 c).before.before.before.before
+doubles-place-requires : tie.Need-doubles-place-requires
+doubles-place-requires c κs = tt
 
-abbrev doubles-of-slice-known14 : tie.After-slice-known14 → tie.After-doubles
-doubles-of-slice-known14 c = (doubles2-of-slice-known14 c).before.before.before.before
+doubles-place-requires-2 : tie.Need-doubles-place-requires-2
+doubles-place-requires-2 c κs = tt
 
-abbrev fill-of-slice-known14 : tie.After-slice-known14 → tie.After-fill
-fill-of-slice-known14 c = (doubles-of-slice-known14 c).before.before.before.before.before.before.before.before
-
-fill-requires : tie.Need-fill-requires
-fill-requires c κs = tt
+doubles-place-requires-3 : tie.Need-doubles-place-requires-3
+doubles-place-requires-3 c κs = tt
 
 doubles-requires : tie.Need-doubles-requires
-doubles-requires c κs = tt
+doubles-place-requires c κs = tt
 
-doubles-requires-2 : tie.Need-doubles-requires-2
-doubles-requires-2 c κs = tt
+shape_of-col_ptr : tie.Need-shape_of-col_ptr
+shape_of-col_ptr c = c.fill-place.auto.col_ptr
 
-doubles-requires-3 : tie.Need-doubles-requires-3
-doubles-requires-3 c κs = tt
+shape_of-rows : tie.Need-shape_of-rows
+shape_of-rows c = c.fill-place.auto.rows
 
-doubles-requires-4 : tie.Need-doubles-requires-4
-doubles-requires-4 c κs = tt
+shape_of-values : tie.Need-shape_of-values
+shape_of-values c = c.fill-place.auto.values
 
-same_length_lem : tie.Need-same-length
-same_length_lem c = (fill-of-slice-known14 c).fill.auto.1.1.0
+shape_of-external : tie.Need-shape_of-external
+shape_of-external c = c.doubles-place.auto.out
 
-same-length-2 : tie.Need-same-length-2
-same-length-2 c = (fill-of-slice-known14 c).fill.auto.1.1.1.0
+shape_of-logs : tie.Need-shape_of-logs
+shape_of-logs c = c.doubles-place-2.auto.out
 
-same-length-3 : tie.Need-same-length-3
-same-length-3 c = (fill-of-slice-known14 c).fill.auto.1.1.1.1.0
+shape_of-factors : tie.Need-shape_of-factors
+shape_of-factors c = c.doubles-place-3.auto.out
 
-same-length-4 : tie.Need-same-length-4
-same-length-4 c = (doubles-of-slice-known14 c).doubles.auto.1.1.0
-
-same-length-5 : tie.Need-same-length-5
-same-length-5 c = (doubles2-of-slice-known14 c).doubles2.auto.1.1.0
-
-same-length-6 : tie.Need-same-length-6
-same-length-6 c = (doubles3-of-slice-known14 c).doubles3.auto.1.1.0
-
-same-length-7 : tie.Need-same-length-7
-same-length-7 c = c.before.before.doubles4.auto.1.1.0
+shape_of-maxima : tie.Need-shape_of-maxima
+shape_of-maxima c = c.doubles.auto.out
 
 returns : tie.Need-returns
 returns c = tt
@@ -58,16 +45,16 @@ pub fill_spec : {M : Type 1} → statement M
 fill_spec =
     tie.close
     (tie.spec
-    fill-requires
+    fill-place-requires
+    doubles-place-requires
+    doubles-place-requires-2
+    doubles-place-requires-3
     doubles-requires
-    doubles-requires-2
-    doubles-requires-3
-    doubles-requires-4
-    same_length_lem
-    same-length-2
-    same-length-3
-    same-length-4
-    same-length-5
-    same-length-6
-    same-length-7
+    shape_of-col_ptr
+    shape_of-rows
+    shape_of-values
+    shape_of-external
+    shape_of-logs
+    shape_of-factors
+    shape_of-maxima
     returns)

@@ -3,67 +3,51 @@ use Rattle.std.proofs.Common.{◌∙◌}
 use Rattle.evidence_replay.proofs.choices.graph_lent.Statement.{statement}
 use Rattle.evidence_replay.proofs.choices.graph_lent.Tie as tie
 
--- places of the proof, each from a later one
-abbrev fill-of-graph-work : tie.After-graph-work → tie.After-fill
-fill-of-graph-work c = c.before.before.before.before.before.before.before.before.before
+fill-place-requires : tie.Need-fill-place-requires
+fill-place-requires c κs = tt
 
-abbrev fill-of-with-match : tie.After-with-match → tie.After-fill
-fill-of-with-match c = fill-of-graph-work c.before.before.before.before.before.before.before.before.before
-
-abbrev with-match-of-cmax2 : tie.After-cmax2 → tie.After-with-match
-with-match-of-cmax2 c = c.before.before.before.before.before.before.before.before.before.before.before
-
-abbrev with-match-of-expect : tie.After-expect → tie.After-with-match
-with-match-of-expect c = with-match-of-cmax2 c.before.before.before.before.before.before.before.before.before
-
-abbrev fill-of-expect : tie.After-expect → tie.After-fill
-fill-of-expect c = fill-of-with-match (with-match-of-expect c)
-
-fill-requires : tie.Need-fill-requires
-fill-requires c κs = tt
-
-with-match-requires : tie.Need-with-match-requires
-with-match-requires c κs = tt
+with_match-place-requires : tie.Need-with_match-place-requires
+with_match-place-requires c κs = tt
 
 expect-requires : tie.Need-expect-requires
 expect-requires c κs = tt
 
-same_length_lem : tie.Need-same-length
-same_length_lem c = (with-match-of-expect c).with-match.auto.1.1.1.1.1.1.1.1.1.0
+shape_of-factors : tie.Need-shape_of-factors
+shape_of-factors c = c.with_match-place.auto.factors
 
-same-length-2 : tie.Need-same-length-2
-same-length-2 c = (with-match-of-expect c).with-match.auto.1.1.1.1.1.1.1.1.1.1.0
+shape_of-maxima : tie.Need-shape_of-maxima
+shape_of-maxima c = c.with_match-place.auto.maxima
 
-same-length-3 : tie.Need-same-length-3
-same-length-3 c = (with-match-of-expect c).with-match.auto.1.1.1.1.1.1.1.1.1.1.1.0 ∙ (fill-of-expect c).fill.auto.1.1.0
+shape_of-graph_ptr : tie.Need-shape_of-graph_ptr
+shape_of-graph_ptr c = c.with_match-place.auto.graph_ptr ∙ c.fill-place.auto.col_ptr
 
-same-length-4 : tie.Need-same-length-4
-same-length-4 c = (with-match-of-expect c).with-match.auto.1.1.1.1.1.1.1.1.1.1.1.1.0 ∙ (fill-of-expect c).fill.auto.1.1.1.0
+shape_of-graph_rows : tie.Need-shape_of-graph_rows
+shape_of-graph_rows c = c.with_match-place.auto.graph_rows ∙ c.fill-place.auto.rows
 
-same-length-5 : tie.Need-same-length-5
-same-length-5 c = (with-match-of-expect c).with-match.auto.1.1.1.1.1.1.1.1.1.1.1.1.1.0 ∙ (fill-of-expect c).fill.auto.1.1.1.1.0
+shape_of-cost : tie.Need-shape_of-cost
+shape_of-cost c = c.with_match-place.auto.cost ∙ c.fill-place.auto.values
 
-same-length-6 : tie.Need-same-length-6
-same-length-6 c = (with-match-of-expect c).with-match.auto.1.1.1.1.1.1.1.1.1.1.1.1.1.1.0 ∙ (fill-of-expect c).fill.auto.1.1.1.1.1.0
+shape_of-cmax : tie.Need-shape_of-cmax
+shape_of-cmax c = c.with_match-place.auto.cmax ∙ c.fill-place.auto.external
 
-same-length-7 : tie.Need-same-length-7
-same-length-7 c = (with-match-of-expect c).with-match.auto.1.1.1.1.1.1.1.1.1.1.1.1.1.1.1.0 ∙ (fill-of-expect c).fill.auto.1.1.1.1.1.1.0
+shape_of-graph_work : tie.Need-shape_of-graph_work
+shape_of-graph_work c = c.with_match-place.auto.graph_work ∙ c.fill-place.auto.logs
 
 returns : tie.Need-returns
 returns c = tt
 
-pub graph-lent-spec : {M : Type 1} → statement M
-graph-lent-spec =
+pub graph_lent_spec : {M : Type 1} → statement M
+graph_lent_spec =
     tie.close
     (tie.spec
-    fill-requires
-    with-match-requires
+    fill-place-requires
+    with_match-place-requires
     expect-requires
-    same_length_lem
-    same-length-2
-    same-length-3
-    same-length-4
-    same-length-5
-    same-length-6
-    same-length-7
+    shape_of-factors
+    shape_of-maxima
+    shape_of-graph_ptr
+    shape_of-graph_rows
+    shape_of-cost
+    shape_of-cmax
+    shape_of-graph_work
     returns)

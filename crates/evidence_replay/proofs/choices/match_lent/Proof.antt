@@ -3,103 +3,81 @@ use Rattle.std.proofs.Common.{◌∙◌}
 use Rattle.evidence_replay.proofs.choices.match_lent.Statement.{statement}
 use Rattle.evidence_replay.proofs.choices.match_lent.Tie as tie
 
--- places of the proof, each from a later one
-abbrev words-of-choice-held-arg6 : tie.After-choice-held-arg6 → tie.After-words
-words-of-choice-held-arg6 c = c.before.before.before.before.before.before.before.before
+fill-place-requires : tie.Need-fill-place-requires
+fill-place-requires c κs = tt
 
-abbrev words-of-choice-held : tie.After-choice-held → tie.After-words
-words-of-choice-held c = words-of-choice-held-arg6 c.before.before.before.before.before.before.before.before
+words-place-requires : tie.Need-words-place-requires
+words-place-requires c κs = tt
 
-abbrev choice-held-of-cost : tie.After-cost → tie.After-choice-held
-choice-held-of-cost c = c.before.before.before.before.before.before.before.before.before
+choice_held-requires : tie.Need-choice_held-requires
+choice_held-requires c κs = tt
 
-abbrev choice-held-of-u2 : tie.After-u2 → tie.After-choice-held
-choice-held-of-u2 c = choice-held-of-cost c.before.before.before.before.before.before.before.before
+shape_of-factors : tie.Need-shape_of-factors
+shape_of-factors c = c.choice_held.auto.factors
 
-abbrev choice-held-of-slice-known32 : tie.After-slice-known32 → tie.After-choice-held
-choice-held-of-slice-known32 c = choice-held-of-u2 c.before.before.before.before.before.before.before.before.before
+shape_of-maxima : tie.Need-shape_of-maxima
+shape_of-maxima c = c.choice_held.auto.maxima
 
-abbrev words-of-slice-known32 : tie.After-slice-known32 → tie.After-words
-words-of-slice-known32 c = words-of-choice-held (choice-held-of-slice-known32 c)
+shape_of-graph_ptr : tie.Need-shape_of-graph_ptr
+shape_of-graph_ptr c = c.choice_held.auto.graph_ptr
 
-abbrev fill-of-slice-known32 : tie.After-slice-known32 → tie.After-fill
-fill-of-slice-known32 c = (words-of-slice-known32 c).before.before.before.before.before.before.before.before.before.before.before.before
+shape_of-graph_rows : tie.Need-shape_of-graph_rows
+shape_of-graph_rows c = c.choice_held.auto.graph_rows
 
-fill-requires : tie.Need-fill-requires
-fill-requires c κs = tt
+shape_of-cost : tie.Need-shape_of-cost
+shape_of-cost c = c.choice_held.auto.cost
 
-words-requires : tie.Need-words-requires
-words-requires c κs = tt
+shape_of-cmax : tie.Need-shape_of-cmax
+shape_of-cmax c = c.choice_held.auto.cmax
 
-choice-held-requires : tie.Need-choice-held-requires
-choice-held-requires c κs = tt
+shape_of-graph_work : tie.Need-shape_of-graph_work
+shape_of-graph_work c = c.choice_held.auto.graph_work
 
-same_length_lem : tie.Need-same-length
-same_length_lem c = (choice-held-of-slice-known32 c).choice-held.auto.1.1.1.1.1.1.1.1.1.0
+shape_of-perm : tie.Need-shape_of-perm
+shape_of-perm c = c.choice_held.auto.perm
+    ∙ c.fill-place.auto.col_ptr
 
-same-length-2 : tie.Need-same-length-2
-same-length-2 c = (choice-held-of-slice-known32 c).choice-held.auto.1.1.1.1.1.1.1.1.1.1.0
+shape_of-u : tie.Need-shape_of-u
+shape_of-u c = c.choice_held.auto.u
+    ∙ c.fill-place.auto.rows
 
-same-length-3 : tie.Need-same-length-3
-same-length-3 c = (choice-held-of-slice-known32 c).choice-held.auto.1.1.1.1.1.1.1.1.1.1.1.0
+shape_of-v : tie.Need-shape_of-v
+shape_of-v c = c.choice_held.auto.v
+    ∙ c.fill-place.auto.values
 
-same-length-4 : tie.Need-same-length-4
-same-length-4 c = (choice-held-of-slice-known32 c).choice-held.auto.1.1.1.1.1.1.1.1.1.1.1.1.0
+shape_of-match_work : tie.Need-shape_of-match_work
+shape_of-match_work c = c.choice_held.auto.match_work
+    ∙ c.fill-place.auto.external
 
-same-length-5 : tie.Need-same-length-5
-same-length-5 c = (choice-held-of-slice-known32 c).choice-held.auto.1.1.1.1.1.1.1.1.1.1.1.1.1.0
+shape_of-distances : tie.Need-shape_of-distances
+shape_of-distances c = c.choice_held.auto.distances
+    ∙ c.fill-place.auto.logs
 
-same-length-6 : tie.Need-same-length-6
-same-length-6 c = (choice-held-of-slice-known32 c).choice-held.auto.1.1.1.1.1.1.1.1.1.1.1.1.1.1.0
-
-same-length-7 : tie.Need-same-length-7
-same-length-7 c = (choice-held-of-slice-known32 c).choice-held.auto.1.1.1.1.1.1.1.1.1.1.1.1.1.1.1.0
-
-same-length-8 : tie.Need-same-length-8
-same-length-8 c = (choice-held-of-slice-known32 c).choice-held.auto.1.1.1.1.1.1.1.1.1.1.1.1.1.1.1.1.0
-    ∙ (fill-of-slice-known32 c).fill.auto.1.1.0
-
-same-length-9 : tie.Need-same-length-9
-same-length-9 c = (choice-held-of-slice-known32 c).choice-held.auto.1.1.1.1.1.1.1.1.1.1.1.1.1.1.1.1.1.0
-    ∙ (fill-of-slice-known32 c).fill.auto.1.1.1.0
-
-same-length-10 : tie.Need-same-length-10
-same-length-10 c = (choice-held-of-slice-known32 c).choice-held.auto.1.1.1.1.1.1.1.1.1.1.1.1.1.1.1.1.1.1.0
-    ∙ (fill-of-slice-known32 c).fill.auto.1.1.1.1.0
-
-same-length-11 : tie.Need-same-length-11
-same-length-11 c = (choice-held-of-slice-known32 c).choice-held.auto.1.1.1.1.1.1.1.1.1.1.1.1.1.1.1.1.1.1.1.0
-    ∙ (fill-of-slice-known32 c).fill.auto.1.1.1.1.1.0
-
-same-length-12 : tie.Need-same-length-12
-same-length-12 c = (choice-held-of-slice-known32 c).choice-held.auto.1.1.1.1.1.1.1.1.1.1.1.1.1.1.1.1.1.1.1.1.0
-    ∙ (fill-of-slice-known32 c).fill.auto.1.1.1.1.1.1.0
-
-same-length-13 : tie.Need-same-length-13
-same-length-13 c = (choice-held-of-slice-known32 c).choice-held.auto.1.1.1.1.1.1.1.1.1.1.1.1.1.1.1.1.1.1.1.1.1.0
-    ∙ (words-of-slice-known32 c).words.auto.1.1.0
+shape_of-factor_work : tie.Need-shape_of-factor_work
+shape_of-factor_work c = c.choice_held.auto.factor_work
+    ∙ c.words-place.auto.out
 
 returns : tie.Need-returns
 returns c = tt
 
-pub match-lent-spec : {M : Type 1} → statement M
-match-lent-spec =
+pub match_lent_spec : {M : Type 1} → statement M
+match_lent_spec =
     tie.close
     (tie.spec
-    fill-requires
-    words-requires
-    choice-held-requires
-    same_length_lem
-    same-length-2
-    same-length-3
-    same-length-4
-    same-length-5
-    same-length-6
-    same-length-7
-    same-length-8
-    same-length-9
-    same-length-10
-    same-length-11
-    same-length-12
-    same-length-13
+    fill-place-requires
+    words-place-requires
+    choice_held-requires
+    shape_of-factors
+    shape_of-maxima
+    shape_of-graph_ptr
+    shape_of-graph_rows
+    shape_of-cost
+    shape_of-cmax
+    shape_of-graph_work
+    shape_of-perm
+    shape_of-u
+    shape_of-v
+    shape_of-match_work
+    shape_of-distances
+    shape_of-factor_work
     returns)

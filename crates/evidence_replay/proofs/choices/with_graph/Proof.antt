@@ -3,107 +3,103 @@ use Rattle.std.proofs.Common.{sym, length-take-le}
 use Rattle.evidence_replay.proofs.choices.with_graph.Statement.{statement}
 use Rattle.evidence_replay.proofs.choices.with_graph.Tie as tie
 
--- places of the proof, each from a later one
-abbrev graph-lent-of-graph-work2 : tie.After-graph-work2 → tie.After-graph-lent
-graph-lent-of-graph-work2 c = c.before.before.before.before.before.before.before.before.before
+length-l0-requires : tie.Need-length-l0-requires
+length-l0-requires c κs = tt
 
-length-requires : tie.Need-length-requires
-length-requires c κs = tt
+length-l1-requires : tie.Need-length-l1-requires
+length-l1-requires c κs = tt
 
-length-requires-2 : tie.Need-length-requires-2
-length-requires-2 c κs = tt
+length-l2-requires : tie.Need-length-l2-requires
+length-l2-requires c κs = tt
 
-length-requires-3 : tie.Need-length-requires-3
-length-requires-3 c κs = tt
+length-l3-requires : tie.Need-length-l3-requires
+length-l3-requires c κs = tt
 
-length-requires-4 : tie.Need-length-requires-4
-length-requires-4 c κs = tt
-
-length-requires-5 : tie.Need-length-requires-5
-length-requires-5 c κs = tt
+length-l4-requires : tie.Need-length-l4-requires
+length-l4-requires c κs = tt
 
 size-requires : tie.Need-size-requires
 size-requires c κs = tt
 
-array-borrow-prefix-graph-ptr : tie.Need-array-borrow-prefix-graph-ptr
-array-borrow-prefix-graph-ptr c = c.size.ensures
+slice_bounds-graph_ptr-end : tie.Need-slice_bounds-graph_ptr-end
+slice_bounds-graph_ptr-end c = c.size.ensures
 
-slice-aggregate-graph-lent : tie.Need-slice-aggregate-graph-lent
-slice-aggregate-graph-lent c = sym (length-take-le _ _ c.before.size.ensures)
+slice_bounds-graph_lent-end : tie.Need-slice_bounds-graph_lent-end
+slice_bounds-graph_lent-end c = sym (length-take-le _ _ c.size.ensures)
 
 size-requires-2 : tie.Need-size-requires-2
 size-requires-2 c κs = tt
 
-array-borrow-prefix-graph-rows : tie.Need-array-borrow-prefix-graph-rows
-array-borrow-prefix-graph-rows c = c.size2.ensures
+slice_bounds-graph_rows-end : tie.Need-slice_bounds-graph_rows-end
+slice_bounds-graph_rows-end c = c.size-2.ensures
 
-slice-aggregate-graph-lent-2 : tie.Need-slice-aggregate-graph-lent-2
-slice-aggregate-graph-lent-2 c = sym (length-take-le _ _ c.before.size2.ensures)
+slice_bounds-graph_lent-end-2 : tie.Need-slice_bounds-graph_lent-end-2
+slice_bounds-graph_lent-end-2 c = sym (length-take-le _ _ c.size-2.ensures)
 
 size-requires-3 : tie.Need-size-requires-3
 size-requires-3 c κs = tt
 
-array-borrow-prefix-cost : tie.Need-array-borrow-prefix-cost
-array-borrow-prefix-cost c = c.size3.ensures
+slice_bounds-cost-end : tie.Need-slice_bounds-cost-end
+slice_bounds-cost-end c = c.size-3.ensures
 
-slice-aggregate-graph-lent-3 : tie.Need-slice-aggregate-graph-lent-3
-slice-aggregate-graph-lent-3 c = sym (length-take-le _ _ c.before.size3.ensures)
+slice_bounds-graph_lent-end-3 : tie.Need-slice_bounds-graph_lent-end-3
+slice_bounds-graph_lent-end-3 c = sym (length-take-le _ _ c.size-3.ensures)
 
 size-requires-4 : tie.Need-size-requires-4
 size-requires-4 c κs = tt
 
-array-borrow-prefix-cmax : tie.Need-array-borrow-prefix-cmax
-array-borrow-prefix-cmax c = c.size4.ensures
+slice_bounds-cmax-end : tie.Need-slice_bounds-cmax-end
+slice_bounds-cmax-end c = c.size-4.ensures
 
-slice-aggregate-graph-lent-4 : tie.Need-slice-aggregate-graph-lent-4
-slice-aggregate-graph-lent-4 c = sym (length-take-le _ _ c.before.size4.ensures)
+slice_bounds-graph_lent-end-4 : tie.Need-slice_bounds-graph_lent-end-4
+slice_bounds-graph_lent-end-4 c = sym (length-take-le _ _ c.size-4.ensures)
 
 size-requires-5 : tie.Need-size-requires-5
 size-requires-5 c κs = tt
 
-array-borrow-prefix-graph-work : tie.Need-array-borrow-prefix-graph-work
-array-borrow-prefix-graph-work c = c.size5.ensures
+slice_bounds-graph_work-end : tie.Need-slice_bounds-graph_work-end
+slice_bounds-graph_work-end c = c.size-5.ensures
 
-slice-aggregate-graph-lent-5 : tie.Need-slice-aggregate-graph-lent-5
-slice-aggregate-graph-lent-5 c = sym (length-take-le _ _ c.before.size5.ensures)
+slice_bounds-graph_lent-end-5 : tie.Need-slice_bounds-graph_lent-end-5
+slice_bounds-graph_lent-end-5 c = sym (length-take-le _ _ c.size-5.ensures)
 
-graph-lent-requires : tie.Need-graph-lent-requires
-graph-lent-requires c κs = tt
+graph_lent-requires : tie.Need-graph_lent-requires
+graph_lent-requires c κs = tt
 
-same_length_lem : tie.Need-same-length
-same_length_lem c = (graph-lent-of-graph-work2 c).graph-lent.auto.1.1.1.1.1.1.1.1.1.0
+shape_of-factors : tie.Need-shape_of-factors
+shape_of-factors c = c.graph_lent.auto.factors
 
-same-length-2 : tie.Need-same-length-2
-same-length-2 c = (graph-lent-of-graph-work2 c).graph-lent.auto.1.1.1.1.1.1.1.1.1.1.0
+shape_of-maxima : tie.Need-shape_of-maxima
+shape_of-maxima c = c.graph_lent.auto.maxima
 
 returns : tie.Need-returns
 returns c = tt
 
-pub with-graph-spec : {M : Type 1} → statement M
-with-graph-spec =
+pub with_graph_spec : {M : Type 1} → statement M
+with_graph_spec =
     tie.close
     (tie.spec
-    length-requires
-    length-requires-2
-    length-requires-3
-    length-requires-4
-    length-requires-5
+    length-l0-requires
+    length-l1-requires
+    length-l2-requires
+    length-l3-requires
+    length-l4-requires
     size-requires
-    array-borrow-prefix-graph-ptr
-    slice-aggregate-graph-lent
+    slice_bounds-graph_ptr-end
+    slice_bounds-graph_lent-end
     size-requires-2
-    array-borrow-prefix-graph-rows
-    slice-aggregate-graph-lent-2
+    slice_bounds-graph_rows-end
+    slice_bounds-graph_lent-end-2
     size-requires-3
-    array-borrow-prefix-cost
-    slice-aggregate-graph-lent-3
+    slice_bounds-cost-end
+    slice_bounds-graph_lent-end-3
     size-requires-4
-    array-borrow-prefix-cmax
-    slice-aggregate-graph-lent-4
+    slice_bounds-cmax-end
+    slice_bounds-graph_lent-end-4
     size-requires-5
-    array-borrow-prefix-graph-work
-    slice-aggregate-graph-lent-5
-    graph-lent-requires
-    same_length_lem
-    same-length-2
+    slice_bounds-graph_work-end
+    slice_bounds-graph_lent-end-5
+    graph_lent-requires
+    shape_of-factors
+    shape_of-maxima
     returns)

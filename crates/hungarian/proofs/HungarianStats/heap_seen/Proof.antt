@@ -1,4 +1,5 @@
 -- `hungarian::HungarianStats::heap_seen` meets its contract, by computing the step.
+use Rattle.std.proofs.Common.{rules}
 use mathlib.Core.Path.{refl}
 use Rattle.hungarian.specs.Counts.{heap_seen}
 use borrow.Author.Rules.{rules}
@@ -12,5 +13,9 @@ returns : tie.Need-returns
 unfolding heap_seen
 returns c = rw c.larger.ensures refl
 
-pub heap-seen-spec : {M : Type 1} → statement M
-heap-seen-spec = tie.close (tie.spec larger-requires returns)
+pub heap_seen_spec : {M : Type 1} → statement M
+heap_seen_spec =
+    tie.close
+    (tie.spec
+    larger-requires
+    returns)

@@ -10,186 +10,167 @@ use Rattle.hungarian_match.proofs.Finishing.{Copied, copy_begins, column_count_l
 use Rattle.hungarian_match.proofs.finish.finish_columns.Statement.{statement}
 use Rattle.hungarian_match.proofs.finish.finish_columns.Tie as tie
 
-abbrev invariant-loop : tie.invariant-loop
-invariant-loop n rows cost u work perm₀ v₀ j₀ perm v j = (j ≤ n) × (length perm ≡ n) × (length v ≡ n) × Copied n rows cost u (region jperm_at n work) perm v j
+abbrev invariant-loop-j : tie.invariant-loop-j
+invariant-loop-j n rows cost u work perm₀ v₀ j₀ perm v j = (j ≤ n) × (length perm ≡ n) × (length v ≡ n) × Copied n rows cost u (region jperm_at n work) perm v j
 
-abbrev decreases-loop : tie.decreases-loop
-decreases-loop n rows cost u work perm₀ v₀ j₀ perm v j = n - j
+abbrev decreases-loop-j : tie.decreases-loop-j
+decreases-loop-j n rows cost u work perm₀ v₀ j₀ perm v j = n - j
 
--- places of the proof, each from a later one
-abbrev entry-of-then1 : tie.Then1 invariant-loop decreases-loop → tie.Start invariant-loop decreases-loop
-entry-of-then1 c = c.before.before.before.before
+loop-j-init : tie.Need-loop-j-init invariant-loop-j decreases-loop-j
+loop-j-init c = (omega arith, c.requires.fact_2, c.requires.fact_3, copy_begins)
 
-abbrev loop-of-else1 : tie.Else1 invariant-loop decreases-loop → tie.At-loop invariant-loop decreases-loop
-loop-of-else1 c = c.before.before.before
+overflow_add-entry : tie.Need-overflow_add-entry invariant-loop-j decreases-loop-j
+overflow_add-entry c = omega arith
 
-abbrev entry-of-else1 : tie.Else1 invariant-loop decreases-loop → tie.Start invariant-loop decreases-loop
-entry-of-else1 c = (loop-of-else1 c).before
+offset_bounds-work-n : tie.Need-offset_bounds-work-n invariant-loop-j decreases-loop-j
+offset_bounds-work-n c = omega arith
 
-abbrev loop-of-shared-slice-known3 : tie.After-shared-slice-known3 invariant-loop decreases-loop → tie.At-loop invariant-loop decreases-loop
-loop-of-shared-slice-known3 c = loop-of-else1 c.before.before
+bounds-work-n : tie.Need-bounds-work-n invariant-loop-j decreases-loop-j
+bounds-work-n c = omega arith
 
-abbrev else1-of-shared-slice-known4 : tie.After-shared-slice-known4 invariant-loop decreases-loop → tie.Else1 invariant-loop decreases-loop
-else1-of-shared-slice-known4 c = c.before.before.before
+offset_bounds-perm-j : tie.Need-offset_bounds-perm-j invariant-loop-j decreases-loop-j
+offset_bounds-perm-j c = omega arith
 
-abbrev entry-of-shared-slice-known4 : tie.After-shared-slice-known4 invariant-loop decreases-loop → tie.Start invariant-loop decreases-loop
-entry-of-shared-slice-known4 c = entry-of-else1 (else1-of-shared-slice-known4 c)
+bounds-perm-j : tie.Need-bounds-perm-j invariant-loop-j decreases-loop-j
+bounds-perm-j c = omega arith
 
-loop-holds : tie.Need-loop-init invariant-loop decreases-loop
-loop-holds c = (omega arith, c.requires.1.0, c.requires.1.1, copy_begins)
+offset_bounds-v-j : tie.Need-offset_bounds-v-j invariant-loop-j decreases-loop-j
+offset_bounds-v-j c = omega arith
 
-add-entry : tie.Need-overflow-add-entry invariant-loop decreases-loop
-add-entry c = omega arith
+bounds-v-j : tie.Need-bounds-v-j invariant-loop-j decreases-loop-j
+bounds-v-j c = omega arith
 
-mul-entry : tie.Need-overflow-mul-entry invariant-loop decreases-loop
-mul-entry c = omega arith
+overflow_step-j : tie.Need-overflow_step-j invariant-loop-j decreases-loop-j
+overflow_step-j c = omega arith
 
-shared-slice-read-entry : tie.Need-shared-slice-read-entry invariant-loop decreases-loop
-shared-slice-read-entry c = omega arith
+loop-j-smaller-then-entry : tie.Need-loop-j-smaller-then-entry invariant-loop-j decreases-loop-j
+loop-j-smaller-then-entry c = omega arith
 
-mul-perm : tie.Need-overflow-mul-perm invariant-loop decreases-loop
-mul-perm c = omega arith
-
-slice-write-perm : tie.Need-slice-write-perm invariant-loop decreases-loop
-slice-write-perm c = omega arith
-
-mul-v : tie.Need-overflow-mul-v invariant-loop decreases-loop
-mul-v c = omega arith
-
-slice-write-v : tie.Need-slice-write-v invariant-loop decreases-loop
-slice-write-v c = omega arith
-
-add-j : tie.Need-overflow-add-j invariant-loop decreases-loop
-add-j c = omega arith
-
-loop-less : tie.Need-loop-smaller invariant-loop decreases-loop
-loop-less c = omega arith
-
-loop-again : tie.Need-loop-preserved invariant-loop decreases-loop
-loop-again c = let l = c.before.before.before.loop in
-    let e = entry_at (entry-of-then1 c).args.n (entry-of-then1 c).args.work.now l.j
+loop-j-preserved-then-entry : tie.Need-loop-j-preserved-then-entry invariant-loop-j decreases-loop-j
+loop-j-preserved-then-entry c = let l = c.loop-j in
+    let e = entry_at c.args.n c.args.work.now l.j
     (omega arith) in (
       omega arith,
       simp length-set l.invariant.1,
       simp length-set l.invariant.2,
       copy_free
-          (omega (arith, column_count_lem (entry-of-then1 c).requires.0))
-          (l.invariant.1 ∙ sym (column_count_lem (entry-of-then1 c).requires.0))
-          (l.invariant.2 ∙ sym (column_count_lem (entry-of-then1 c).requires.0)) l.invariant.3 (eq-eqb _ _ (e ∙ c.if1.true)),
+          (omega (arith, column_count_lem c.requires.fact_1))
+          (l.invariant.1 ∙ sym (column_count_lem c.requires.fact_1))
+          (l.invariant.2 ∙ sym (column_count_lem c.requires.fact_1)) l.invariant.3 (eq-eqb _ _ (e ∙ c.if-entry.true)),
     )
 
-cast-k : tie.Need-overflow-cast-k invariant-loop decreases-loop
-cast-k c = omega (arith, entry_inside (entry-of-else1 c).requires.0 (loop-of-else1 c).loop.j (omega arith) c.if1.false)
+overflow_cast-k : tie.Need-overflow_cast-k invariant-loop-j decreases-loop-j
+overflow_cast-k c = omega (arith, entry_inside c.requires.fact_1 c.loop-j.j (omega arith) c.if-entry.false)
 
-mul-row : tie.Need-overflow-mul-row invariant-loop decreases-loop
-mul-row c = omega (arith, entry_inside (entry-of-else1 c).requires.0 (loop-of-else1 c).loop.j (omega arith) c.if1.false)
+offset_bounds-row_idx-k : tie.Need-offset_bounds-row_idx-k invariant-loop-j decreases-loop-j
+offset_bounds-row_idx-k c = omega (arith, entry_inside c.requires.fact_1 c.loop-j.j (omega arith) c.if-entry.false)
 
-shared-slice-read-row : tie.Need-shared-slice-read-row invariant-loop decreases-loop
-shared-slice-read-row c =
-    omega (arith, entry_inside (entry-of-else1 c.before).pre.0 (loop-of-else1 c.before).loop.j (omega arith) c.before.if1.false)
+bounds-row_idx-k : tie.Need-bounds-row_idx-k invariant-loop-j decreases-loop-j
+bounds-row_idx-k c =
+    omega (arith, entry_inside c.requires.fact_1 c.loop-j.j (omega arith) c.if-entry.false)
 
-mul-perm-2 : tie.Need-overflow-mul-perm-2 invariant-loop decreases-loop
-mul-perm-2 c = omega arith
+offset_bounds-perm-j-in-loop-j : tie.Need-offset_bounds-perm-j-in-loop-j invariant-loop-j decreases-loop-j
+offset_bounds-perm-j-in-loop-j c = omega arith
 
-slice-write-perm-2 : tie.Need-slice-write-perm-2 invariant-loop decreases-loop
-slice-write-perm-2 c = omega arith
+bounds-perm-j-in-loop-j : tie.Need-bounds-perm-j-in-loop-j invariant-loop-j decreases-loop-j
+bounds-perm-j-in-loop-j c = omega arith
 
-mul-v-2 : tie.Need-overflow-mul-v-2 invariant-loop decreases-loop
-mul-v-2 c = omega (arith, entry_inside (entry-of-else1 c.before).pre.0 (loop-of-else1 c.before).loop.j (omega arith) c.before.if1.false)
+offset_bounds-cost-k : tie.Need-offset_bounds-cost-k invariant-loop-j decreases-loop-j
+offset_bounds-cost-k c = omega (arith, entry_inside c.requires.fact_1 c.loop-j.j (omega arith) c.if-entry.false)
 
-shared-slice-read-v : tie.Need-shared-slice-read-v invariant-loop decreases-loop
-shared-slice-read-v c = omega
-    (arith, entry_inside (loop-of-shared-slice-known3 c).before.requires.0 (loop-of-shared-slice-known3 c).loop.j (omega arith) c.before.before.if1.false)
+bounds-cost-k : tie.Need-bounds-cost-k invariant-loop-j decreases-loop-j
+bounds-cost-k c = omega
+    (arith, entry_inside c.requires.fact_1 c.loop-j.j (omega arith) c.if-entry.false)
 
-cast-v : tie.Need-overflow-cast-v invariant-loop decreases-loop
-cast-v c = omega (
+overflow_cast-v : tie.Need-overflow_cast-v invariant-loop-j decreases-loop-j
+overflow_cast-v c = omega (
   arith,
-  entry_inside (loop-of-shared-slice-known3 c).before.requires.0 (loop-of-shared-slice-known3 c).loop.j (omega arith)
-      c.before.before.if1.false,
+  entry_inside c.requires.fact_1 c.loop-j.j (omega arith)
+      c.if-entry.false,
 )
 
-mul-v-3 : tie.Need-overflow-mul-v-3 invariant-loop decreases-loop
-mul-v-3 c = omega (
+offset_bounds-u-row : tie.Need-offset_bounds-u-row invariant-loop-j decreases-loop-j
+offset_bounds-u-row c = omega (
   arith,
-  entry_inside (loop-of-shared-slice-known3 c).before.requires.0 (loop-of-shared-slice-known3 c).loop.j (omega arith)
-      c.before.before.if1.false,
+  entry_inside c.requires.fact_1 c.loop-j.j (omega arith)
+      c.if-entry.false,
 )
 
-shared-slice-read-v-2 : tie.Need-shared-slice-read-v-2 invariant-loop decreases-loop
-shared-slice-read-v-2 c =
+bounds-u-row : tie.Need-bounds-u-row invariant-loop-j decreases-loop-j
+bounds-u-row c =
     omega (
       arith,
-      entry_inside (entry-of-shared-slice-known4 c).requires.0 (loop-of-shared-slice-known3 c.before).loop.j (omega arith)
-          (else1-of-shared-slice-known4 c).if1.false,
+      entry_inside c.requires.fact_1 c.loop-j.j (omega arith)
+          c.if-entry.false,
     )
 
-mul-v-4 : tie.Need-overflow-mul-v-4 invariant-loop decreases-loop
-mul-v-4 c = omega arith
+offset_bounds-v-j-in-loop-j : tie.Need-offset_bounds-v-j-in-loop-j invariant-loop-j decreases-loop-j
+offset_bounds-v-j-in-loop-j c = omega arith
 
-slice-write-v-2 : tie.Need-slice-write-v-2 invariant-loop decreases-loop
-slice-write-v-2 c = omega arith
+bounds-v-j-in-loop-j : tie.Need-bounds-v-j-in-loop-j invariant-loop-j decreases-loop-j
+bounds-v-j-in-loop-j c = omega arith
 
-add-j-2 : tie.Need-overflow-add-j-2 invariant-loop decreases-loop
-add-j-2 c = omega arith
+overflow_step-j-in-loop-j : tie.Need-overflow_step-j-in-loop-j invariant-loop-j decreases-loop-j
+overflow_step-j-in-loop-j c = omega arith
 
-loop-less-2 : tie.Need-loop-smaller-2 invariant-loop decreases-loop
-loop-less-2 c = omega arith
+loop-j-smaller : tie.Need-loop-j-smaller invariant-loop-j decreases-loop-j
+loop-j-smaller c = omega arith
 
-loop-again-2 : tie.Need-loop-preserved-2 invariant-loop decreases-loop
-loop-again-2 c = let l = (loop-of-shared-slice-known3 c.before).loop in
-    let e = entry_at (entry-of-shared-slice-known4 c).args.n
-    (entry-of-shared-slice-known4 c).args.work.now l.j (omega arith) in (
+loop-j-preserved : tie.Need-loop-j-preserved invariant-loop-j decreases-loop-j
+loop-j-preserved c = let l = c.loop-j in
+    let e = entry_at c.args.n
+    c.args.work.now l.j (omega arith) in (
       omega arith,
       simp length-set l.inv.1,
       simp length-set l.inv.2,
       rw (← e)
-          (copy_matched (omega (arith, column_count_lem (entry-of-shared-slice-known4 c).requires.0))
-          (l.inv.1 ∙ sym (column_count_lem (entry-of-shared-slice-known4 c).requires.0))
-          (l.inv.2 ∙ sym (column_count_lem (entry-of-shared-slice-known4 c).requires.0)) l.inv.3
-          (ne_eqb _ _ (λ z. (else1-of-shared-slice-known4 c).if1.false (sym e ∙ z)))),
+          (copy_matched (omega (arith, column_count_lem c.requires.fact_1))
+          (l.inv.1 ∙ sym (column_count_lem c.requires.fact_1))
+          (l.inv.2 ∙ sym (column_count_lem c.requires.fact_1)) l.inv.3
+          (ne_eqb _ _ (λ z. c.if-entry.false (sym e ∙ z)))),
     )
 
-same_length_lem : tie.Need-same-length invariant-loop decreases-loop
-same_length_lem c = omega arith
+shape_of-perm : tie.Need-shape_of-perm invariant-loop-j decreases-loop-j
+shape_of-perm c = omega arith
 
-same-length-2 : tie.Need-same-length-2 invariant-loop decreases-loop
-same-length-2 c = omega arith
+shape_of-v : tie.Need-shape_of-v invariant-loop-j decreases-loop-j
+shape_of-v c = omega arith
 
-returns : tie.Need-returns invariant-loop decreases-loop
-returns c = let l = c.before.loop in copy_ends (column_count_lem c.before.before.requires.0) l.invariant.1 l.invariant.2 l.j (omega arith) l.invariant.3
+returns : tie.Need-returns invariant-loop-j decreases-loop-j
+returns c = let l = c.loop-j in copy_ends (column_count_lem c.requires.fact_1) l.invariant.1 l.invariant.2 l.j (omega arith) l.invariant.3
 
-pub finish-columns-spec : {M : Type 1} → statement M
-finish-columns-spec =
+pub finish_columns_spec : {M : Type 1} → statement M
+finish_columns_spec =
     tie.close
     (tie.spec
-    invariant-loop
-    decreases-loop
-    loop-holds
-    add-entry
-    mul-entry
-    shared-slice-read-entry
-    mul-perm
-    slice-write-perm
-    mul-v
-    slice-write-v
-    add-j
-    loop-less
-    loop-again
-    cast-k
-    mul-row
-    shared-slice-read-row
-    mul-perm-2
-    slice-write-perm-2
-    mul-v-2
-    shared-slice-read-v
-    cast-v
-    mul-v-3
-    shared-slice-read-v-2
-    mul-v-4
-    slice-write-v-2
-    add-j-2
-    loop-less-2
-    loop-again-2
-    same_length_lem
-    same-length-2
+    invariant-loop-j
+    decreases-loop-j
+    loop-j-init
+    overflow_add-entry
+    offset_bounds-work-n
+    bounds-work-n
+    offset_bounds-perm-j
+    bounds-perm-j
+    offset_bounds-v-j
+    bounds-v-j
+    overflow_step-j
+    loop-j-smaller-then-entry
+    loop-j-preserved-then-entry
+    overflow_cast-k
+    offset_bounds-row_idx-k
+    bounds-row_idx-k
+    offset_bounds-perm-j-in-loop-j
+    bounds-perm-j-in-loop-j
+    offset_bounds-cost-k
+    bounds-cost-k
+    overflow_cast-v
+    offset_bounds-u-row
+    bounds-u-row
+    offset_bounds-v-j-in-loop-j
+    bounds-v-j-in-loop-j
+    overflow_step-j-in-loop-j
+    loop-j-smaller
+    loop-j-preserved
+    shape_of-perm
+    shape_of-v
     returns)

@@ -11,40 +11,39 @@ use Rattle.hungarian_match.proofs.Finishing.{row_count, column_at_lem, finished_
 use Rattle.hungarian_match.proofs.finish.finish_rows.Statement.{statement}
 use Rattle.hungarian_match.proofs.finish.finish_rows.Tie as tie
 
-abbrev invariant-loop : tie.invariant-loop
-invariant-loop n work u₀ i₀ u i = (i ≤ n) × (length u ≡ n) × (finished_to i (region iperm_at n work) u ≡ row_duals (region iperm_at n work) u₀)
+abbrev invariant-loop-i : tie.invariant-loop-i
+invariant-loop-i n work u₀ i₀ u i = (i ≤ n) × (length u ≡ n) × (finished_to i (region iperm_at n work) u ≡ row_duals (region iperm_at n work) u₀)
 
-abbrev decreases-loop : tie.decreases-loop
-decreases-loop n work u₀ i₀ u i = n - i
+abbrev decreases-loop-i : tie.decreases-loop-i
+decreases-loop-i n work u₀ i₀ u i = n - i
 
-loop-holds : tie.Need-loop-init invariant-loop decreases-loop
-loop-holds c = (omega arith, c.requires.1, refl)
+loop-i-init : tie.Need-loop-i-init invariant-loop-i decreases-loop-i
+loop-i-init c = (omega arith, c.requires.fact_2, refl)
 
-mul-if1 : tie.Need-overflow-mul-if1 invariant-loop decreases-loop
-mul-if1 c = omega arith
+offset_bounds-work-i : tie.Need-offset_bounds-work-i invariant-loop-i decreases-loop-i
+offset_bounds-work-i c = omega arith
 
-shared-slice-read-if1 : tie.Need-shared-slice-read-if1 invariant-loop decreases-loop
-shared-slice-read-if1 c = omega arith
+bounds-work-i : tie.Need-bounds-work-i invariant-loop-i decreases-loop-i
+bounds-work-i c = omega arith
 
-mul-u : tie.Need-overflow-mul-u invariant-loop decreases-loop
-mul-u c = omega arith
+offset_bounds-u-i : tie.Need-offset_bounds-u-i invariant-loop-i decreases-loop-i
+offset_bounds-u-i c = omega arith
 
-slice-write-u : tie.Need-slice-write-u invariant-loop decreases-loop
-slice-write-u c = omega arith
+bounds-u-i : tie.Need-bounds-u-i invariant-loop-i decreases-loop-i
+bounds-u-i c = omega arith
 
-add-i : tie.Need-overflow-add-i invariant-loop decreases-loop
-add-i c = omega arith
+overflow_step-i : tie.Need-overflow_step-i invariant-loop-i decreases-loop-i
+overflow_step-i c = omega arith
 
-loop-less : tie.Need-loop-smaller invariant-loop decreases-loop
-loop-less c = omega arith
+loop-i-smaller : tie.Need-loop-i-smaller invariant-loop-i decreases-loop-i
+loop-i-smaller c = omega arith
 
-loop-again : tie.Need-loop-preserved invariant-loop decreases-loop
-loop-again c =
-    let p = c.before.before.before.before in
-    let l = c.before.before.before.loop in
-    let js = region iperm_at p.args.n p.args.work.now in
-    let r = row_count p.args.n p.args.work.now p.requires.0 in
-    let e = column_at_lem p.args.n p.args.work.now l.i (omega arith) in
+loop-i-preserved : tie.Need-loop-i-preserved invariant-loop-i decreases-loop-i
+loop-i-preserved c =
+    let l = c.loop-i in
+    let js = region iperm_at c.args.n c.args.work.now in
+    let r = row_count c.args.n c.args.work.now c.requires.fact_1 in
+    let e = column_at_lem c.args.n c.args.work.now l.i (omega arith) in
     ⊎_elim
     (λ x. (
       omega arith,
@@ -56,30 +55,30 @@ loop-again c =
       ap length x.1 ∙ l.invariant.1,
       rw x.1 (row_stays l.i js l.u (omega arith) (omega arith) (ne_eqb _ _ (λ z. x.0.left (sym e ∙ z))) ∙ l.invariant.2),
     ))
-    c.if1.branch
+    c.if-work-i.branch
 
-same_length_lem : tie.Need-same-length invariant-loop decreases-loop
-same_length_lem c = omega arith
+shape_of-u : tie.Need-shape_of-u invariant-loop-i decreases-loop-i
+shape_of-u c = omega arith
 
-returns : tie.Need-returns invariant-loop decreases-loop
-returns c = let l = c.before.loop in
-    sym (rows_done l.i (region iperm_at c.before.before.args.n c.before.before.args.work.now) l.u
-    (omega (arith, row_count c.before.before.args.n c.before.before.args.work.now c.before.before.requires.0))
+returns : tie.Need-returns invariant-loop-i decreases-loop-i
+returns c = let l = c.loop-i in
+    sym (rows_done l.i (region iperm_at c.args.n c.args.work.now) l.u
+    (omega (arith, row_count c.args.n c.args.work.now c.requires.fact_1))
     (omega arith)) ∙ l.invariant.2
 
-pub finish-rows-spec : {M : Type 1} → statement M
-finish-rows-spec =
+pub finish_rows_spec : {M : Type 1} → statement M
+finish_rows_spec =
     tie.close
     (tie.spec
-    invariant-loop
-    decreases-loop
-    loop-holds
-    mul-if1
-    shared-slice-read-if1
-    mul-u
-    slice-write-u
-    add-i
-    loop-less
-    loop-again
-    same_length_lem
+    invariant-loop-i
+    decreases-loop-i
+    loop-i-init
+    offset_bounds-work-i
+    bounds-work-i
+    offset_bounds-u-i
+    bounds-u-i
+    overflow_step-i
+    loop-i-smaller
+    loop-i-preserved
+    shape_of-u
     returns)

@@ -10,73 +10,69 @@ use Rattle.hungarian_match.proofs.Tests.{Tested, test_begins, test_goes_on, test
 use Rattle.hungarian_match.proofs.graph_test.cost_fault.Statement.{statement}
 use Rattle.hungarian_match.proofs.graph_test.cost_fault.Tie as tie
 
-abbrev invariant-loop : tie.invariant-loop
-invariant-loop n cost limit fine₀ k₀ k-end fine k = (k ≤ length cost) × Tested n cost fine k
+abbrev invariant-loop-k : tie.invariant-loop-k
+invariant-loop-k n cost limit fine₀ k₀ k-end fine k = (k ≤ length cost) × Tested n cost fine k
 
-abbrev decreases-loop : tie.decreases-loop
-decreases-loop n cost limit fine₀ k₀ k-end fine k = length cost - k
+abbrev decreases-loop-k : tie.decreases-loop-k
+decreases-loop-k n cost limit fine₀ k₀ k-end fine k = length cost - k
 
--- places of the proof, each from a later one
-abbrev cost-limit-of-in-range : tie.After-in-range invariant-loop decreases-loop → tie.After-cost-limit invariant-loop decreases-loop
-cost-limit-of-in-range c = c.before.before.before.before
+cost_limit-limit-requires : tie.Need-cost_limit-limit-requires invariant-loop-k decreases-loop-k
+cost_limit-limit-requires c κs = c.requires
 
-cost-limit-requires : tie.Need-cost-limit-requires invariant-loop decreases-loop
-cost-limit-requires c κs = c.before.requires
+loop-k-init : tie.Need-loop-k-init invariant-loop-k decreases-loop-k
+loop-k-init c = (omega arith, test_begins c.args.n c.args.cost.now)
 
-loop-holds : tie.Need-loop-init invariant-loop decreases-loop
-loop-holds c = (omega arith, test_begins c.before.before.args.n c.before.before.args.cost.now)
+offset_bounds-cost-k : tie.Need-offset_bounds-cost-k invariant-loop-k decreases-loop-k
+offset_bounds-cost-k c = omega arith
 
-mul-in-range : tie.Need-overflow-mul-in-range invariant-loop decreases-loop
-mul-in-range c = omega arith
+bounds-cost-k : tie.Need-bounds-cost-k invariant-loop-k decreases-loop-k
+bounds-cost-k c = omega arith
 
-shared-slice-read-in-range : tie.Need-shared-slice-read-in-range invariant-loop decreases-loop
-shared-slice-read-in-range c = omega arith
+in_range-fine-requires : tie.Need-in_range-fine-requires invariant-loop-k decreases-loop-k
+in_range-fine-requires c κs = tt
 
-in-range-requires : tie.Need-in-range-requires invariant-loop decreases-loop
-in-range-requires c κs = tt
+overflow_step-k : tie.Need-overflow_step-k invariant-loop-k decreases-loop-k
+overflow_step-k c = omega arith
 
-add-k : tie.Need-overflow-add-k invariant-loop decreases-loop
-add-k c = omega arith
+loop-k-smaller : tie.Need-loop-k-smaller invariant-loop-k decreases-loop-k
+loop-k-smaller c = omega arith
 
-loop-less : tie.Need-loop-smaller invariant-loop decreases-loop
-loop-less c = omega arith
-
-loop-again : tie.Need-loop-preserved invariant-loop decreases-loop
-loop-again c =
-    let a = (cost-limit-of-in-range c).before.before.args in
-    let l = c.before.before.before.loop in (
+loop-k-preserved : tie.Need-loop-k-preserved invariant-loop-k decreases-loop-k
+loop-k-preserved c =
+    let a = c.args in
+    let l = c.loop-k in (
       omega arith,
-      rw (c.in_range_lem.ensures a.n (cost-limit-of-in-range c).cost_limit_lem.ensures)
+      rw (c.in_range-fine.ensures a.n c.cost_limit-limit.ensures)
           (test_goes_on a.n a.cost.now l.fine l.k (omega arith) l.invariant.1),
     )
 
-returns : tie.Need-returns invariant-loop decreases-loop
-returns c =
-    let a = c.before.before.before.before.before.args in
-    let l = c.before.before.loop in
+returns-then-fine : tie.Need-returns-then-fine invariant-loop-k decreases-loop-k
+returns-then-fine c =
+    let a = c.args in
+    let l = c.loop-k in
     let e : cost_fault a.n a.cost.now ≡ cond l.fine 0 cost_range =
-    test_ends a.n a.cost.now l.fine l.k (omega arith) l.invariant.1 in sym (e ∙ rw c.if1.true refl)
+    test_ends a.n a.cost.now l.fine l.k (omega arith) l.invariant.1 in sym (e ∙ rw c.if-fine.true refl)
 
-returns-2 : tie.Need-returns-2 invariant-loop decreases-loop
-returns-2 c =
-    let a = c.before.before.before.before.before.args in
-    let l = c.before.before.loop in
+returns-else-fine : tie.Need-returns-else-fine invariant-loop-k decreases-loop-k
+returns-else-fine c =
+    let a = c.args in
+    let l = c.loop-k in
     let e : cost_fault a.n a.cost.now ≡ cond l.fine 0 cost_range =
-    test_ends a.n a.cost.now l.fine l.k (omega arith) l.invariant.1 in sym (e ∙ rw c.if1.false refl)
+    test_ends a.n a.cost.now l.fine l.k (omega arith) l.invariant.1 in sym (e ∙ rw c.if-fine.false refl)
 
-pub cost-fault-spec : {M : Type 1} → statement M
-cost-fault-spec =
+pub cost_fault_spec : {M : Type 1} → statement M
+cost_fault_spec =
     tie.close
     (tie.spec
-    invariant-loop
-    decreases-loop
-    cost-limit-requires
-    loop-holds
-    mul-in-range
-    shared-slice-read-in-range
-    in-range-requires
-    add-k
-    loop-less
-    loop-again
-    returns
-    returns-2)
+    invariant-loop-k
+    decreases-loop-k
+    cost_limit-limit-requires
+    loop-k-init
+    offset_bounds-cost-k
+    bounds-cost-k
+    in_range-fine-requires
+    overflow_step-k
+    loop-k-smaller
+    loop-k-preserved
+    returns-then-fine
+    returns-else-fine)

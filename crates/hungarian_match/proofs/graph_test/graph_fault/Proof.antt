@@ -1,4 +1,5 @@
 -- `graph_test::graph_fault` meets its contract: each return is the first fault of the chain.
+use Rattle.std.proofs.Common.{rules}
 use mathlib.Core.Path.{◌≡◌, sym, ◌∙◌}
 use lib.ListN.{length}
 use Rattle.limits.specs.Limits.{max_general}
@@ -10,82 +11,69 @@ use borrow.Author.Rules.{rules}
 use Rattle.hungarian_match.proofs.graph_test.graph_fault.Statement.{statement}
 use Rattle.hungarian_match.proofs.graph_test.graph_fault.Tie as tie
 
--- places of the proof, each from a later one
-abbrev entry-of-else1 : tie.Else1 → tie.Start
-entry-of-else1 c = c.before.before.before.before.before
+size_fault-sizes-requires : tie.Need-size_fault-sizes-requires
+size_fault-sizes-requires c κs = search rules
 
-abbrev entry-of-else2 : tie.Else2 → tie.Start
-entry-of-else2 c = entry-of-else1 c.before.before
+returns-then-sizes-ne-ACCEPTED : tie.Need-returns-then-sizes-ne-ACCEPTED
+unfolding graph_fault
+returns-then-sizes-ne-ACCEPTED c = answer_first _ c.size_fault-sizes.ensures c.if-sizes-ne-ACCEPTED.true
 
-abbrev pointer-fault-of-then3 : tie.Then3 → tie.After-pointer-fault
-pointer-fault-of-then3 c = c.before.before.before
+pointer_fault-pointers-requires : tie.Need-pointer_fault-pointers-requires
+pointer_fault-pointers-requires c κs = let s : size_fault c.args.n max_general
+    (length c.args.row-idx.now)
+    c.args.lengths ≡ 0 = sym c.size_fault-sizes.ensures ∙ c.if-sizes-ne-ACCEPTED.false in
+    let l = c.requires ((sizes_accepted c.args.n
+    max_general (length c.args.row-idx.now)
+    c.args.lengths).0 s).2 in
+    l
 
-abbrev else1-of-else3 : tie.Else3 → tie.Else1
-else1-of-else3 c = c.before.before.before.before
+returns-then-pointers-ne-ACCEPTED : tie.Need-returns-then-pointers-ne-ACCEPTED
+unfolding graph_fault
+returns-then-pointers-ne-ACCEPTED c = answer_second c.size_fault-sizes.ensures c.if-sizes-ne-ACCEPTED.false
+    (answer_first _ c.pointer_fault-pointers.ensures c.if-pointers-ne-ACCEPTED.true)
 
-size-fault-requires : tie.Need-size-fault-requires
-size-fault-requires c κs = search rules
+columns_fault-columns-requires : tie.Need-columns_fault-columns-requires
+columns_fault-columns-requires c κs = let s : size_fault c.args.n max_general
+    (length c.args.row-idx.now)
+    c.args.lengths ≡ 0 = sym
+    c.size_fault-sizes.ensures ∙ c.if-sizes-ne-ACCEPTED.false in
+    let l = c.requires
+    ((sizes_accepted c.args.n max_general
+    (length c.args.row-idx.now)
+    c.args.lengths).0 s).2 in (
+      l,
+      (pointers_accepted c.args.n
+          c.args.col-ptr.now
+          (length c.args.row-idx.now)).0
+          (sym c.pointer_fault-pointers.ensures ∙ c.if-pointers-ne-ACCEPTED.false),
+    )
+
+returns-then-columns-ne-ACCEPTED : tie.Need-returns-then-columns-ne-ACCEPTED
+unfolding graph_fault
+returns-then-columns-ne-ACCEPTED c = answer_second c.size_fault-sizes.ensures
+    c.if-sizes-ne-ACCEPTED.false (answer_second
+    c.pointer_fault-pointers.ensures c.if-pointers-ne-ACCEPTED.false
+    (answer_first _ c.columns_fault-columns.ensures c.if-columns-ne-ACCEPTED.true))
+
+cost_fault-requires : tie.Need-cost_fault-requires
+cost_fault-requires c κs = ((sizes_accepted _ max_general _ _).0 (sym c.size_fault-sizes.ensures ∙ c.if-sizes-ne-ACCEPTED.false)).0
 
 returns : tie.Need-returns
 unfolding graph_fault
-returns c = answer_first _ c.before.size-fault.ensures c.if1.true
+returns-then-sizes-ne-ACCEPTED c = answer_second c.size_fault-sizes.ensures
+    c.if-sizes-ne-ACCEPTED.false (answer_second
+    c.pointer_fault-pointers.ensures c.if-pointers-ne-ACCEPTED.false
+    (answer_second c.columns_fault-columns.ensures c.if-columns-ne-ACCEPTED.false c.cost_fault.ensures))
 
-pointer-fault-requires : tie.Need-pointer-fault-requires
-pointer-fault-requires c κs = let s : size_fault (entry-of-else1 c).args.n max_general
-    (length (entry-of-else1 c).args.row-idx.now)
-    (entry-of-else1 c).args.lengths ≡ 0 = sym c.before.size-fault.ensures ∙ c.if1.false in
-    let l = (entry-of-else1 c).requires ((sizes_accepted (entry-of-else1 c).args.n
-    max_general (length (entry-of-else1 c).args.row-idx.now)
-    (entry-of-else1 c).args.lengths).0 s).2 in
-    l
-
-returns-2 : tie.Need-returns-2
-unfolding graph_fault
-returns-2 c = answer_second c.before.before.before.size-fault.ensures c.before.before.if1.false
-    (answer_first _ c.before.pointer-fault.ensures c.if2.true)
-
-columns-fault-requires : tie.Need-columns-fault-requires
-columns-fault-requires c κs = let s : size_fault (entry-of-else2 c).args.n max_general
-    (length (entry-of-else2 c).args.row-idx.now)
-    (entry-of-else2 c).args.lengths ≡ 0 = sym
-    c.before.before.before.size-fault.ensures ∙ c.before.before.if1.false in
-    let l = (entry-of-else2 c).requires
-    ((sizes_accepted (entry-of-else2 c).args.n max_general
-    (length (entry-of-else2 c).args.row-idx.now)
-    (entry-of-else2 c).args.lengths).0 s).2 in (
-      l,
-      (pointers_accepted (entry-of-else2 c).args.n
-          (entry-of-else2 c).args.col-ptr.now
-          (length (entry-of-else2 c).args.row-idx.now)).0
-          (sym c.before.pointer-fault.ensures ∙ c.if2.false),
-    )
-
-returns-3 : tie.Need-returns-3
-unfolding graph_fault
-returns-3 c = answer_second (pointer-fault-of-then3 c).before.before.size-fault.ensures
-    (pointer-fault-of-then3 c).before.if1.false (answer_second
-    (pointer-fault-of-then3 c).pointer-fault.ensures c.before.before.if2.false
-    (answer_first _ c.before.columns-fault.ensures c.if3.true))
-
-cost-fault-requires : tie.Need-cost-fault-requires
-cost-fault-requires c κs = ((sizes_accepted _ max_general _ _).0 (sym (else1-of-else3 c).before.size-fault.ensures ∙ (else1-of-else3 c).if1.false)).0
-
-returns-4 : tie.Need-returns-4
-unfolding graph_fault
-returns-4 c = answer_second (else1-of-else3 c.before).before.size-fault.ensures
-    (else1-of-else3 c.before).if1.false (answer_second
-    c.before.before.before.before.pointer-fault.ensures c.before.before.before.if2.false
-    (answer_second c.before.before.columns-fault.ensures c.before.if3.false c.cost-fault.ensures))
-
-pub graph-fault-spec : {M : Type 1} → statement M
-graph-fault-spec =
+pub graph_fault_spec : {M : Type 1} → statement M
+graph_fault_spec =
     tie.close
     (tie.spec
-    size-fault-requires
-    returns
-    pointer-fault-requires
-    returns-2
-    columns-fault-requires
-    returns-3
-    cost-fault-requires
-    returns-4)
+    size_fault-sizes-requires
+    returns-then-sizes-ne-ACCEPTED
+    pointer_fault-pointers-requires
+    returns-then-pointers-ne-ACCEPTED
+    columns_fault-columns-requires
+    returns-then-columns-ne-ACCEPTED
+    cost_fault-requires
+    returns)

@@ -8,70 +8,63 @@ use Rattle.sparse.proofs.Entries.{lower_range, lower_above, lower_right}
 use Rattle.sparse.proofs.csc.lower_fault.Statement.{statement}
 use Rattle.sparse.proofs.csc.lower_fault.Tie as tie
 
-abbrev invariant-loop : tie.invariant-loop
-invariant-loop n rows j from to k₀ k = Passed (lower_column n rows j from to) (lower_entry n rows j) to k
+abbrev invariant-loop-k : tie.invariant-loop-k
+invariant-loop-k n rows j from to k₀ k = Passed (lower_column n rows j from to) (lower_entry n rows j) to k
 
-abbrev decreases-loop : tie.decreases-loop
-decreases-loop n rows j from to k₀ k = to - k
+abbrev decreases-loop-k : tie.decreases-loop-k
+decreases-loop-k n rows j from to k₀ k = to - k
 
--- places of the proof, each from a later one
-abbrev in-loop-of-then2 : tie.Then2 invariant-loop decreases-loop → tie.In-loop invariant-loop decreases-loop
-in-loop-of-then2 c = c.before.before.before
-
-abbrev in-loop-of-else2 : tie.Else2 invariant-loop decreases-loop → tie.In-loop invariant-loop decreases-loop
-in-loop-of-else2 c = c.before.before.before
-
-loop-holds : tie.Need-loop-init invariant-loop decreases-loop
+loop-k-init : tie.Need-loop-k-init invariant-loop-k decreases-loop-k
 unfolding lower_column
-loop-holds c = refl
+loop-k-init c = refl
 
-mul-row : tie.Need-overflow-mul-row invariant-loop decreases-loop
-mul-row c = omega arith
+offset_bounds-row_idx-k : tie.Need-offset_bounds-row_idx-k invariant-loop-k decreases-loop-k
+offset_bounds-row_idx-k c = omega arith
 
-shared-slice-read-row : tie.Need-shared-slice-read-row invariant-loop decreases-loop
-shared-slice-read-row c = omega arith
+bounds-row_idx-k : tie.Need-bounds-row_idx-k invariant-loop-k decreases-loop-k
+bounds-row_idx-k c = omega arith
 
-cast-row : tie.Need-overflow-cast-row invariant-loop decreases-loop
-cast-row c = omega (arith, c.shared-slice-known.given c.before.before.loop.k)
+overflow_cast-row : tie.Need-overflow_cast-row invariant-loop-k decreases-loop-k
+overflow_cast-row c = omega (arith, c.shared_slice_known-1.given c.loop-k.k)
 
-returns : tie.Need-returns invariant-loop decreases-loop
-returns c =
-    let a = c.before.before.before.before.args in let l = c.before.before.before.loop in
-    (found _ _ l.k l.invariant c.before.before.loop-test.true (lower_range a.n a.row-idx.now l.k a.j c.if1.true) (omega arith))
+returns-then-row-n : tie.Need-returns-then-row-n invariant-loop-k decreases-loop-k
+returns-then-row-n c =
+    let a = c.args in let l = c.loop-k in
+    (found _ _ l.k l.invariant c.loop-k-test.true (lower_range a.n a.row-idx.now l.k a.j c.if-row-n.true) (omega arith))
 
-returns-2 : tie.Need-returns-2 invariant-loop decreases-loop
-returns-2 c =
-    let a = (in-loop-of-then2 c).before.before.args in let l = (in-loop-of-then2 c).before.loop in
-    (found _ _ l.k l.inv (in-loop-of-then2 c).loop-test.true
-    (lower_above a.n a.row-idx.now l.k a.j c.before.if1.false c.if2.true) (omega arith))
+returns-then-row-j : tie.Need-returns-then-row-j invariant-loop-k decreases-loop-k
+returns-then-row-j c =
+    let a = c.args in let l = c.loop-k in
+    (found _ _ l.k l.inv c.loop-k-test.true
+    (lower_above a.n a.row-idx.now l.k a.j c.if-row-n.false c.if-row-j.true) (omega arith))
 
-add-k : tie.Need-overflow-add-k invariant-loop decreases-loop
-add-k c = omega arith
+overflow_add-k : tie.Need-overflow_add-k invariant-loop-k decreases-loop-k
+overflow_add-k c = omega arith
 
-loop-less : tie.Need-loop-smaller invariant-loop decreases-loop
-loop-less c = omega arith
+loop-k-smaller : tie.Need-loop-k-smaller invariant-loop-k decreases-loop-k
+loop-k-smaller c = omega arith
 
-loop-again : tie.Need-loop-preserved invariant-loop decreases-loop
-loop-again c =
-    let a = (in-loop-of-else2 c).before.before.args in let l = (in-loop-of-else2 c).before.loop in
-    pass _ _ l.k l.inv (in-loop-of-else2 c).loop-test.true (lower_right a.n a.row-idx.now l.k a.j c.before.if1.false c.if2.false)
+loop-k-preserved : tie.Need-loop-k-preserved invariant-loop-k decreases-loop-k
+loop-k-preserved c =
+    let a = c.args in let l = c.loop-k in
+    pass _ _ l.k l.inv c.loop-k-test.true (lower_right a.n a.row-idx.now l.k a.j c.if-row-n.false c.if-row-j.false)
 
-returns-3 : tie.Need-returns-3 invariant-loop decreases-loop
-returns-3 c = (done _ _ c.before.loop.k c.before.loop.invariant c.loop-test.false)
+returns : tie.Need-returns invariant-loop-k decreases-loop-k
+returns-then-row-n c = (done _ _ c.loop-k.k c.loop-k.invariant c.loop-k-test.false)
 
-pub lower-fault-spec : {M : Type 1} → statement M
-lower-fault-spec =
+pub lower_fault_spec : {M : Type 1} → statement M
+lower_fault_spec =
     tie.close
     (tie.spec
-    invariant-loop
-    decreases-loop
-    loop-holds
-    mul-row
-    shared-slice-read-row
-    cast-row
-    returns
-    returns-2
-    add-k
-    loop-less
-    loop-again
-    returns-3)
+    invariant-loop-k
+    decreases-loop-k
+    loop-k-init
+    offset_bounds-row_idx-k
+    bounds-row_idx-k
+    overflow_cast-row
+    returns-then-row-n
+    returns-then-row-j
+    overflow_add-k
+    loop-k-smaller
+    loop-k-preserved
+    returns)

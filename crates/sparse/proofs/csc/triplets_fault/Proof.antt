@@ -9,122 +9,106 @@ use Rattle.sparse.proofs.First.{Passed, from_zero, pass, found, done}
 use Rattle.sparse.proofs.csc.triplets_fault.Statement.{statement}
 use Rattle.sparse.proofs.csc.triplets_fault.Tie as tie
 
-abbrev invariant-loop : tie.invariant-loop
-invariant-loop n rows cols k₀ k = Passed (first_of (length rows) (lower_triplet n rows cols) 0) (lower_triplet n rows cols) (length rows) k
+abbrev invariant-loop-k : tie.invariant-loop-k
+invariant-loop-k n rows cols k₀ k = Passed (first_of (length rows) (lower_triplet n rows cols) 0) (lower_triplet n rows cols) (length rows) k
 
-abbrev decreases-loop : tie.decreases-loop
-decreases-loop n rows cols k₀ k = length rows - k
+abbrev decreases-loop-k : tie.decreases-loop-k
+decreases-loop-k n rows cols k₀ k = length rows - k
 
--- places of the proof, each from a later one
-abbrev in-loop-of-then2 : tie.Then2 invariant-loop decreases-loop → tie.In-loop invariant-loop decreases-loop
-in-loop-of-then2 c = c.before.before.before.before
+loop-k-init : tie.Need-loop-k-init invariant-loop-k decreases-loop-k
+loop-k-init c = from_zero _ _
 
-abbrev else2-of-then3 : tie.Then3 invariant-loop decreases-loop → tie.Else2 invariant-loop decreases-loop
-else2-of-then3 c = c.before.before.before
+offset_bounds-rows-k : tie.Need-offset_bounds-rows-k invariant-loop-k decreases-loop-k
+offset_bounds-rows-k c = omega arith
 
-abbrev in-loop-of-then3 : tie.Then3 invariant-loop decreases-loop → tie.In-loop invariant-loop decreases-loop
-in-loop-of-then3 c = (else2-of-then3 c).before.before.before.before
+bounds-rows-k : tie.Need-bounds-rows-k invariant-loop-k decreases-loop-k
+bounds-rows-k c = omega arith
 
-abbrev else2-of-else3 : tie.Else3 invariant-loop decreases-loop → tie.Else2 invariant-loop decreases-loop
-else2-of-else3 c = c.before.before.before
+returns-then-rows-k : tie.Need-returns-then-rows-k invariant-loop-k decreases-loop-k
+returns-then-rows-k c =
+    let a = c.args in let l = c.loop-k in
+    found _ _ l.k l.invariant c.loop-k-test.true (rw (le-ltb (get_or a.rows.now l.k 0) a.n c.if-rows-k.true)) (omega arith)
 
-abbrev in-loop-of-else3 : tie.Else3 invariant-loop decreases-loop → tie.In-loop invariant-loop decreases-loop
-in-loop-of-else3 c = (else2-of-else3 c).before.before.before.before
+offset_bounds-cols-k : tie.Need-offset_bounds-cols-k invariant-loop-k decreases-loop-k
+offset_bounds-cols-k c = omega arith
 
-loop-holds : tie.Need-loop-init invariant-loop decreases-loop
-loop-holds c = from_zero _ _
+bounds-cols-k : tie.Need-bounds-cols-k invariant-loop-k decreases-loop-k
+bounds-cols-k c = omega arith
 
-mul-if1 : tie.Need-overflow-mul-if1 invariant-loop decreases-loop
-mul-if1 c = omega arith
-
-shared-slice-read-if1 : tie.Need-shared-slice-read-if1 invariant-loop decreases-loop
-shared-slice-read-if1 c = omega arith
-
-returns : tie.Need-returns invariant-loop decreases-loop
-returns c =
-    let a = c.before.before.before.before.args in let l = c.before.before.before.loop in
-    found _ _ l.k l.invariant c.before.before.loop-test.true (rw (le-ltb (get_or a.rows.now l.k 0) a.n c.if1.true)) (omega arith)
-
-mul-if2 : tie.Need-overflow-mul-if2 invariant-loop decreases-loop
-mul-if2 c = omega arith
-
-shared-slice-read-if2 : tie.Need-shared-slice-read-if2 invariant-loop decreases-loop
-shared-slice-read-if2 c = omega arith
-
-returns-2 : tie.Need-returns-2 invariant-loop decreases-loop
-returns-2 c =
-    let a = (in-loop-of-then2 c).before.before.args in let l = (in-loop-of-then2 c).before.loop in
-    found _ _ l.k l.inv (in-loop-of-then2 c).loop-test.true
+returns-then-cols-k : tie.Need-returns-then-cols-k invariant-loop-k decreases-loop-k
+returns-then-cols-k c =
+    let a = c.args in let l = c.loop-k in
+    found _ _ l.k l.inv c.loop-k-test.true
     (rw (
-      lt-ltb (get_or a.rows.now l.k 0) a.n c.before.before.if1.false,
+      lt-ltb (get_or a.rows.now l.k 0) a.n c.if-rows-k.false,
       le-ltb (get_or a.cols.now l.k 0)
-          a.n c.if2.true,
+          a.n c.if-cols-k.true,
     )) (omega arith)
 
-mul-if3 : tie.Need-overflow-mul-if3 invariant-loop decreases-loop
-mul-if3 c = omega arith
+offset_bounds-rows-k-in-loop-k : tie.Need-offset_bounds-rows-k-in-loop-k invariant-loop-k decreases-loop-k
+offset_bounds-rows-k-in-loop-k c = omega arith
 
-shared-slice-read-if3 : tie.Need-shared-slice-read-if3 invariant-loop decreases-loop
-shared-slice-read-if3 c = omega arith
+bounds-rows-k-in-loop-k : tie.Need-bounds-rows-k-in-loop-k invariant-loop-k decreases-loop-k
+bounds-rows-k-in-loop-k c = omega arith
 
-mul-if3-2 : tie.Need-overflow-mul-if3-2 invariant-loop decreases-loop
-mul-if3-2 c = omega arith
+offset_bounds-cols-k-in-loop-k : tie.Need-offset_bounds-cols-k-in-loop-k invariant-loop-k decreases-loop-k
+offset_bounds-cols-k-in-loop-k c = omega arith
 
-shared-slice-read-if3-2 : tie.Need-shared-slice-read-if3-2 invariant-loop decreases-loop
-shared-slice-read-if3-2 c = omega arith
+bounds-cols-k-in-loop-k : tie.Need-bounds-cols-k-in-loop-k invariant-loop-k decreases-loop-k
+bounds-cols-k-in-loop-k c = omega arith
 
-returns-3 : tie.Need-returns-3 invariant-loop decreases-loop
-returns-3 c =
-    let a = (in-loop-of-then3 c).before.before.args in let l = (in-loop-of-then3 c).before.loop in
-    found _ _ l.k l.inv (in-loop-of-then3 c).loop-test.true
+returns-then-rows-k-2 : tie.Need-returns-then-rows-k-2 invariant-loop-k decreases-loop-k
+returns-then-rows-k-2 c =
+    let a = c.args in let l = c.loop-k in
+    found _ _ l.k l.inv c.loop-k-test.true
     (rw (
-      lt-ltb (get_or a.rows.now l.k 0) a.n (else2-of-then3 c).before.before.if1.false,
+      lt-ltb (get_or a.rows.now l.k 0) a.n c.if-rows-k.false,
       lt-ltb
-          (get_or a.cols.now l.k 0) a.n (else2-of-then3 c).if2.false,
+          (get_or a.cols.now l.k 0) a.n c.if-cols-k.false,
       lt-leb (get_or a.cols.now l.k 0)
-          (get_or a.rows.now l.k 0) c.if3.true,
+          (get_or a.rows.now l.k 0) c.if-rows-k-2.true,
     )) (omega arith)
 
-add-k : tie.Need-overflow-add-k invariant-loop decreases-loop
-add-k c = omega arith
+overflow_add-k : tie.Need-overflow_add-k invariant-loop-k decreases-loop-k
+overflow_add-k c = omega arith
 
-loop-less : tie.Need-loop-smaller invariant-loop decreases-loop
-loop-less c = omega arith
+loop-k-smaller : tie.Need-loop-k-smaller invariant-loop-k decreases-loop-k
+loop-k-smaller c = omega arith
 
-loop-again : tie.Need-loop-preserved invariant-loop decreases-loop
-loop-again c =
-    let a = (in-loop-of-else3 c).before.before.args in let l = (in-loop-of-else3 c).before.loop in
-    pass _ _ l.k l.inv (in-loop-of-else3 c).loop-test.true
+loop-k-preserved : tie.Need-loop-k-preserved invariant-loop-k decreases-loop-k
+loop-k-preserved c =
+    let a = c.args in let l = c.loop-k in
+    pass _ _ l.k l.inv c.loop-k-test.true
     (rw (
-      lt-ltb (get_or a.rows.now l.k 0) a.n (else2-of-else3 c).before.before.if1.false,
+      lt-ltb (get_or a.rows.now l.k 0) a.n c.if-rows-k.false,
       lt-ltb
-          (get_or a.cols.now l.k 0) a.n (else2-of-else3 c).if2.false,
+          (get_or a.cols.now l.k 0) a.n c.if-cols-k.false,
       le-leb (get_or a.cols.now l.k 0)
-          (get_or a.rows.now l.k 0) c.if3.false,
+          (get_or a.rows.now l.k 0) c.if-rows-k-2.false,
     ))
 
-returns-4 : tie.Need-returns-4 invariant-loop decreases-loop
-returns-4 c = done _ _ c.before.loop.k c.before.loop.invariant c.loop-test.false
+returns : tie.Need-returns invariant-loop-k decreases-loop-k
+returns-then-rows-k c = done _ _ c.loop-k.k c.loop-k.invariant c.loop-k-test.false
 
-pub triplets-fault-spec : {M : Type 1} → statement M
-triplets-fault-spec =
+pub triplets_fault_spec : {M : Type 1} → statement M
+triplets_fault_spec =
     tie.close
     (tie.spec
-    invariant-loop
-    decreases-loop
-    loop-holds
-    mul-if1
-    shared-slice-read-if1
-    returns
-    mul-if2
-    shared-slice-read-if2
-    returns-2
-    mul-if3
-    shared-slice-read-if3
-    mul-if3-2
-    shared-slice-read-if3-2
-    returns-3
-    add-k
-    loop-less
-    loop-again
-    returns-4)
+    invariant-loop-k
+    decreases-loop-k
+    loop-k-init
+    offset_bounds-rows-k
+    bounds-rows-k
+    returns-then-rows-k
+    offset_bounds-cols-k
+    bounds-cols-k
+    returns-then-cols-k
+    offset_bounds-rows-k-in-loop-k
+    bounds-rows-k-in-loop-k
+    offset_bounds-cols-k-in-loop-k
+    bounds-cols-k-in-loop-k
+    returns-then-rows-k-2
+    overflow_add-k
+    loop-k-smaller
+    loop-k-preserved
+    returns)

@@ -1,4 +1,5 @@
 -- `csc::validate` meets its contract: the columns are tested where nothing else is wrong.
+use Rattle.std.proofs.Common.{rules}
 use mathlib.Core.Path.{sym, ◌∙◌}
 use native.Mathlib.Omega.{arith}
 use borrow.Author.Rules.{rules}
@@ -12,36 +13,36 @@ use Rattle.sparse.proofs.Validities.{refuses, answers}
 use Rattle.sparse.proofs.csc.validate.Statement.{statement}
 use Rattle.sparse.proofs.csc.validate.Tie as tie
 
--- places of the proof, each from a later one
-abbrev entry-of-frame-fault : tie.After-frame-fault → tie.Start
-entry-of-frame-fault c = c.before.before.before.before
+frame_fault-frame-requires : tie.Need-frame_fault-frame-requires
+frame_fault-frame-requires c κs = omega arith
 
-abbrev entry-of-else1 : tie.Else1 → tie.Start
-entry-of-else1 c = entry-of-frame-fault c.before
+returns-then-frame-ne-ACCEPTED : tie.Need-returns-then-frame-ne-ACCEPTED
+unfolding symmetric_fault
+returns-then-frame-ne-ACCEPTED c = let a = c.args in refuses (symmetric_listed (matrix a.n a.col-ptr.now a.row-idx.now a.values.now))
+    (answer_first _ c.frame_fault-frame.ensures c.if-frame-ne-ACCEPTED.true) c.if-frame-ne-ACCEPTED.true
 
-frame-fault-requires : tie.Need-frame-fault-requires
-frame-fault-requires c κs = omega arith
+columns_fault-requires : tie.Need-columns_fault-requires
+columns_fault-requires c κs =
+    let a = c.args in
+    let s = (frame_accepted max_symmetric (matrix a.n a.col-ptr.now a.row-idx.now a.values.now)).0
+    (sym c.frame_fault-frame.ensures ∙ c.if-frame-ne-ACCEPTED.false) in
+    (s.0.colptrs, s.1)
+
+validity_of-requires : tie.Need-validity_of-requires
+validity_of-requires c κs = search rules
 
 returns : tie.Need-returns
 unfolding symmetric_fault
-returns c = let a = (entry-of-frame-fault c.before).args in refuses (symmetric_listed (matrix a.n a.col-ptr.now a.row-idx.now a.values.now))
-    (answer_first _ c.before.frame-fault.ensures c.if1.true) c.if1.true
+returns-then-frame-ne-ACCEPTED c = let a = c.args in
+    answers (symmetric_listed (matrix a.n a.col-ptr.now a.row-idx.now a.values.now)) c.validity_of.ensures
+    (answer_second c.frame_fault-frame.ensures c.if-frame-ne-ACCEPTED.false c.columns_fault.ensures)
 
-columns-fault-requires : tie.Need-columns-fault-requires
-columns-fault-requires c κs =
-    let a = (entry-of-else1 c).args in
-    let s = (frame_accepted max_symmetric (matrix a.n a.col-ptr.now a.row-idx.now a.values.now)).0
-    (sym c.before.frame-fault.ensures ∙ c.if1.false) in
-    (s.0.colptrs, s.1)
-
-validity-of-requires : tie.Need-validity-of-requires
-validity-of-requires c κs = search rules
-
-returns-2 : tie.Need-returns-2
-unfolding symmetric_fault
-returns-2 c = let a = (entry-of-else1 c.before.before).args in
-    answers (symmetric_listed (matrix a.n a.col-ptr.now a.row-idx.now a.values.now)) c.validity-of.ensures
-    (answer_second c.before.before.before.frame-fault.ensures c.before.before.if1.false c.before.columns-fault.ensures)
-
-pub validate-spec : {M : Type 1} → statement M
-validate-spec = tie.close (tie.spec frame-fault-requires returns columns-fault-requires validity-of-requires returns-2)
+pub validate_spec : {M : Type 1} → statement M
+validate_spec =
+    tie.close
+    (tie.spec
+    frame_fault-frame-requires
+    returns-then-frame-ne-ACCEPTED
+    columns_fault-requires
+    validity_of-requires
+    returns)

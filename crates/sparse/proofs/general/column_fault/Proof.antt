@@ -1,22 +1,28 @@
 -- `general::column_fault` meets its contract: a column that rises has no fault, of any other the first is sought.
+use Rattle.std.proofs.Common.{rules}
 use mathlib.Core.Path.{sym, ◌∙◌}
 use borrow.Author.Rules.{rules}
 use borrow.Author.Tests.{eqb-true}
 use Rattle.sparse.proofs.general.column_fault.Statement.{statement}
 use Rattle.sparse.proofs.general.column_fault.Tie as tie
 
-column-rises-requires : tie.Need-column-rises-requires
-column-rises-requires c κs = search rules
+column_rises-requires : tie.Need-column_rises-requires
+column_rises-requires c κs = search rules
+
+returns-then-column_rises : tie.Need-returns-then-column_rises
+returns-then-column_rises c = sym (eqb-true _ _ (sym c.column_rises.ensures ∙ c.if-column_rises.true))
+
+first_fault-requires : tie.Need-first_fault-requires
+first_fault-requires c κs = search rules
 
 returns : tie.Need-returns
-returns c = sym (eqb-true _ _ (sym c.before.column_rises.ensures ∙ c.if1.true))
+returns-then-column_rises c = search rules
 
-first-fault-requires : tie.Need-first-fault-requires
-first-fault-requires c κs = search rules
-
-returns-2 : tie.Need-returns-2
-returns-2 c = search rules
-
-pub column-fault-spec : {M : Type 1} → statement M
-column-fault-spec =
-    tie.close (tie.spec column-rises-requires returns first-fault-requires returns-2)
+pub column_fault_spec : {M : Type 1} → statement M
+column_fault_spec =
+    tie.close
+    (tie.spec
+    column_rises-requires
+    returns-then-column_rises
+    first_fault-requires
+    returns)

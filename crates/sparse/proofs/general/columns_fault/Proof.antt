@@ -10,93 +10,82 @@ use Rattle.sparse.proofs.Accepted.{pointer_below}
 use Rattle.sparse.proofs.general.columns_fault.Statement.{statement}
 use Rattle.sparse.proofs.general.columns_fault.Tie as tie
 
-abbrev invariant-loop : tie.invariant-loop
-invariant-loop n col_ptr rows j₀ j = Passed (general_columns n col_ptr rows) (λ j. general_column n rows (get_or col_ptr j 0) (get_or col_ptr (suc j) 0)) n j
+abbrev invariant-loop-j : tie.invariant-loop-j
+invariant-loop-j n col_ptr rows j₀ j = Passed (general_columns n col_ptr rows) (λ j. general_column n rows (get_or col_ptr j 0) (get_or col_ptr (suc j) 0)) n j
 
-abbrev decreases-loop : tie.decreases-loop
-decreases-loop n col_ptr rows j₀ j = n - j
+abbrev decreases-loop-j : tie.decreases-loop-j
+decreases-loop-j n col_ptr rows j₀ j = n - j
 
--- places of the proof, each from a later one
-abbrev loop-of-shared-slice-known4 : tie.After-shared-slice-known4 invariant-loop decreases-loop → tie.At-loop invariant-loop decreases-loop
-loop-of-shared-slice-known4 c = c.before.before.before
-
-abbrev entry-of-shared-slice-known4 : tie.After-shared-slice-known4 invariant-loop decreases-loop → tie.Start invariant-loop decreases-loop
-entry-of-shared-slice-known4 c = (loop-of-shared-slice-known4 c).before.before.before
-
-loop-holds : tie.Need-loop-init invariant-loop decreases-loop
+loop-j-init : tie.Need-loop-j-init invariant-loop-j decreases-loop-j
 unfolding general_columns
-loop-holds c = from_zero _ _
+loop-j-init c = from_zero _ _
 
-mul-column-fault : tie.Need-overflow-mul-column-fault invariant-loop decreases-loop
-mul-column-fault c = omega arith
+offset_bounds-col_ptr-j : tie.Need-offset_bounds-col_ptr-j invariant-loop-j decreases-loop-j
+offset_bounds-col_ptr-j c = omega arith
 
-shared-slice-read-column-fault : tie.Need-shared-slice-read-column-fault invariant-loop decreases-loop
-shared-slice-read-column-fault c = omega arith
+bounds-col_ptr-j : tie.Need-bounds-col_ptr-j invariant-loop-j decreases-loop-j
+bounds-col_ptr-j c = omega arith
 
-cast-column-fault : tie.Need-overflow-cast-column-fault invariant-loop decreases-loop
-cast-column-fault c = omega (arith, c.shared-slice-known3.given c.before.before.loop.j)
+overflow_cast-col_ptr : tie.Need-overflow_cast-col_ptr invariant-loop-j decreases-loop-j
+overflow_cast-col_ptr c = omega (arith, c.shared_slice_known-in-loop-j-1.given c.loop-j.j)
 
-add-column-fault : tie.Need-overflow-add-column-fault invariant-loop decreases-loop
-add-column-fault c = omega arith
+overflow_add-j : tie.Need-overflow_add-j invariant-loop-j decreases-loop-j
+overflow_add-j c = omega arith
 
-mul-column-fault-2 : tie.Need-overflow-mul-column-fault-2 invariant-loop decreases-loop
-mul-column-fault-2 c = omega arith
+offset_bounds-col_ptr-j-in-loop-j : tie.Need-offset_bounds-col_ptr-j-in-loop-j invariant-loop-j decreases-loop-j
+offset_bounds-col_ptr-j-in-loop-j c = omega arith
 
-shared-slice-read-column-fault-2 : tie.Need-shared-slice-read-column-fault-2 invariant-loop decreases-loop
-shared-slice-read-column-fault-2 c = omega arith
+bounds-col_ptr-j-in-loop-j : tie.Need-bounds-col_ptr-j-in-loop-j invariant-loop-j decreases-loop-j
+bounds-col_ptr-j-in-loop-j c = omega arith
 
-cast-column-fault-2 : tie.Need-overflow-cast-column-fault-2 invariant-loop decreases-loop
-cast-column-fault-2 c = omega (arith, c.shared-slice-known4.given ((loop-of-shared-slice-known4 c).loop.j + 1))
+overflow_cast-col_ptr-in-loop-j : tie.Need-overflow_cast-col_ptr-in-loop-j invariant-loop-j decreases-loop-j
+overflow_cast-col_ptr-in-loop-j c = omega (arith, c.shared_slice_known-in-loop-j-2-1.given (c.loop-j.j + 1))
 
-column-fault-requires : tie.Need-column-fault-requires invariant-loop decreases-loop
-column-fault-requires c κs = let p = (entry-of-shared-slice-known4 c).requires.1 in (
-  rw add-one (p.rises (loop-of-shared-slice-known4 c).loop.j c.before.before.loop-test.true),
+column_fault-fault-requires : tie.Need-column_fault-fault-requires invariant-loop-j decreases-loop-j
+column_fault-fault-requires c κs = let p = c.requires.pointers in (
+  rw add-one (p.rises c.loop-j.j c.loop-j-test.true),
   pointer_below p
-      ((loop-of-shared-slice-known4 c).loop.j + 1) (omega arith),
+      (c.loop-j.j + 1) (omega arith),
 )
 
-returns : tie.Need-returns invariant-loop decreases-loop
-returns c =
-    let in-loop = c.before.before.before.before in
-    let loop = in-loop.before in
-    ((found _ _ loop.loop.j loop.loop.invariant
-    in-loop.loop-test.true (rw (← add-one) (sym c.before.column-fault.ensures))
-    c.if1.true))
+returns-then-fault-ne-ACCEPTED : tie.Need-returns-then-fault-ne-ACCEPTED invariant-loop-j decreases-loop-j
+returns-then-fault-ne-ACCEPTED c =
+    ((found _ _ c.loop-j.j c.loop-j.invariant
+    c.loop-j-test.true (rw (← add-one) (sym c.column_fault-fault.ensures))
+    c.if-fault-ne-ACCEPTED.true))
 
-add-j : tie.Need-overflow-add-j invariant-loop decreases-loop
-add-j c = omega arith
+overflow_add-j-in-loop-j : tie.Need-overflow_add-j-in-loop-j invariant-loop-j decreases-loop-j
+overflow_add-j-in-loop-j c = omega arith
 
-loop-less : tie.Need-loop-smaller invariant-loop decreases-loop
-loop-less c = omega arith
+loop-j-smaller : tie.Need-loop-j-smaller invariant-loop-j decreases-loop-j
+loop-j-smaller c = omega arith
 
-loop-again : tie.Need-loop-preserved invariant-loop decreases-loop
-loop-again c =
-    let in-loop = c.before.before.before.before in
-    let loop = in-loop.before in
-    pass _ _ loop.loop.j loop.loop.invariant
-    in-loop.loop-test.true (rw (← add-one)
-    (sym c.before.column-fault.ensures ∙ c.if1.false))
+loop-j-preserved : tie.Need-loop-j-preserved invariant-loop-j decreases-loop-j
+loop-j-preserved c =
+    pass _ _ c.loop-j.j c.loop-j.invariant
+    c.loop-j-test.true (rw (← add-one)
+    (sym c.column_fault-fault.ensures ∙ c.if-fault-ne-ACCEPTED.false))
 
-returns-2 : tie.Need-returns-2 invariant-loop decreases-loop
-returns-2 c = ((done _ _ c.before.loop.j c.before.loop.invariant c.loop-test.false))
+returns : tie.Need-returns invariant-loop-j decreases-loop-j
+returns-then-fault-ne-ACCEPTED c = ((done _ _ c.loop-j.j c.loop-j.invariant c.loop-j-test.false))
 
-pub columns-fault-spec : {M : Type 1} → statement M
-columns-fault-spec =
+pub columns_fault_spec : {M : Type 1} → statement M
+columns_fault_spec =
     tie.close
     (tie.spec
-    invariant-loop
-    decreases-loop
-    loop-holds
-    mul-column-fault
-    shared-slice-read-column-fault
-    cast-column-fault
-    add-column-fault
-    mul-column-fault-2
-    shared-slice-read-column-fault-2
-    cast-column-fault-2
-    column-fault-requires
-    returns
-    add-j
-    loop-less
-    loop-again
-    returns-2)
+    invariant-loop-j
+    decreases-loop-j
+    loop-j-init
+    offset_bounds-col_ptr-j
+    bounds-col_ptr-j
+    overflow_cast-col_ptr
+    overflow_add-j
+    offset_bounds-col_ptr-j-in-loop-j
+    bounds-col_ptr-j-in-loop-j
+    overflow_cast-col_ptr-in-loop-j
+    column_fault-fault-requires
+    returns-then-fault-ne-ACCEPTED
+    overflow_add-j-in-loop-j
+    loop-j-smaller
+    loop-j-preserved
+    returns)

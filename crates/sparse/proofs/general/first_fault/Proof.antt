@@ -8,81 +8,74 @@ use Rattle.sparse.proofs.Entries as Entries
 use Rattle.sparse.proofs.general.first_fault.Statement.{statement}
 use Rattle.sparse.proofs.general.first_fault.Tie as tie
 
-abbrev invariant-loop : tie.invariant-loop
-invariant-loop n rows from to least₀ k₀ least k =
+abbrev invariant-loop-k : tie.invariant-loop-k
+invariant-loop-k n rows from to least₀ k₀ least k =
     (from ≤ k) × (least ≡ Entries.least rows from k) × Passed (general_column n rows from to) (general_entry n rows from) to k
 
-abbrev decreases-loop : tie.decreases-loop
-decreases-loop n rows from to least₀ k₀ least k = to - k
+abbrev decreases-loop-k : tie.decreases-loop-k
+decreases-loop-k n rows from to least₀ k₀ least k = to - k
 
--- places of the proof, each from a later one
-abbrev in-loop-of-then2 : tie.Then2 invariant-loop decreases-loop → tie.In-loop invariant-loop decreases-loop
-in-loop-of-then2 c = c.before.before.before
-
-abbrev in-loop-of-else2 : tie.Else2 invariant-loop decreases-loop → tie.In-loop invariant-loop decreases-loop
-in-loop-of-else2 c = c.before.before.before
-
-loop-holds : tie.Need-loop-init invariant-loop decreases-loop
+loop-k-init : tie.Need-loop-k-init invariant-loop-k decreases-loop-k
 unfolding general_column
-loop-holds c = (omega arith, sym (Entries.least_first c.args.row-idx.now c.args.from), refl)
+loop-k-init c = (omega arith, sym (Entries.least_first c.args.row-idx.now c.args.from), refl)
 
-mul-row : tie.Need-overflow-mul-row invariant-loop decreases-loop
-mul-row c = omega arith
+offset_bounds-row_idx-k : tie.Need-offset_bounds-row_idx-k invariant-loop-k decreases-loop-k
+offset_bounds-row_idx-k c = omega arith
 
-shared-slice-read-row : tie.Need-shared-slice-read-row invariant-loop decreases-loop
-shared-slice-read-row c = omega arith
+bounds-row_idx-k : tie.Need-bounds-row_idx-k invariant-loop-k decreases-loop-k
+bounds-row_idx-k c = omega arith
 
-cast-row : tie.Need-overflow-cast-row invariant-loop decreases-loop
-cast-row c = omega (arith, c.shared-slice-known.given c.before.before.loop.k)
+overflow_cast-row : tie.Need-overflow_cast-row invariant-loop-k decreases-loop-k
+overflow_cast-row c = omega (arith, c.shared_slice_known-1.given c.loop-k.k)
 
-returns : tie.Need-returns invariant-loop decreases-loop
-returns c =
-    let a = c.before.before.before.before.args in let l = c.before.before.before.loop in
-    (found _ _ l.k l.invariant.2 c.before.before.loop-test.true
-    (Entries.general_range a.n a.row-idx.now l.k a.from c.if1.true) (omega arith))
+returns-then-row-n : tie.Need-returns-then-row-n invariant-loop-k decreases-loop-k
+returns-then-row-n c =
+    let a = c.args in let l = c.loop-k in
+    (found _ _ l.k l.invariant.2 c.loop-k-test.true
+    (Entries.general_range a.n a.row-idx.now l.k a.from c.if-row-n.true) (omega arith))
 
-returns-2 : tie.Need-returns-2 invariant-loop decreases-loop
-returns-2 c =
-    let a = (in-loop-of-then2 c).before.before.args in let l = (in-loop-of-then2 c).before.loop in
-    (found _ _ l.k l.inv.2 (in-loop-of-then2 c).loop-test.true
-    (Entries.general_falls a.n a.row-idx.now l.k a.from c.before.if1.false (rw (← l.inv.1) c.if2.true))
+returns-then-row-least : tie.Need-returns-then-row-least invariant-loop-k decreases-loop-k
+returns-then-row-least c =
+    let a = c.args in let l = c.loop-k in
+    (found _ _ l.k l.inv.2 c.loop-k-test.true
+    (Entries.general_falls a.n a.row-idx.now l.k a.from c.if-row-n.false (rw (← l.inv.1) c.if-row-least.true))
     (omega arith))
 
-add-least : tie.Need-overflow-add-least invariant-loop decreases-loop
-add-least c = omega arith
+overflow_add-least : tie.Need-overflow_add-least invariant-loop-k decreases-loop-k
+overflow_add-least c = omega arith
 
-add-k : tie.Need-overflow-add-k invariant-loop decreases-loop
-add-k c = omega arith
+overflow_add-k : tie.Need-overflow_add-k invariant-loop-k decreases-loop-k
+overflow_add-k c = omega arith
 
-loop-less : tie.Need-loop-smaller invariant-loop decreases-loop
-loop-less c = omega arith
+loop-k-smaller : tie.Need-loop-k-smaller invariant-loop-k decreases-loop-k
+loop-k-smaller c = omega arith
 
-loop-again : tie.Need-loop-preserved invariant-loop decreases-loop
-loop-again c =
-    let a = (in-loop-of-else2 c).before.before.args in let l = (in-loop-of-else2 c).before.loop in (
+loop-k-preserved : tie.Need-loop-k-preserved invariant-loop-k decreases-loop-k
+loop-k-preserved c =
+    let a = c.args in let l = c.loop-k in (
       omega arith,
       sym (Entries.least_next a.row-idx.now a.from l.k l.inv.0),
-      pass _ _ l.k l.inv.2 (in-loop-of-else2 c).loop-test.true
-          (Entries.general_right a.n a.row-idx.now l.k a.from c.before.if1.false (rw (← l.inv.1) c.if2.false)),
+      pass _ _ l.k l.inv.2 c.loop-k-test.true
+          (Entries.general_right a.n a.row-idx.now l.k a.from c.if-row-n.false (rw (← l.inv.1) c.if-row-least.false)),
     )
 
-returns-3 : tie.Need-returns-3 invariant-loop decreases-loop
-returns-3 c = (done _ _ c.before.loop.k c.before.loop.invariant.2 c.loop-test.false)
+returns : tie.Need-returns invariant-loop-k decreases-loop-k
+returns-then-row-n c = (done _ _ c.loop-k.k c.loop-k.invariant.2 c.loop-k-test.false)
 
-pub first-fault-spec : {M : Type 1} → statement M
-first-fault-spec =
+pub first_fault_spec : {M : Type 1} → statement M
+first_fault_spec =
     tie.close
     (tie.spec
-    invariant-loop
-    decreases-loop
-    loop-holds
-    mul-row
-    shared-slice-read-row
-    cast-row
-    returns
-    returns-2
-    add-least
-    add-k
-    loop-less
-    loop-again
-    returns-3)
+    invariant-loop-k
+    decreases-loop-k
+    loop-k-init
+    offset_bounds-row_idx-k
+    bounds-row_idx-k
+    overflow_cast-row
+    returns-then-row-n
+    returns-then-row-least
+    overflow_add-least
+    overflow_add-k
+    loop-k-smaller
+    loop-k-preserved
+    returns)

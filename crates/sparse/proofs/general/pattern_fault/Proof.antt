@@ -1,4 +1,5 @@
 -- `general::pattern_fault` meets its contract: each return is the first fault of the chain.
+use Rattle.std.proofs.Common.{rules}
 use mathlib.Core.Path.{◌≡◌, sym, ◌∙◌}
 use Prim.Native.Nat.{◌+◌}
 use lib.ListN.{length}
@@ -10,43 +11,46 @@ use Rattle.sparse.proofs.Accepted.{sizes_accepted, pointers_accepted}
 use Rattle.sparse.proofs.general.pattern_fault.Statement.{statement}
 use Rattle.sparse.proofs.general.pattern_fault.Tie as tie
 
--- places of the proof, each from a later one
-abbrev entry-of-else1 : tie.Else1 → tie.Start
-entry-of-else1 c = c.before.before.before.before
-
 -- the slices have their lengths where the sizes pass
-fit : (c : tie.Else1) → let a = (entry-of-else1 c).args in length a.col-ptr.now ≡ a.n + 1
+fit : (c : tie.Else-sizes-ne-ACCEPTED) → let a = c.args in length a.col-ptr.now ≡ a.n + 1
 fit c =
-    let a = (entry-of-else1 c).args in
-    let s : size_fault a.n max_general (length a.row-idx.now) a.lengths ≡ 0 = sym c.before.size-fault.ensures ∙ c.if1.false in
-    (entry-of-else1 c).requires ((sizes_accepted a.n max_general (length a.row-idx.now) a.lengths).0 s).2
+    let a = c.args in
+    let s : size_fault a.n max_general (length a.row-idx.now) a.lengths ≡ 0 = sym c.size_fault-sizes.ensures ∙ c.if-sizes-ne-ACCEPTED.false in
+    c.requires ((sizes_accepted a.n max_general (length a.row-idx.now) a.lengths).0 s).2
 
-size-fault-requires : tie.Need-size-fault-requires
-size-fault-requires c κs = search rules
+size_fault-sizes-requires : tie.Need-size_fault-sizes-requires
+size_fault-sizes-requires c κs = search rules
+
+returns-then-sizes-ne-ACCEPTED : tie.Need-returns-then-sizes-ne-ACCEPTED
+unfolding pattern_fault
+returns-then-sizes-ne-ACCEPTED c = answer_first _ c.size_fault-sizes.ensures c.if-sizes-ne-ACCEPTED.true
+
+pointer_fault-pointers-requires : tie.Need-pointer_fault-pointers-requires
+pointer_fault-pointers-requires c κs = fit c
+
+returns-then-pointers-ne-ACCEPTED : tie.Need-returns-then-pointers-ne-ACCEPTED
+unfolding pattern_fault
+returns-then-pointers-ne-ACCEPTED c = answer_second c.size_fault-sizes.ensures c.if-sizes-ne-ACCEPTED.false
+    (answer_first _ c.pointer_fault-pointers.ensures c.if-pointers-ne-ACCEPTED.true)
+
+columns_fault-requires : tie.Need-columns_fault-requires
+columns_fault-requires c κs =
+    let a = c.args in
+    (fit c.before.before, (pointers_accepted a.n a.col-ptr.now (length a.row-idx.now)).0 (sym c.pointer_fault-pointers.ensures ∙ c.if-pointers-ne-ACCEPTED.false))
 
 returns : tie.Need-returns
 unfolding pattern_fault
-returns c = answer_first _ c.before.size-fault.ensures c.if1.true
+returns-then-sizes-ne-ACCEPTED c =
+    answer_second c.size_fault-sizes.ensures c.if-sizes-ne-ACCEPTED.false
+    (answer_second c.pointer_fault-pointers.ensures c.if-pointers-ne-ACCEPTED.false c.columns_fault.ensures)
 
-pointer-fault-requires : tie.Need-pointer-fault-requires
-pointer-fault-requires c κs = fit c
-
-returns-2 : tie.Need-returns-2
-unfolding pattern_fault
-returns-2 c = answer_second c.before.before.before.size-fault.ensures c.before.before.if1.false
-    (answer_first _ c.before.pointer-fault.ensures c.if2.true)
-
-columns-fault-requires : tie.Need-columns-fault-requires
-columns-fault-requires c κs =
-    let a = (entry-of-else1 c.before.before).args in
-    (fit c.before.before, (pointers_accepted a.n a.col-ptr.now (length a.row-idx.now)).0 (sym c.before.pointer-fault.ensures ∙ c.if2.false))
-
-returns-3 : tie.Need-returns-3
-unfolding pattern_fault
-returns-3 c =
-    answer_second c.before.before.before.before.size-fault.ensures c.before.before.before.if1.false
-    (answer_second c.before.before.pointer-fault.ensures c.before.if2.false c.columns-fault.ensures)
-
-pub pattern-fault-spec : {M : Type 1} → statement M
-pattern-fault-spec =
-    tie.close (tie.spec size-fault-requires returns pointer-fault-requires returns-2 columns-fault-requires returns-3)
+pub pattern_fault_spec : {M : Type 1} → statement M
+pattern_fault_spec =
+    tie.close
+    (tie.spec
+    size_fault-sizes-requires
+    returns-then-sizes-ne-ACCEPTED
+    pointer_fault-pointers-requires
+    returns-then-pointers-ne-ACCEPTED
+    columns_fault-requires
+    returns)

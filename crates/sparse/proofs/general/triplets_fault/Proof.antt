@@ -9,78 +9,71 @@ use Rattle.sparse.proofs.First.{Passed, from_zero, pass, found, done}
 use Rattle.sparse.proofs.general.triplets_fault.Statement.{statement}
 use Rattle.sparse.proofs.general.triplets_fault.Tie as tie
 
-abbrev invariant-loop : tie.invariant-loop
-invariant-loop n rows cols k₀ k = Passed (first_of (length rows) (general_triplet n rows cols) 0) (general_triplet n rows cols) (length rows) k
+abbrev invariant-loop-k : tie.invariant-loop-k
+invariant-loop-k n rows cols k₀ k = Passed (first_of (length rows) (general_triplet n rows cols) 0) (general_triplet n rows cols) (length rows) k
 
-abbrev decreases-loop : tie.decreases-loop
-decreases-loop n rows cols k₀ k = length rows - k
+abbrev decreases-loop-k : tie.decreases-loop-k
+decreases-loop-k n rows cols k₀ k = length rows - k
 
--- places of the proof, each from a later one
-abbrev in-loop-of-then2 : tie.Then2 invariant-loop decreases-loop → tie.In-loop invariant-loop decreases-loop
-in-loop-of-then2 c = c.before.before.before.before
+loop-k-init : tie.Need-loop-k-init invariant-loop-k decreases-loop-k
+loop-k-init c = from_zero _ _
 
-abbrev in-loop-of-else2 : tie.Else2 invariant-loop decreases-loop → tie.In-loop invariant-loop decreases-loop
-in-loop-of-else2 c = c.before.before.before.before
+offset_bounds-rows-k : tie.Need-offset_bounds-rows-k invariant-loop-k decreases-loop-k
+offset_bounds-rows-k c = omega arith
 
-loop-holds : tie.Need-loop-init invariant-loop decreases-loop
-loop-holds c = from_zero _ _
+bounds-rows-k : tie.Need-bounds-rows-k invariant-loop-k decreases-loop-k
+bounds-rows-k c = omega arith
 
-mul-if1 : tie.Need-overflow-mul-if1 invariant-loop decreases-loop
-mul-if1 c = omega arith
+returns-then-rows-k : tie.Need-returns-then-rows-k invariant-loop-k decreases-loop-k
+returns-then-rows-k c =
+    let a = c.args in let l = c.loop-k in
+    found _ _ l.k l.invariant c.loop-k-test.true (rw (le-ltb (get_or a.rows.now l.k 0) a.n c.if-rows-k.true)) (omega arith)
 
-shared-slice-read-if1 : tie.Need-shared-slice-read-if1 invariant-loop decreases-loop
-shared-slice-read-if1 c = omega arith
+offset_bounds-cols-k : tie.Need-offset_bounds-cols-k invariant-loop-k decreases-loop-k
+offset_bounds-cols-k c = omega arith
 
-returns : tie.Need-returns invariant-loop decreases-loop
-returns c =
-    let a = c.before.before.before.before.args in let l = c.before.before.before.loop in
-    found _ _ l.k l.invariant c.before.before.loop-test.true (rw (le-ltb (get_or a.rows.now l.k 0) a.n c.if1.true)) (omega arith)
+bounds-cols-k : tie.Need-bounds-cols-k invariant-loop-k decreases-loop-k
+bounds-cols-k c = omega arith
 
-mul-if2 : tie.Need-overflow-mul-if2 invariant-loop decreases-loop
-mul-if2 c = omega arith
-
-shared-slice-read-if2 : tie.Need-shared-slice-read-if2 invariant-loop decreases-loop
-shared-slice-read-if2 c = omega arith
-
-returns-2 : tie.Need-returns-2 invariant-loop decreases-loop
-returns-2 c =
-    let a = (in-loop-of-then2 c).before.before.args in let l = (in-loop-of-then2 c).before.loop in
-    found _ _ l.k l.inv (in-loop-of-then2 c).loop-test.true
+returns-then-cols-k : tie.Need-returns-then-cols-k invariant-loop-k decreases-loop-k
+returns-then-cols-k c =
+    let a = c.args in let l = c.loop-k in
+    found _ _ l.k l.inv c.loop-k-test.true
     (rw (
-      lt-ltb (get_or a.rows.now l.k 0) a.n c.before.before.if1.false,
+      lt-ltb (get_or a.rows.now l.k 0) a.n c.if-rows-k.false,
       le-ltb (get_or a.cols.now l.k 0)
-          a.n c.if2.true,
+          a.n c.if-cols-k.true,
     )) (omega arith)
 
-add-k : tie.Need-overflow-add-k invariant-loop decreases-loop
-add-k c = omega arith
+overflow_add-k : tie.Need-overflow_add-k invariant-loop-k decreases-loop-k
+overflow_add-k c = omega arith
 
-loop-less : tie.Need-loop-smaller invariant-loop decreases-loop
-loop-less c = omega arith
+loop-k-smaller : tie.Need-loop-k-smaller invariant-loop-k decreases-loop-k
+loop-k-smaller c = omega arith
 
-loop-again : tie.Need-loop-preserved invariant-loop decreases-loop
-loop-again c =
-    let a = (in-loop-of-else2 c).before.before.args in let l = (in-loop-of-else2 c).before.loop in
-    pass _ _ l.k l.inv (in-loop-of-else2 c).loop-test.true
-    (rw (lt-ltb (get_or a.rows.now l.k 0) a.n c.before.before.if1.false, lt-ltb (get_or a.cols.now l.k 0) a.n c.if2.false))
+loop-k-preserved : tie.Need-loop-k-preserved invariant-loop-k decreases-loop-k
+loop-k-preserved c =
+    let a = c.args in let l = c.loop-k in
+    pass _ _ l.k l.inv c.loop-k-test.true
+    (rw (lt-ltb (get_or a.rows.now l.k 0) a.n c.if-rows-k.false, lt-ltb (get_or a.cols.now l.k 0) a.n c.if-cols-k.false))
 
-returns-3 : tie.Need-returns-3 invariant-loop decreases-loop
-returns-3 c = done _ _ c.before.loop.k c.before.loop.invariant c.loop-test.false
+returns : tie.Need-returns invariant-loop-k decreases-loop-k
+returns-then-rows-k c = done _ _ c.loop-k.k c.loop-k.invariant c.loop-k-test.false
 
-pub triplets-fault-spec : {M : Type 1} → statement M
-triplets-fault-spec =
+pub triplets_fault_spec : {M : Type 1} → statement M
+triplets_fault_spec =
     tie.close
     (tie.spec
-    invariant-loop
-    decreases-loop
-    loop-holds
-    mul-if1
-    shared-slice-read-if1
-    returns
-    mul-if2
-    shared-slice-read-if2
-    returns-2
-    add-k
-    loop-less
-    loop-again
-    returns-3)
+    invariant-loop-k
+    decreases-loop-k
+    loop-k-init
+    offset_bounds-rows-k
+    bounds-rows-k
+    returns-then-rows-k
+    offset_bounds-cols-k
+    bounds-cols-k
+    returns-then-cols-k
+    overflow_add-k
+    loop-k-smaller
+    loop-k-preserved
+    returns)

@@ -6,92 +6,85 @@ use Rattle.sparse.specs.Assemble.{triplet_lengths}
 use Rattle.sparse.proofs.layout.lengths_fit.Statement.{statement}
 use Rattle.sparse.proofs.layout.lengths_fit.Tie as tie
 
--- places of the proof, each from a later one
-abbrev else2-of-then5 : tie.Then5 → tie.Else2
-else2-of-then5 c = c.before.before.before
+returns-then-cols-count : tie.Need-returns-then-cols-count
+unfolding triplet_lengths
+returns-then-cols-count c = let a = c.args in rw (ne_eqb a.cols a.count c.if-cols-count.true)
 
-abbrev else2-of-else5 : tie.Else5 → tie.Else2
-else2-of-else5 c = c.before.before.before
+returns-then-vals-count : tie.Need-returns-then-vals-count
+unfolding triplet_lengths
+returns-then-vals-count c = let a = c.args in rw (eq-eqb a.cols a.count c.if-cols-count.false, ne_eqb a.vals a.count c.if-vals-count.true)
+
+overflow_add-n : tie.Need-overflow_add-n
+overflow_add-n c = omega arith
+
+returns-then-col_ptr-n : tie.Need-returns-then-col_ptr-n
+unfolding triplet_lengths
+returns-then-col_ptr-n c = let a = c.args in
+    rw (
+      eq-eqb a.cols a.count c.if-cols-count.false,
+      eq-eqb a.vals a.count c.if-vals-count.false,
+      ne_eqb a.col-ptr (a.n + 1)
+          c.if-col_ptr-n.true,
+    )
+
+returns-then-row_idx-count : tie.Need-returns-then-row_idx-count
+unfolding triplet_lengths
+returns-then-row_idx-count c = let a = c.args in
+    rw (
+      eq-eqb a.cols a.count c.if-cols-count.false,
+      eq-eqb a.vals a.count
+          c.if-vals-count.false,
+      eq-eqb a.col-ptr (a.n + 1) c.if-col_ptr-n.false,
+      ne_eqb a.row-idx a.count
+          c.if-row_idx-count.true,
+    )
+
+returns-then-values-count : tie.Need-returns-then-values-count
+unfolding triplet_lengths
+returns-then-values-count c = let a = c.args in
+    rw (
+      eq-eqb a.cols a.count c.if-cols-count.false,
+      eq-eqb a.vals a.count
+          c.if-vals-count.false,
+      eq-eqb a.col-ptr (a.n + 1) c.if-col_ptr-n.false,
+      eq-eqb a.row-idx
+          a.count c.if-row_idx-count.false,
+      ne_eqb a.values a.count c.if-values-count.true,
+    )
+
+overflow_mul-result : tie.Need-overflow_mul-result
+overflow_mul-result c = omega arith
+
+overflow_add-result : tie.Need-overflow_add-result
+overflow_add-result c = omega arith
+
+overflow_add-result-2 : tie.Need-overflow_add-result-2
+overflow_add-result-2 c = omega arith
 
 returns : tie.Need-returns
 unfolding triplet_lengths
-returns c = let a = c.before.args in rw (ne_eqb a.cols a.count c.if1.true)
-
-returns-2 : tie.Need-returns-2
-unfolding triplet_lengths
-returns-2 c = let a = c.before.before.args in rw (eq-eqb a.cols a.count c.before.if1.false, ne_eqb a.vals a.count c.if2.true)
-
-add-if3 : tie.Need-overflow-add-if3
-add-if3 c = omega arith
-
-returns-3 : tie.Need-returns-3
-unfolding triplet_lengths
-returns-3 c = let a = c.before.before.before.args in
+returns-then-cols-count c = let a = c.args in
     rw (
-      eq-eqb a.cols a.count c.before.before.if1.false,
-      eq-eqb a.vals a.count c.before.if2.false,
-      ne_eqb a.col-ptr (a.n + 1)
-          c.if3.true,
-    )
-
-returns-4 : tie.Need-returns-4
-unfolding triplet_lengths
-returns-4 c = let a = c.before.before.before.before.args in
-    rw (
-      eq-eqb a.cols a.count c.before.before.before.if1.false,
+      eq-eqb a.cols a.count c.if-cols-count.false,
       eq-eqb a.vals a.count
-          c.before.before.if2.false,
-      eq-eqb a.col-ptr (a.n + 1) c.before.if3.false,
-      ne_eqb a.row-idx a.count
-          c.if4.true,
-    )
-
-returns-5 : tie.Need-returns-5
-unfolding triplet_lengths
-returns-5 c = let a = (else2-of-then5 c).before.before.args in
-    rw (
-      eq-eqb a.cols a.count (else2-of-then5 c).before.if1.false,
-      eq-eqb a.vals a.count
-          (else2-of-then5 c).if2.false,
-      eq-eqb a.col-ptr (a.n + 1) c.before.before.if3.false,
+          c.if-vals-count.false,
+      eq-eqb a.col-ptr (a.n + 1) c.if-col_ptr-n.false,
       eq-eqb a.row-idx
-          a.count c.before.if4.false,
-      ne_eqb a.values a.count c.if5.true,
+          a.count c.if-row_idx-count.false,
+      eq-eqb a.values a.count c.if-values-count.false,
     )
 
-mul-result : tie.Need-overflow-mul-result
-mul-result c = omega arith
-
-add-result : tie.Need-overflow-add-result
-add-result c = omega arith
-
-add-result-2 : tie.Need-overflow-add-result-2
-add-result-2 c = omega arith
-
-returns-6 : tie.Need-returns-6
-unfolding triplet_lengths
-returns-6 c = let a = (else2-of-else5 c).before.before.args in
-    rw (
-      eq-eqb a.cols a.count (else2-of-else5 c).before.if1.false,
-      eq-eqb a.vals a.count
-          (else2-of-else5 c).if2.false,
-      eq-eqb a.col-ptr (a.n + 1) c.before.before.if3.false,
-      eq-eqb a.row-idx
-          a.count c.before.if4.false,
-      eq-eqb a.values a.count c.if5.false,
-    )
-
-pub lengths-fit-spec : {M : Type 1} → statement M
-lengths-fit-spec =
+pub lengths_fit_spec : {M : Type 1} → statement M
+lengths_fit_spec =
     tie.close
     (tie.spec
-    returns
-    returns-2
-    add-if3
-    returns-3
-    returns-4
-    returns-5
-    mul-result
-    add-result
-    add-result-2
-    returns-6)
+    returns-then-cols-count
+    returns-then-vals-count
+    overflow_add-n
+    returns-then-col_ptr-n
+    returns-then-row_idx-count
+    returns-then-values-count
+    overflow_mul-result
+    overflow_add-result
+    overflow_add-result-2
+    returns)

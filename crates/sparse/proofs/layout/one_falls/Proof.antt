@@ -15,11 +15,11 @@ use Rattle.sparse.proofs.First.{Gathered, from_zero, gather, gathered}
 use Rattle.sparse.proofs.layout.one_falls.Statement.{statement}
 use Rattle.sparse.proofs.layout.one_falls.Tie as tie
 
-abbrev invariant-loop : tie.invariant-loop
-invariant-loop n col_ptr fell₀ j₀ fell j = Gathered (first_of n (fall_at col_ptr) 0) column_pointers (fall_at col_ptr) n j fell
+abbrev invariant-loop-j : tie.invariant-loop-j
+invariant-loop-j n col_ptr fell₀ j₀ fell j = Gathered (first_of n (fall_at col_ptr) 0) column_pointers (fall_at col_ptr) n j fell
 
-abbrev decreases-loop : tie.decreases-loop
-decreases-loop n col_ptr fell₀ j₀ fell j = n - j
+abbrev decreases-loop-j : tie.decreases-loop-j
+decreases-loop-j n col_ptr fell₀ j₀ fell j = n - j
 
 -- the code's test is the definition's
 falls-here : (col_ptr : List ℕ) (j : ℕ) → fall_at col_ptr j ≡ unless (not (ltb (get_or col_ptr (j + 1) 0) (get_or col_ptr j 0))) column_pointers
@@ -29,56 +29,55 @@ falls-here col_ptr j = rw (add-one j) (go (ltb (get_or col_ptr (suc j) 0) (get_o
     go true e = rw (lt-leb _ _ (ltb-true _ _ e)) refl
     go false e = rw (le-leb _ _ (ltb-false _ _ e)) refl
 
-loop-holds : tie.Need-loop-init invariant-loop decreases-loop
-loop-holds c = from_zero (fall_at c.args.col-ptr.now) c.args.n
+loop-j-init : tie.Need-loop-j-init invariant-loop-j decreases-loop-j
+loop-j-init c = from_zero (fall_at c.args.col-ptr.now) c.args.n
 
-add-fell : tie.Need-overflow-add-fell invariant-loop decreases-loop
-add-fell c = omega arith
+overflow_add-fell : tie.Need-overflow_add-fell invariant-loop-j decreases-loop-j
+overflow_add-fell c = omega arith
 
-mul-fell : tie.Need-overflow-mul-fell invariant-loop decreases-loop
-mul-fell c = omega arith
+offset_bounds-col_ptr-j : tie.Need-offset_bounds-col_ptr-j invariant-loop-j decreases-loop-j
+offset_bounds-col_ptr-j c = omega arith
 
-shared-slice-read-fell : tie.Need-shared-slice-read-fell invariant-loop decreases-loop
-shared-slice-read-fell c = omega arith
+bounds-col_ptr-j : tie.Need-bounds-col_ptr-j invariant-loop-j decreases-loop-j
+bounds-col_ptr-j c = omega arith
 
-mul-fell-2 : tie.Need-overflow-mul-fell-2 invariant-loop decreases-loop
-mul-fell-2 c = omega arith
+offset_bounds-col_ptr-j-in-loop-j : tie.Need-offset_bounds-col_ptr-j-in-loop-j invariant-loop-j decreases-loop-j
+offset_bounds-col_ptr-j-in-loop-j c = omega arith
 
-shared-slice-read-fell-2 : tie.Need-shared-slice-read-fell-2 invariant-loop decreases-loop
-shared-slice-read-fell-2 c = omega arith
+bounds-col_ptr-j-in-loop-j : tie.Need-bounds-col_ptr-j-in-loop-j invariant-loop-j decreases-loop-j
+bounds-col_ptr-j-in-loop-j c = omega arith
 
-add-j : tie.Need-overflow-add-j invariant-loop decreases-loop
-add-j c = omega arith
+overflow_step-j : tie.Need-overflow_step-j invariant-loop-j decreases-loop-j
+overflow_step-j c = omega arith
 
-loop-less : tie.Need-loop-smaller invariant-loop decreases-loop
-loop-less c = omega arith
+loop-j-smaller : tie.Need-loop-j-smaller invariant-loop-j decreases-loop-j
+loop-j-smaller c = omega arith
 
-loop-again : tie.Need-loop-preserved invariant-loop decreases-loop
-loop-again c =
-    let turn = c.before.before in
-    let at = turn.before.loop in
-    let a = turn.before.before.args in
-    gather _ _ (fall_at a.col-ptr.now) a.n at.j at.fell _ (omega arith) turn.loop-test.true
+loop-j-preserved : tie.Need-loop-j-preserved invariant-loop-j decreases-loop-j
+loop-j-preserved c =
+    let at = c.loop-j in
+    let a = c.args in
+    gather _ _ (fall_at a.col-ptr.now) a.n at.j at.fell _ (omega arith) c.loop-j-test.true
     (falls-here a.col-ptr.now at.j) at.invariant
 
-returns : tie.Need-returns invariant-loop decreases-loop
+returns : tie.Need-returns invariant-loop-j decreases-loop-j
 returns c =
-    let a = c.before.before.args in
-    gathered _ _ (fall_at a.col-ptr.now) a.n c.before.loop.j c.before.loop.fell c.loop-test.false c.before.loop.invariant
+    let a = c.args in
+    gathered _ _ (fall_at a.col-ptr.now) a.n c.loop-j.j c.loop-j.fell c.loop-j-test.false c.loop-j.invariant
 
-pub one-falls-spec : {M : Type 1} → statement M
-one-falls-spec =
+pub one_falls_spec : {M : Type 1} → statement M
+one_falls_spec =
     tie.close
     (tie.spec
-    invariant-loop
-    decreases-loop
-    loop-holds
-    add-fell
-    mul-fell
-    shared-slice-read-fell
-    mul-fell-2
-    shared-slice-read-fell-2
-    add-j
-    loop-less
-    loop-again
+    invariant-loop-j
+    decreases-loop-j
+    loop-j-init
+    overflow_add-fell
+    offset_bounds-col_ptr-j
+    bounds-col_ptr-j
+    offset_bounds-col_ptr-j-in-loop-j
+    bounds-col_ptr-j-in-loop-j
+    overflow_step-j
+    loop-j-smaller
+    loop-j-preserved
     returns)

@@ -3,11 +3,15 @@ use Rattle.sparse.proofs.Validities.{accepted_is, refused_is}
 use Rattle.sparse.proofs.layout.validity_of.Statement.{statement}
 use Rattle.sparse.proofs.layout.validity_of.Tie as tie
 
+returns-then-fault-eq-ACCEPTED : tie.Need-returns-then-fault-eq-ACCEPTED
+returns-then-fault-eq-ACCEPTED c = accepted_is c.if-fault-eq-ACCEPTED.true
+
 returns : tie.Need-returns
-returns c = accepted_is c.if1.true
+returns-then-fault-eq-ACCEPTED c = refused_is c.if-fault-eq-ACCEPTED.false
 
-returns-2 : tie.Need-returns-2
-returns-2 c = refused_is c.if1.false
-
-pub validity-of-spec : {M : Type 1} → statement M
-validity-of-spec = tie.close (tie.spec returns returns-2)
+pub validity_of_spec : {M : Type 1} → statement M
+validity_of_spec =
+    tie.close
+    (tie.spec
+    returns-then-fault-eq-ACCEPTED
+    returns)

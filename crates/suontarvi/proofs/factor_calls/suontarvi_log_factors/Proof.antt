@@ -1,105 +1,90 @@
 -- `factor_calls::suontarvi_log_factors` meets its contract: the answer by its three cases.
+use Rattle.std.proofs.Common.{rules}
 use borrow.Author.Rules.{rules}
 use Rattle.suontarvi.proofs.FactorResults.{unfit, applied, partial, refused, with_number}
 use Rattle.suontarvi.proofs.factor_calls.suontarvi_log_factors.Statement.{statement}
 use Rattle.suontarvi.proofs.factor_calls.suontarvi_log_factors.Tie as tie
 
--- places of the proof, each from a later one
-abbrev Else1-of-log-factors : tie.After-log-factors → tie.Else1
-Else1-of-log-factors c = c.before.before.before
+size_fault-requires : tie.Need-size_fault-requires
+size_fault-requires c κs = search rules
 
-abbrev log-factors-of-known-told : tie.After-known-told → tie.After-log-factors
-log-factors-of-known-told c = c.before.before.before.before.before.before.before
+returns-then-unmatched-ne1 : tie.Need-returns-then-unmatched-ne1
+returns-then-unmatched-ne1 c = with_number _ _ _ _ _ (unfit _ _ _ _ _ c.if-unmatched-ne1.true c.size_fault.ensures)
 
-abbrev log-factors-of-known-told2 : tie.After-known-told2 → tie.After-log-factors
-log-factors-of-known-told2 c = c.before.before.before.before.before.before.before
+log_factors-answer-requires : tie.Need-log_factors-answer-requires
+log_factors-answer-requires c κs = search rules
 
-abbrev Else1-of-known-told : tie.After-known-told → tie.Else1
-Else1-of-known-told c = Else1-of-log-factors (log-factors-of-known-told c)
+enum_told-1 : tie.Need-enum_told-1
+enum_told-1 c = search rules
 
-abbrev Else1-of-known-told2 : tie.After-known-told2 → tie.Else1
-Else1-of-known-told2 c = Else1-of-log-factors (log-factors-of-known-told2 c)
+bounds-unmatched-0 : tie.Need-bounds-unmatched-0
+bounds-unmatched-0 c = search rules
 
-size-fault-requires : tie.Need-size-fault-requires
-size-fault-requires c κs = search rules
+enum_known-answer : tie.Need-enum_known-answer
+enum_known-answer c = search rules
 
-returns : tie.Need-returns
-returns c = with_number _ _ _ _ _ (unfit _ _ _ _ _ c.before.if1.true c.size-fault.ensures)
+bounds-unmatched-0-in-PartialSingular : tie.Need-bounds-unmatched-0-in-PartialSingular
+bounds-unmatched-0-in-PartialSingular c = search rules
 
-log-factors-requires : tie.Need-log-factors-requires
-log-factors-requires c κs = search rules
+enum_known-answer-in-Refused-1 : tie.Need-enum_known-answer-in-Refused-1
+enum_known-answer-in-Refused-1 c = search rules
 
-enum_told : tie.Need-enum-told
-enum_told c = search rules
+shape_of-factors-in-Applied : tie.Need-shape_of-factors-in-Applied
+shape_of-factors-in-Applied c = search rules
 
-slice-write-unmatched : tie.Need-slice-write-unmatched
-slice-write-unmatched c = search rules
+shape_of-work-in-Applied : tie.Need-shape_of-work-in-Applied
+shape_of-work-in-Applied c = search rules
 
-enum-known-answer : tie.Need-enum-known-answer
-enum-known-answer c = search rules
+shape_of-unmatched-in-Applied : tie.Need-shape_of-unmatched-in-Applied
+shape_of-unmatched-in-Applied c = search rules
 
-slice-write-unmatched-2 : tie.Need-slice-write-unmatched-2
-slice-write-unmatched-2 c = search rules
+returns-in-Applied : tie.Need-returns-in-Applied
+returns-in-Applied c = with_number _ _ _ _ _ (applied _ _ _ _ _ c.if-unmatched-ne1.left
+    c.log_factors-answer.ensures.outcome c.enum_told-1.given.1)
 
-enum-known-answer-2 : tie.Need-enum-known-answer-2
-enum-known-answer-2 c = search rules
+shape_of-factors-in-PartialSingular : tie.Need-shape_of-factors-in-PartialSingular
+shape_of-factors-in-PartialSingular c = search rules
 
-same_length_lem : tie.Need-same-length
-same_length_lem c = search rules
+shape_of-work-in-PartialSingular : tie.Need-shape_of-work-in-PartialSingular
+shape_of-work-in-PartialSingular c = search rules
 
-same-length-2 : tie.Need-same-length-2
-same-length-2 c = search rules
+shape_of-unmatched-in-PartialSingular : tie.Need-shape_of-unmatched-in-PartialSingular
+shape_of-unmatched-in-PartialSingular c = search rules
 
-same-length-3 : tie.Need-same-length-3
-same-length-3 c = search rules
+returns-in-PartialSingular : tie.Need-returns-in-PartialSingular
+returns-in-PartialSingular c = with_number _ _ _ _ _ (partial _ _ _ _ _ c.if-unmatched-ne1.left c.log_factors-answer.ensures.outcome
+    c.answer-1.given.1)
 
-returns-2 : tie.Need-returns-2
-returns-2 c = with_number _ _ _ _ _ (applied _ _ _ _ _ (Else1-of-log-factors c.before.before.before.before.before.before).if1.left
-    c.before.before.before.before.before.before.log-factors.ensures.outcome c.enum_told.given.1)
+shape_of-factors-in-Refused : tie.Need-shape_of-factors-in-Refused
+shape_of-factors-in-Refused c = search rules
 
-same-length-4 : tie.Need-same-length-4
-same-length-4 c = search rules
+shape_of-work-in-Refused : tie.Need-shape_of-work-in-Refused
+shape_of-work-in-Refused c = search rules
 
-same-length-5 : tie.Need-same-length-5
-same-length-5 c = search rules
+returns-in-Refused : tie.Need-returns-in-Refused
+returns-in-Refused c = with_number _ _ _ _ _ (refused _ _ _ _ _ c.if-unmatched-ne1.left c.log_factors-answer.ensures.outcome
+    c.answer-in-Refused-1.given.1)
 
-same-length-6 : tie.Need-same-length-6
-same-length-6 c = search rules
-
-returns-3 : tie.Need-returns-3
-returns-3 c = with_number _ _ _ _ _ (partial _ _ _ _ _ (Else1-of-known-told c).if1.left (log-factors-of-known-told c).log-factors.ensures.outcome
-    c.before.answer.given.1)
-
-same-length-7 : tie.Need-same-length-7
-same-length-7 c = search rules
-
-same-length-8 : tie.Need-same-length-8
-same-length-8 c = search rules
-
-returns-4 : tie.Need-returns-4
-returns-4 c = with_number _ _ _ _ _ (refused _ _ _ _ _ (Else1-of-known-told2 c).if1.left (log-factors-of-known-told2 c).log-factors.ensures.outcome
-    c.before.answer2.given.1)
-
-pub suontarvi-log-factors-spec : {M : Type 1} → statement M
-suontarvi-log-factors-spec =
+pub suontarvi_log_factors_spec : {M : Type 1} → statement M
+suontarvi_log_factors_spec =
     tie.close
     (tie.spec
-    size-fault-requires
-    returns
-    log-factors-requires
-    enum_told
-    slice-write-unmatched
-    enum-known-answer
-    slice-write-unmatched-2
-    enum-known-answer-2
-    same_length_lem
-    same-length-2
-    same-length-3
-    returns-2
-    same-length-4
-    same-length-5
-    same-length-6
-    returns-3
-    same-length-7
-    same-length-8
-    returns-4)
+    size_fault-requires
+    returns-then-unmatched-ne1
+    log_factors-answer-requires
+    enum_told-1
+    bounds-unmatched-0
+    enum_known-answer
+    bounds-unmatched-0-in-PartialSingular
+    enum_known-answer-in-Refused-1
+    shape_of-factors-in-Applied
+    shape_of-work-in-Applied
+    shape_of-unmatched-in-Applied
+    returns-in-Applied
+    shape_of-factors-in-PartialSingular
+    shape_of-work-in-PartialSingular
+    shape_of-unmatched-in-PartialSingular
+    returns-in-PartialSingular
+    shape_of-factors-in-Refused
+    shape_of-work-in-Refused
+    returns-in-Refused)

@@ -1,85 +1,76 @@
 -- `suontarvi_symmetric_graph` meets its contract: the builder's answer by its two cases.
+use Rattle.std.proofs.Common.{rules}
 use borrow.Author.Rules.{rules}
 use Rattle.refusal.specs.Listed.{symmetric_graph_numbers}
 use Rattle.suontarvi.proofs.GraphsNumbered.{graph_number, in_list}
 use Rattle.suontarvi.proofs.graph_calls.suontarvi_symmetric_graph.Statement.{statement}
 use Rattle.suontarvi.proofs.graph_calls.suontarvi_symmetric_graph.Tie as tie
 
--- places of the proof, each from a later one
-abbrev build-cost-graph-of-enum-told : tie.After-enum-told → tie.After-build-cost-graph
-build-cost-graph-of-enum-told c = c.before.before.before.before.before.before.before.before.before.before.before.before
+build_cost_graph-answer-requires : tie.Need-build_cost_graph-answer-requires
+build_cost_graph-answer-requires c κs = search rules
 
-abbrev build-cost-graph-of-answer : tie.After-answer → tie.After-build-cost-graph
-build-cost-graph-of-answer c = c.before.before.before.before.before.before.before.before.before.before.before.before
+enum_told-1 : tie.Need-enum_told-1
+enum_told-1 c = search rules
 
-abbrev build-cost-graph-of-known-told : tie.After-known-told → tie.After-build-cost-graph
-build-cost-graph-of-known-told c = build-cost-graph-of-answer c.before
+enum_known-answer : tie.Need-enum_known-answer
+enum_known-answer c = search rules
 
-build-cost-graph-requires : tie.Need-build-cost-graph-requires
-build-cost-graph-requires c κs = search rules
+shape_of-graph_ptr-in-Kept : tie.Need-shape_of-graph_ptr-in-Kept
+shape_of-graph_ptr-in-Kept c = search rules
 
-enum_told : tie.Need-enum-told
-enum_told c = search rules
+shape_of-graph_rows-in-Kept : tie.Need-shape_of-graph_rows-in-Kept
+shape_of-graph_rows-in-Kept c = search rules
 
-enum-known-answer : tie.Need-enum-known-answer
-enum-known-answer c = search rules
+shape_of-cost-in-Kept : tie.Need-shape_of-cost-in-Kept
+shape_of-cost-in-Kept c = search rules
 
-same_length_lem : tie.Need-same-length
-same_length_lem c = search rules
+shape_of-cmax-in-Kept : tie.Need-shape_of-cmax-in-Kept
+shape_of-cmax-in-Kept c = search rules
 
-same-length-2 : tie.Need-same-length-2
-same-length-2 c = search rules
+shape_of-work-in-Kept : tie.Need-shape_of-work-in-Kept
+shape_of-work-in-Kept c = search rules
 
-same-length-3 : tie.Need-same-length-3
-same-length-3 c = search rules
+returns-in-Kept : tie.Need-returns-in-Kept
+returns-in-Kept c =
+    let e = c.build_cost_graph-answer.ensures in
+    record { graph = graph_number e.outcome c.enum_told-1.given.1; number = in_list symmetric_graph_numbers e.number c.enum_told-1.given.1 }
 
-same-length-4 : tie.Need-same-length-4
-same-length-4 c = search rules
+shape_of-graph_ptr-in-Refused : tie.Need-shape_of-graph_ptr-in-Refused
+shape_of-graph_ptr-in-Refused c = search rules
 
-same-length-5 : tie.Need-same-length-5
-same-length-5 c = search rules
+shape_of-graph_rows-in-Refused : tie.Need-shape_of-graph_rows-in-Refused
+shape_of-graph_rows-in-Refused c = search rules
 
-returns : tie.Need-returns
-returns c =
-    let e = (build-cost-graph-of-enum-told c).build-cost-graph.ensures in
-    record { graph = graph_number e.outcome c.enum_told.given.1; number = in_list symmetric_graph_numbers e.number c.enum_told.given.1 }
+shape_of-cost-in-Refused : tie.Need-shape_of-cost-in-Refused
+shape_of-cost-in-Refused c = search rules
 
-same-length-6 : tie.Need-same-length-6
-same-length-6 c = search rules
+shape_of-cmax-in-Refused : tie.Need-shape_of-cmax-in-Refused
+shape_of-cmax-in-Refused c = search rules
 
-same-length-7 : tie.Need-same-length-7
-same-length-7 c = search rules
+shape_of-work-in-Refused : tie.Need-shape_of-work-in-Refused
+shape_of-work-in-Refused c = search rules
 
-same-length-8 : tie.Need-same-length-8
-same-length-8 c = search rules
+returns-in-Refused : tie.Need-returns-in-Refused
+returns-in-Refused c =
+    let e = c.build_cost_graph-answer.ensures in
+    record { graph = graph_number e.outcome c.answer-1.given.1; number = in_list symmetric_graph_numbers e.number c.answer-1.given.1 }
 
-same-length-9 : tie.Need-same-length-9
-same-length-9 c = search rules
-
-same-length-10 : tie.Need-same-length-10
-same-length-10 c = search rules
-
-returns-2 : tie.Need-returns-2
-returns-2 c =
-    let e = (build-cost-graph-of-known-told c).build-cost-graph.ensures in
-    record { graph = graph_number e.outcome c.before.answer.given.1; number = in_list symmetric_graph_numbers e.number c.before.answer.given.1 }
-
-pub suontarvi-symmetric-graph-spec : {M : Type 1} → statement M
-suontarvi-symmetric-graph-spec =
+pub suontarvi_symmetric_graph_spec : {M : Type 1} → statement M
+suontarvi_symmetric_graph_spec =
     tie.close
     (tie.spec
-    build-cost-graph-requires
-    enum_told
-    enum-known-answer
-    same_length_lem
-    same-length-2
-    same-length-3
-    same-length-4
-    same-length-5
-    returns
-    same-length-6
-    same-length-7
-    same-length-8
-    same-length-9
-    same-length-10
-    returns-2)
+    build_cost_graph-answer-requires
+    enum_told-1
+    enum_known-answer
+    shape_of-graph_ptr-in-Kept
+    shape_of-graph_rows-in-Kept
+    shape_of-cost-in-Kept
+    shape_of-cmax-in-Kept
+    shape_of-work-in-Kept
+    returns-in-Kept
+    shape_of-graph_ptr-in-Refused
+    shape_of-graph_rows-in-Refused
+    shape_of-cost-in-Refused
+    shape_of-cmax-in-Refused
+    shape_of-work-in-Refused
+    returns-in-Refused)

@@ -1,22 +1,28 @@
 -- `suontarvi_onepass` meets its contract: what is promised of the answer is promised of its number.
+use Rattle.std.proofs.Common.{rules}
 use borrow.Author.Rules.{rules}
 use Rattle.suontarvi.proofs.InfnormResults.{onepass_number}
 use Rattle.suontarvi.proofs.infnorm_calls.suontarvi_onepass.Statement.{statement}
 use Rattle.suontarvi.proofs.infnorm_calls.suontarvi_onepass.Tie as tie
 
-compute-onepass-requires : tie.Need-compute-onepass-requires
-compute-onepass-requires c κs = search rules
+compute_onepass-answer-requires : tie.Need-compute_onepass-answer-requires
+compute_onepass-answer-requires c κs = search rules
 
-number-of-requires : tie.Need-number-of-requires
-number-of-requires c κs = search rules
+number_of-requires : tie.Need-number_of-requires
+number_of-requires c κs = search rules
 
-same_length_lem : tie.Need-same-length
-same_length_lem c = search rules
+shape_of-factors : tie.Need-shape_of-factors
+shape_of-factors c = search rules
 
 returns : tie.Need-returns
 returns c =
-    let call = c.before.before.before in
-    onepass_number _ call.compute-onepass.result c.number_of.ensures call.compute-onepass.ensures
+    onepass_number _ c.compute_onepass-answer.result c.number_of.ensures c.compute_onepass-answer.ensures
 
-pub suontarvi-onepass-spec : {M : Type 1} → statement M
-suontarvi-onepass-spec = tie.close (tie.spec compute-onepass-requires number-of-requires same_length_lem returns)
+pub suontarvi_onepass_spec : {M : Type 1} → statement M
+suontarvi_onepass_spec =
+    tie.close
+    (tie.spec
+    compute_onepass-answer-requires
+    number_of-requires
+    shape_of-factors
+    returns)

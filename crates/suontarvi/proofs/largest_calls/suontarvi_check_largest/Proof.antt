@@ -1,4 +1,5 @@
 -- `suontarvi_check_largest` meets its contract: the answer of `check_largest` by its two cases.
+use Rattle.std.proofs.Common.{rules}
 use mathlib.Core.Path.{ap}
 use borrow.Author.Rules.{rules}
 use Rattle.match_largest.specs.Call.{number_of}
@@ -6,53 +7,53 @@ use Rattle.suontarvi.proofs.LargestResults.{largest_number}
 use Rattle.suontarvi.proofs.largest_calls.suontarvi_check_largest.Statement.{statement}
 use Rattle.suontarvi.proofs.largest_calls.suontarvi_check_largest.Tie as tie
 
-check-largest-requires : tie.Need-check-largest-requires
-check-largest-requires c κs = search rules
+check_largest-verdict-requires : tie.Need-check_largest-verdict-requires
+check_largest-verdict-requires c κs = search rules
 
-enum_told : tie.Need-enum-told
-enum_told c = search rules
+enum_told-1 : tie.Need-enum_told-1
+enum_told-1 c = search rules
 
-enum-known-verdict : tie.Need-enum-known-verdict
-enum-known-verdict c = search rules
+enum_known-verdict : tie.Need-enum_known-verdict
+enum_known-verdict c = search rules
 
-same_length_lem : tie.Need-same-length
-same_length_lem c = search rules
+shape_of-columns-in-Accepted : tie.Need-shape_of-columns-in-Accepted
+shape_of-columns-in-Accepted c = search rules
 
-same-length-2 : tie.Need-same-length-2
-same-length-2 c = search rules
+shape_of-rows-in-Accepted : tie.Need-shape_of-rows-in-Accepted
+shape_of-rows-in-Accepted c = search rules
 
-same-length-3 : tie.Need-same-length-3
-same-length-3 c = search rules
+shape_of-matched-in-Accepted : tie.Need-shape_of-matched-in-Accepted
+shape_of-matched-in-Accepted c = search rules
 
-returns : tie.Need-returns
-returns c = largest_number _ _ _ c.before.before.before.before.before.before.before.before.check-largest.ensures
-    (ap number_of c.enum_told.given.1)
+returns-in-Accepted : tie.Need-returns-in-Accepted
+returns-in-Accepted c = largest_number _ _ _ c.check_largest-verdict.ensures
+    (ap number_of c.enum_told-1.given.1)
 
-same-length-4 : tie.Need-same-length-4
-same-length-4 c = search rules
+shape_of-columns-in-Refused : tie.Need-shape_of-columns-in-Refused
+shape_of-columns-in-Refused c = search rules
 
-same-length-5 : tie.Need-same-length-5
-same-length-5 c = search rules
+shape_of-rows-in-Refused : tie.Need-shape_of-rows-in-Refused
+shape_of-rows-in-Refused c = search rules
 
-same-length-6 : tie.Need-same-length-6
-same-length-6 c = search rules
+shape_of-matched-in-Refused : tie.Need-shape_of-matched-in-Refused
+shape_of-matched-in-Refused c = search rules
 
-returns-2 : tie.Need-returns-2
-returns-2 c = largest_number _ _ _ c.before.before.before.before.before.before.before.before.before.check-largest.ensures
-    (ap number_of c.before.verdict.given.1)
+returns-in-Refused : tie.Need-returns-in-Refused
+returns-in-Refused c = largest_number _ _ _ c.check_largest-verdict.ensures
+    (ap number_of c.verdict-1.given.1)
 
-pub suontarvi-check-largest-spec : {M : Type 1} → statement M
-suontarvi-check-largest-spec =
+pub suontarvi_check_largest_spec : {M : Type 1} → statement M
+suontarvi_check_largest_spec =
     tie.close
     (tie.spec
-    check-largest-requires
-    enum_told
-    enum-known-verdict
-    same_length_lem
-    same-length-2
-    same-length-3
-    returns
-    same-length-4
-    same-length-5
-    same-length-6
-    returns-2)
+    check_largest-verdict-requires
+    enum_told-1
+    enum_known-verdict
+    shape_of-columns-in-Accepted
+    shape_of-rows-in-Accepted
+    shape_of-matched-in-Accepted
+    returns-in-Accepted
+    shape_of-columns-in-Refused
+    shape_of-rows-in-Refused
+    shape_of-matched-in-Refused
+    returns-in-Refused)

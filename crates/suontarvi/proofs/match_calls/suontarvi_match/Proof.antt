@@ -1,102 +1,90 @@
 -- `match_calls::suontarvi_match` meets its contract: the answer of the match by its two cases.
+use Rattle.std.proofs.Common.{rules}
 use borrow.Author.Rules.{rules}
 use Rattle.suontarvi.proofs.MatchResults.{unfit, refused, matched}
 use Rattle.suontarvi.proofs.match_calls.suontarvi_match.Statement.{statement}
 use Rattle.suontarvi.proofs.match_calls.suontarvi_match.Tie as tie
 
--- places of the proof, each from a later one
-abbrev Else1-of-hungarian-match : tie.After-hungarian-match → tie.Else1
-Else1-of-hungarian-match c = c.before.before.before.before.before.before
+size_fault-requires : tie.Need-size_fault-requires
+size_fault-requires c κs = search rules
 
-abbrev hungarian-match-of-outcome : tie.After-outcome → tie.After-hungarian-match
-hungarian-match-of-outcome c = c.before.before.before.before.before.before.before.before.before.before.before.before
+returns-then-answer-ne-ANSWER_LENGTH : tie.Need-returns-then-answer-ne-ANSWER_LENGTH
+returns-then-answer-ne-ANSWER_LENGTH c = unfit _ _ _ c.if-answer-ne-ANSWER_LENGTH.true c.size_fault.ensures
 
-abbrev hungarian-match-of-outcome2 : tie.After-outcome2 → tie.After-hungarian-match
-hungarian-match-of-outcome2 c = c.before.before.before.before.before.before.before.before.before.before.before.before
+hungarian_match-outcome-requires : tie.Need-hungarian_match-outcome-requires
+hungarian_match-outcome-requires c κs = search rules
 
-size-fault-requires : tie.Need-size-fault-requires
-size-fault-requires c κs = search rules
+enum_known-outcome : tie.Need-enum_known-outcome
+enum_known-outcome c = search rules
 
-returns : tie.Need-returns
-returns c = unfit _ _ _ c.before.if1.true c.size-fault.ensures
+put_counts-requires : tie.Need-put_counts-requires
+put_counts-requires c κs = search rules
 
-hungarian-match-requires : tie.Need-hungarian-match-requires
-hungarian-match-requires c κs = search rules
+enum_known-outcome-in-Refused-1 : tie.Need-enum_known-outcome-in-Refused-1
+enum_known-outcome-in-Refused-1 c = search rules
 
-enum-known-outcome : tie.Need-enum-known-outcome
-enum-known-outcome c = search rules
+shape_of-perm-in-Matched : tie.Need-shape_of-perm-in-Matched
+shape_of-perm-in-Matched c = search rules
 
-put-counts-requires : tie.Need-put-counts-requires
-put-counts-requires c κs = search rules
+shape_of-u-in-Matched : tie.Need-shape_of-u-in-Matched
+shape_of-u-in-Matched c = search rules
 
-enum-known-outcome-2 : tie.Need-enum-known-outcome-2
-enum-known-outcome-2 c = search rules
+shape_of-v-in-Matched : tie.Need-shape_of-v-in-Matched
+shape_of-v-in-Matched c = search rules
 
-same_length_lem : tie.Need-same-length
-same_length_lem c = search rules
+shape_of-work-in-Matched : tie.Need-shape_of-work-in-Matched
+shape_of-work-in-Matched c = search rules
 
-same-length-2 : tie.Need-same-length-2
-same-length-2 c = search rules
+shape_of-fwork-in-Matched : tie.Need-shape_of-fwork-in-Matched
+shape_of-fwork-in-Matched c = search rules
 
-same-length-3 : tie.Need-same-length-3
-same-length-3 c = search rules
+shape_of-answer : tie.Need-shape_of-answer
+shape_of-answer c = search rules
 
-same-length-4 : tie.Need-same-length-4
-same-length-4 c = search rules
+returns-in-Matched : tie.Need-returns-in-Matched
+returns-in-Matched c =
+    rw c.put_counts.ensures
+    (matched _ _ _ c.if-answer-ne-ANSWER_LENGTH.left c.hungarian_match-outcome.ensures c.outcome-1.given.1)
 
-same-length-5 : tie.Need-same-length-5
-same-length-5 c = search rules
+shape_of-perm-in-Refused : tie.Need-shape_of-perm-in-Refused
+shape_of-perm-in-Refused c = search rules
 
-same-length-6 : tie.Need-same-length-6
-same-length-6 c = search rules
+shape_of-u-in-Refused : tie.Need-shape_of-u-in-Refused
+shape_of-u-in-Refused c = search rules
 
-returns-2 : tie.Need-returns-2
-returns-2 c =
-    let told = c.before.before.before.before.before in
-    let call = hungarian-match-of-outcome told in
-    rw c.before.before.put-counts.ensures
-    (matched _ _ _ (Else1-of-hungarian-match call).if1.left call.hungarian-match.ensures told.outcome.given.1)
+shape_of-v-in-Refused : tie.Need-shape_of-v-in-Refused
+shape_of-v-in-Refused c = search rules
 
-same-length-7 : tie.Need-same-length-7
-same-length-7 c = search rules
+shape_of-work-in-Refused : tie.Need-shape_of-work-in-Refused
+shape_of-work-in-Refused c = search rules
 
-same-length-8 : tie.Need-same-length-8
-same-length-8 c = search rules
+shape_of-fwork-in-Refused : tie.Need-shape_of-fwork-in-Refused
+shape_of-fwork-in-Refused c = search rules
 
-same-length-9 : tie.Need-same-length-9
-same-length-9 c = search rules
+returns-in-Refused : tie.Need-returns-in-Refused
+returns-in-Refused c =
+    refused _ _ _ c.if-answer-ne-ANSWER_LENGTH.left c.hungarian_match-outcome.ensures c.outcome-in-Refused-1.given.1
 
-same-length-10 : tie.Need-same-length-10
-same-length-10 c = search rules
-
-same-length-11 : tie.Need-same-length-11
-same-length-11 c = search rules
-
-returns-3 : tie.Need-returns-3
-returns-3 c =
-    let call = hungarian-match-of-outcome2 c.before in
-    refused _ _ _ (Else1-of-hungarian-match call).if1.left call.hungarian-match.ensures c.before.outcome2.given.1
-
-pub suontarvi-match-spec : {M : Type 1} → statement M
-suontarvi-match-spec =
+pub suontarvi_match_spec : {M : Type 1} → statement M
+suontarvi_match_spec =
     tie.close
     (tie.spec
-    size-fault-requires
-    returns
-    hungarian-match-requires
-    enum-known-outcome
-    put-counts-requires
-    enum-known-outcome-2
-    same_length_lem
-    same-length-2
-    same-length-3
-    same-length-4
-    same-length-5
-    same-length-6
-    returns-2
-    same-length-7
-    same-length-8
-    same-length-9
-    same-length-10
-    same-length-11
-    returns-3)
+    size_fault-requires
+    returns-then-answer-ne-ANSWER_LENGTH
+    hungarian_match-outcome-requires
+    enum_known-outcome
+    put_counts-requires
+    enum_known-outcome-in-Refused-1
+    shape_of-perm-in-Matched
+    shape_of-u-in-Matched
+    shape_of-v-in-Matched
+    shape_of-work-in-Matched
+    shape_of-fwork-in-Matched
+    shape_of-answer
+    returns-in-Matched
+    shape_of-perm-in-Refused
+    shape_of-u-in-Refused
+    shape_of-v-in-Refused
+    shape_of-work-in-Refused
+    shape_of-fwork-in-Refused
+    returns-in-Refused)

@@ -1,71 +1,65 @@
 -- `suontarvi_triplets_general` meets its contract: the answer of `from_triplets` by its two cases.
+use Rattle.std.proofs.Common.{rules}
 use Rattle.suontarvi.proofs.Numbered.{case_number}
 use borrow.Author.Rules.{rules}
 use Rattle.refusal.specs.Listed.{general_triplet_numbers}
 use Rattle.suontarvi.proofs.matrices.suontarvi_triplets_general.Statement.{statement}
 use Rattle.suontarvi.proofs.matrices.suontarvi_triplets_general.Tie as tie
 
--- places of the proof, each from a later one
-abbrev from-triplets-of-enum-told : tie.After-enum-told → tie.After-from-triplets
-from-triplets-of-enum-told c = c.before.before.before.before.before.before.before.before.before.before
+from_triplets-answer-requires : tie.Need-from_triplets-answer-requires
+from_triplets-answer-requires c κs = search rules
 
-abbrev from-triplets-of-known-told : tie.After-known-told → tie.After-from-triplets
-from-triplets-of-known-told c = c.before.before.before.before.before.before.before.before.before.before.before
+enum_told-1 : tie.Need-enum_told-1
+enum_told-1 c = search rules
 
-from-triplets-requires : tie.Need-from-triplets-requires
-from-triplets-requires c κs = search rules
+enum_known-answer : tie.Need-enum_known-answer
+enum_known-answer c = search rules
 
-enum_told : tie.Need-enum-told
-enum_told c = search rules
+shape_of-col_ptr-in-Kept : tie.Need-shape_of-col_ptr-in-Kept
+shape_of-col_ptr-in-Kept c = search rules
 
-enum-known-answer : tie.Need-enum-known-answer
-enum-known-answer c = search rules
+shape_of-row_idx-in-Kept : tie.Need-shape_of-row_idx-in-Kept
+shape_of-row_idx-in-Kept c = search rules
 
-same_length_lem : tie.Need-same-length
-same_length_lem c = search rules
+shape_of-values-in-Kept : tie.Need-shape_of-values-in-Kept
+shape_of-values-in-Kept c = search rules
 
-same-length-2 : tie.Need-same-length-2
-same-length-2 c = search rules
+shape_of-work-in-Kept : tie.Need-shape_of-work-in-Kept
+shape_of-work-in-Kept c = search rules
 
-same-length-3 : tie.Need-same-length-3
-same-length-3 c = search rules
+returns-in-Kept : tie.Need-returns-in-Kept
+returns-in-Kept c = let e = c.from_triplets-answer.ensures in case_number general_triplet_numbers e.outcome e.number c.enum_told-1.given.1
 
-same-length-4 : tie.Need-same-length-4
-same-length-4 c = search rules
+shape_of-col_ptr-in-Refused : tie.Need-shape_of-col_ptr-in-Refused
+shape_of-col_ptr-in-Refused c = search rules
 
-returns : tie.Need-returns
-returns c = let e = (from-triplets-of-enum-told c).from-triplets.ensures in case_number general_triplet_numbers e.0 e.1.1 c.enum_told.given.1
+shape_of-row_idx-in-Refused : tie.Need-shape_of-row_idx-in-Refused
+shape_of-row_idx-in-Refused c = search rules
 
-same-length-5 : tie.Need-same-length-5
-same-length-5 c = search rules
+shape_of-values-in-Refused : tie.Need-shape_of-values-in-Refused
+shape_of-values-in-Refused c = search rules
 
-same-length-6 : tie.Need-same-length-6
-same-length-6 c = search rules
+shape_of-work-in-Refused : tie.Need-shape_of-work-in-Refused
+shape_of-work-in-Refused c = search rules
 
-same-length-7 : tie.Need-same-length-7
-same-length-7 c = search rules
+returns-in-Refused : tie.Need-returns-in-Refused
+returns-in-Refused c = let e = c.from_triplets-answer.ensures in case_number general_triplet_numbers e.outcome e.number
+    c.answer-1.given.1
 
-same-length-8 : tie.Need-same-length-8
-same-length-8 c = search rules
-
-returns-2 : tie.Need-returns-2
-returns-2 c = let e = (from-triplets-of-known-told c).from-triplets.ensures in case_number general_triplet_numbers e.0 e.1.1
-    c.before.answer.given.1
-
-pub suontarvi-triplets-general-spec : {M : Type 1} → statement M
-suontarvi-triplets-general-spec =
+pub suontarvi_triplets_general_spec : {M : Type 1} → statement M
+suontarvi_triplets_general_spec =
     tie.close
     (tie.spec
-    from-triplets-requires
-    enum_told
-    enum-known-answer
-    same_length_lem
-    same-length-2
-    same-length-3
-    same-length-4
-    returns
-    same-length-5
-    same-length-6
-    same-length-7
-    same-length-8
-    returns-2)
+    from_triplets-answer-requires
+    enum_told-1
+    enum_known-answer
+    shape_of-col_ptr-in-Kept
+    shape_of-row_idx-in-Kept
+    shape_of-values-in-Kept
+    shape_of-work-in-Kept
+    returns-in-Kept
+    shape_of-col_ptr-in-Refused
+    shape_of-row_idx-in-Refused
+    shape_of-values-in-Refused
+    shape_of-work-in-Refused
+    returns-in-Refused)

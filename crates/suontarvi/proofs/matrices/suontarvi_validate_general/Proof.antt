@@ -1,4 +1,5 @@
 -- `suontarvi_validate_general` meets its contract: the number of the answer.
+use Rattle.std.proofs.Common.{rules}
 use mathlib.Core.Path.{sym, subst}
 use borrow.Author.Rules.{rules}
 use Rattle.refusal.specs.Listed.{OneOf, general_numbers}
@@ -9,13 +10,18 @@ use Rattle.suontarvi.proofs.matrices.suontarvi_validate_general.Tie as tie
 validate-requires : tie.Need-validate-requires
 validate-requires c κs = search rules
 
-number-of-requires : tie.Need-number-of-requires
-number-of-requires c κs = search rules
+number_of-requires : tie.Need-number_of-requires
+number_of-requires c κs = search rules
 
 returns : tie.Need-returns
 returns c =
-    let e = c.before.validate.ensures in
-    record { answer = number_told c.number_of.ensures e.0; number = subst (OneOf general_numbers) (sym c.number_of.ensures) e.1 }
+    let e = c.validate.ensures in
+    record { answer = number_told c.number_of.ensures e.answer; number = subst (OneOf general_numbers) (sym c.number_of.ensures) e.number }
 
-pub suontarvi-validate-general-spec : {M : Type 1} → statement M
-suontarvi-validate-general-spec = tie.close (tie.spec validate-requires number-of-requires returns)
+pub suontarvi_validate_general_spec : {M : Type 1} → statement M
+suontarvi_validate_general_spec =
+    tie.close
+    (tie.spec
+    validate-requires
+    number_of-requires
+    returns)

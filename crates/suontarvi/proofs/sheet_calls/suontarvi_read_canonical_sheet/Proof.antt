@@ -1,4 +1,5 @@
 -- `sheet_calls::suontarvi_read_canonical_sheet` meets its contract: the answer of the reader by its two cases.
+use Rattle.std.proofs.Common.{rules}
 use mathlib.Core.Path.{◌≡◌}
 use Prim.Native.Nat.{ℕ}
 use native.Mathlib.Omega.{arith}
@@ -15,106 +16,93 @@ use Rattle.suontarvi.proofs.sheet_calls.suontarvi_read_canonical_sheet.Statement
 }
 use Rattle.suontarvi.proofs.sheet_calls.suontarvi_read_canonical_sheet.Tie as tie
 
--- places of the proof, each from a later one
-abbrev entry-of-then : tie.Then1 → tie.Start
-entry-of-then c = c.before.before.before.before.before.before.before
+length_fault-requires : tie.Need-length_fault-requires
+length_fault-requires c κs = search rules
 
-abbrev entry-of-else : tie.Else1 → tie.Start
-entry-of-else c = c.before.before.before.before.before.before.before
-
-abbrev else-of-call : tie.After-read-canonical-sheet → tie.Else1
-else-of-call c = c.before.before.before.before.before
-
-length-fault-requires : tie.Need-length-fault-requires
-length-fault-requires c κs = search rules
-
-returns : tie.Need-returns
-returns c =
-    let a = (entry-of-then c.before).args in
+returns-then-answer-ne2 : tie.Need-returns-then-answer-ne2
+returns-then-answer-ne2 c =
+    let a = c.args in
     as_canonical _ _ _ (unfit_answer canonical_sheet_numbers (Holds a.sheet.now) (λ (n : ℕ) (m : Match ℕ). sheet_bytes n m ≡ a.sheet.now) _ _ _ _
-    c.before.if1.true c.length-fault.ensures (canonical_length_listed _))
+    c.if-answer-ne2.true c.length_fault.ensures (canonical_length_listed _))
 
-read-canonical-sheet-requires : tie.Need-read-canonical-sheet-requires
-read-canonical-sheet-requires c κs = search rules
+read_canonical_sheet-outcome-requires : tie.Need-read_canonical_sheet-outcome-requires
+read_canonical_sheet-outcome-requires c κs = search rules
 
-enum-known-outcome : tie.Need-enum-known-outcome
-enum-known-outcome c = search rules
+enum_known-outcome : tie.Need-enum_known-outcome
+enum_known-outcome c = search rules
 
-slice-write-answer : tie.Need-slice-write-answer
-slice-write-answer c = search rules
+bounds-answer-0 : tie.Need-bounds-answer-0
+bounds-answer-0 c = search rules
 
-slice-write-answer-2 : tie.Need-slice-write-answer-2
-slice-write-answer-2 c =
-    let call = c.before.before.before.before.before.before.before.before.before.before.before in
-    simp length-set (omega (arith, (else-of-call call).if1.false))
+bounds-answer-1 : tie.Need-bounds-answer-1
+bounds-answer-1 c =
+    simp length-set (omega (arith, c.if-answer-ne2.false))
 
-enum-known-outcome-2 : tie.Need-enum-known-outcome-2
-enum-known-outcome-2 c = search rules
+enum_known-outcome-in-Refused-1 : tie.Need-enum_known-outcome-in-Refused-1
+enum_known-outcome-in-Refused-1 c = search rules
 
-same_length_lem : tie.Need-same-length
-same_length_lem c = search rules
+shape_of-perm-in-Read : tie.Need-shape_of-perm-in-Read
+shape_of-perm-in-Read c = search rules
 
-same-length-2 : tie.Need-same-length-2
-same-length-2 c = search rules
+shape_of-u-in-Read : tie.Need-shape_of-u-in-Read
+shape_of-u-in-Read c = search rules
 
-same-length-3 : tie.Need-same-length-3
-same-length-3 c = search rules
+shape_of-v-in-Read : tie.Need-shape_of-v-in-Read
+shape_of-v-in-Read c = search rules
 
-same-length-4 : tie.Need-same-length-4
-same-length-4 c = search rules
+shape_of-cmax-in-Read : tie.Need-shape_of-cmax-in-Read
+shape_of-cmax-in-Read c = search rules
 
-same-length-5 : tie.Need-same-length-5
-same-length-5 c = search rules
+shape_of-answer : tie.Need-shape_of-answer
+shape_of-answer c = search rules
 
-returns-2 : tie.Need-returns-2
-returns-2 c =
-    let call = c.before.before.before.before.before.before.before.before.before.before.before in
-    let a = (entry-of-else (else-of-call call)).args in
-    let E = call.read-canonical-sheet.ensures in
+returns-in-Read : tie.Need-returns-in-Read
+returns-in-Read c =
+    let a = c.args in
+    let E = c.read_canonical_sheet-outcome.ensures in
     as_canonical _ _ _ (was_read canonical_sheet_numbers (Holds a.sheet.now) (λ (n : ℕ) (m : Match ℕ). sheet_bytes n m ≡ a.sheet.now) _ _ _ _
-    (else-of-call call).if1.false
-    E.outcome E.number E.holds E.again c.before.outcome.given.1)
+    c.if-answer-ne2.false
+    E.outcome E.number E.holds E.again c.outcome-1.given.1)
 
-same-length-6 : tie.Need-same-length-6
-same-length-6 c = search rules
+shape_of-perm-in-Refused : tie.Need-shape_of-perm-in-Refused
+shape_of-perm-in-Refused c = search rules
 
-same-length-7 : tie.Need-same-length-7
-same-length-7 c = search rules
+shape_of-u-in-Refused : tie.Need-shape_of-u-in-Refused
+shape_of-u-in-Refused c = search rules
 
-same-length-8 : tie.Need-same-length-8
-same-length-8 c = search rules
+shape_of-v-in-Refused : tie.Need-shape_of-v-in-Refused
+shape_of-v-in-Refused c = search rules
 
-same-length-9 : tie.Need-same-length-9
-same-length-9 c = search rules
+shape_of-cmax-in-Refused : tie.Need-shape_of-cmax-in-Refused
+shape_of-cmax-in-Refused c = search rules
 
-returns-3 : tie.Need-returns-3
-returns-3 c =
-    let call = c.before.before.before.before.before.before.before.before.before.before.before in
-    let a = (entry-of-else (else-of-call call)).args in
-    let E = call.read-canonical-sheet.ensures in
+returns-in-Refused : tie.Need-returns-in-Refused
+returns-in-Refused c =
+    let a = c.args in
+    let E = c.read_canonical_sheet-outcome.ensures in
     as_canonical _ _ _ (read_refused canonical_sheet_numbers (Holds a.sheet.now) (λ (n : ℕ) (m : Match ℕ). sheet_bytes n m ≡ a.sheet.now) _ _ _ _
-    (else-of-call call).if1.false
-    E.outcome E.number c.before.outcome2.given.1)
+    c.if-answer-ne2.false
+    E.outcome E.number c.outcome-in-Refused-1.given.1)
 
-pub suontarvi-read-canonical-sheet-spec : {M : Type 1} → statement M
-suontarvi-read-canonical-sheet-spec =
+pub suontarvi_read_canonical_sheet_spec : {M : Type 1} → statement M
+suontarvi_read_canonical_sheet_spec =
     tie.close
     (tie.spec
-    length-fault-requires
-    returns
-    read-canonical-sheet-requires
-    enum-known-outcome
-    slice-write-answer
-    slice-write-answer-2
-    enum-known-outcome-2
-    same_length_lem
-    same-length-2
-    same-length-3
-    same-length-4
-    same-length-5
-    returns-2
-    same-length-6
-    same-length-7
-    same-length-8
-    same-length-9
-    returns-3)
+    length_fault-requires
+    returns-then-answer-ne2
+    read_canonical_sheet-outcome-requires
+    enum_known-outcome
+    bounds-answer-0
+    bounds-answer-1
+    enum_known-outcome-in-Refused-1
+    shape_of-perm-in-Read
+    shape_of-u-in-Read
+    shape_of-v-in-Read
+    shape_of-cmax-in-Read
+    shape_of-answer
+    returns-in-Read
+    shape_of-perm-in-Refused
+    shape_of-u-in-Refused
+    shape_of-v-in-Refused
+    shape_of-cmax-in-Refused
+    returns-in-Refused)

@@ -1,58 +1,59 @@
 -- `sheet_calls::suontarvi_write_sheet` meets its contract: the answer of the writer by its two cases.
+use Rattle.std.proofs.Common.{rules}
 use Rattle.suontarvi.proofs.SheetResults.{unfit_used, used, write_refused}
 use borrow.Author.Rules.{rules}
 use Rattle.suontarvi.proofs.sheet_calls.suontarvi_write_sheet.Statement.{statement}
 use Rattle.suontarvi.proofs.sheet_calls.suontarvi_write_sheet.Tie as tie
 
-size-fault-requires : tie.Need-size-fault-requires
-size-fault-requires c κs = search rules
+size_fault-requires : tie.Need-size_fault-requires
+size_fault-requires c κs = search rules
 
-returns : tie.Need-returns
-returns c = unfit_used _ _ _ _ _ c.before.if1.true c.size-fault.ensures
+returns-then-used-ne1 : tie.Need-returns-then-used-ne1
+returns-then-used-ne1 c = unfit_used _ _ _ _ _ c.if-used-ne1.true c.size_fault.ensures
 
-write-sheet-requires : tie.Need-write-sheet-requires
-write-sheet-requires c κs = search rules
+write_sheet-answer-requires : tie.Need-write_sheet-answer-requires
+write_sheet-answer-requires c κs = search rules
 
-enum-known-answer : tie.Need-enum-known-answer
-enum-known-answer c = search rules
+enum_known-answer : tie.Need-enum_known-answer
+enum_known-answer c = search rules
 
-slice-write-used : tie.Need-slice-write-used
-slice-write-used c = search rules
+bounds-used-0 : tie.Need-bounds-used-0
+bounds-used-0 c = search rules
 
-enum-known-answer-2 : tie.Need-enum-known-answer-2
-enum-known-answer-2 c = search rules
+enum_known-answer-in-Refused-1 : tie.Need-enum_known-answer-in-Refused-1
+enum_known-answer-in-Refused-1 c = search rules
 
-same_length_lem : tie.Need-same-length
-same_length_lem c = search rules
+shape_of-sheet-in-Used : tie.Need-shape_of-sheet-in-Used
+shape_of-sheet-in-Used c = search rules
 
-same-length-2 : tie.Need-same-length-2
-same-length-2 c = search rules
+shape_of-used : tie.Need-shape_of-used
+shape_of-used c = search rules
 
-returns-2 : tie.Need-returns-2
-returns-2 c =
-    let E = c.before.before.before.before.before.write-sheet.ensures in
-    used _ _ _ _ _ c.before.before.before.before.before.before.before.if1.false E c.before.answer.given.1
+returns-in-Used : tie.Need-returns-in-Used
+returns-in-Used c =
+    let E = c.write_sheet-answer.ensures in
+    used _ _ _ _ _ c.if-used-ne1.false E c.answer-1.given.1
 
-same-length-3 : tie.Need-same-length-3
-same-length-3 c = search rules
+shape_of-sheet-in-Refused : tie.Need-shape_of-sheet-in-Refused
+shape_of-sheet-in-Refused c = search rules
 
-returns-3 : tie.Need-returns-3
-returns-3 c =
-    let E = c.before.before.before.before.before.write-sheet.ensures in
-    write_refused _ _ _ _ _ c.before.before.before.before.before.before.before.if1.false E c.before.answer2.given.1
+returns-in-Refused : tie.Need-returns-in-Refused
+returns-in-Refused c =
+    let E = c.write_sheet-answer.ensures in
+    write_refused _ _ _ _ _ c.if-used-ne1.false E c.answer-in-Refused-1.given.1
 
-pub suontarvi-write-sheet-spec : {M : Type 1} → statement M
-suontarvi-write-sheet-spec =
+pub suontarvi_write_sheet_spec : {M : Type 1} → statement M
+suontarvi_write_sheet_spec =
     tie.close
     (tie.spec
-    size-fault-requires
-    returns
-    write-sheet-requires
-    enum-known-answer
-    slice-write-used
-    enum-known-answer-2
-    same_length_lem
-    same-length-2
-    returns-2
-    same-length-3
-    returns-3)
+    size_fault-requires
+    returns-then-used-ne1
+    write_sheet-answer-requires
+    enum_known-answer
+    bounds-used-0
+    enum_known-answer-in-Refused-1
+    shape_of-sheet-in-Used
+    shape_of-used
+    returns-in-Used
+    shape_of-sheet-in-Refused
+    returns-in-Refused)

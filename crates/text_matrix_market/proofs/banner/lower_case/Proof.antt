@@ -1,4 +1,5 @@
 -- `banner::lower_case` meets its contract: by the tests that led there.
+use Rattle.std.proofs.Common.{rules}
 use mathlib.Core.Bool.{and-false}
 use borrow.Author.Tests.{le-leb, lt-leb}
 use native.Mathlib.Omega.{arith}
@@ -6,17 +7,23 @@ use borrow.Author.Rules.{rules}
 use Rattle.text_matrix_market.proofs.banner.lower_case.Statement.{statement}
 use Rattle.text_matrix_market.proofs.banner.lower_case.Tie as tie
 
+returns-then-b-lt65 : tie.Need-returns-then-b-lt65
+returns-then-b-lt65 c = rw (lt-leb 65 _ c.if-b-lt65.true)
+
+returns-then-b-gt90 : tie.Need-returns-then-b-gt90
+returns-then-b-gt90 c = rw (lt-leb _ 90 c.if-b-gt90.true, and-false)
+
+overflow_add-result : tie.Need-overflow_add-result
+overflow_add-result c = search rules
+
 returns : tie.Need-returns
-returns c = rw (lt-leb 65 _ c.if1.true)
+returns-then-b-lt65 c = rw (le-leb 65 c.args.b (omega arith), le-leb c.args.b 90 (omega arith))
 
-returns-2 : tie.Need-returns-2
-returns-2 c = rw (lt-leb _ 90 c.if2.true, and-false)
-
-add-result : tie.Need-overflow-add-result
-add-result c = search rules
-
-returns-3 : tie.Need-returns-3
-returns-3 c = rw (le-leb 65 c.before.before.args.b (omega arith), le-leb c.before.before.args.b 90 (omega arith))
-
-pub lower-case-spec : {M : Type 1} → statement M
-lower-case-spec = tie.close (tie.spec returns returns-2 add-result returns-3)
+pub lower_case_spec : {M : Type 1} → statement M
+lower_case_spec =
+    tie.close
+    (tie.spec
+    returns-then-b-lt65
+    returns-then-b-gt90
+    overflow_add-result
+    returns)

@@ -1,4 +1,5 @@
 -- `numbers::line_numbers` meets its contract: each word that is a number leaves the words behind it.
+use Rattle.std.proofs.Common.{rules}
 use mathlib.Core.Path.{sym, ◌∙◌}
 use Rattle.text_matrix_market.proofs.Fields.{Found, found, lost, weighed_within, no_first, no_second, no_third, one_more, all_three}
 use native.Mathlib.Omega.{arith}
@@ -7,119 +8,94 @@ use borrow.Author.Rules.{rules}
 use Rattle.text_matrix_market.proofs.numbers.line_numbers.Statement.{statement}
 use Rattle.text_matrix_market.proofs.numbers.line_numbers.Tie as tie
 
--- places of the proof, each from a later one
-abbrev entry-of-known-told : tie.After-known-told → tie.Start
-entry-of-known-told c = c.before.before.before.before.before
+next_number-requires : tie.Need-next_number-requires
+next_number-requires c κs = search rules
 
-abbrev known-told-of-enum-told2 : tie.After-enum-told2 → tie.After-known-told
-known-told-of-enum-told2 c = c.before.before.before
+enum_known-a : tie.Need-enum_known-a
+enum_known-a c = search rules
 
-abbrev entry-of-enum-told2 : tie.After-enum-told2 → tie.Start
-entry-of-enum-told2 c = entry-of-known-told (known-told-of-enum-told2 c)
+enum_told-1 : tie.Need-enum_told-1
+enum_told-1 c = search rules
 
-abbrev known-told-of-known-told2 : tie.After-known-told2 → tie.After-known-told
-known-told-of-known-told2 c = c.before.before.before.before
+returns-in_default : tie.Need-returns-in_default
+returns-in_default c =
+    let args = c.args in
+    no_first args.kind args.line.now (lost args.line.now 0 (sym c.next_number.ensures ∙ c.enum_told-1.given.1))
 
-abbrev entry-of-known-told2 : tie.After-known-told2 → tie.Start
-entry-of-known-told2 c = entry-of-known-told (known-told-of-known-told2 c)
+first : (c : tie.In-Is) → Found number_read c.args.line.now 0 c.a-1.given.0.0 c.a-1.given.0.1.0
+first c = found c.args.line.now 0 (omega arith) (sym c.next_number.ensures ∙ c.a-1.given.1)
 
-abbrev known-told-of-next-weight : tie.After-next-weight → tie.After-known-told
-known-told-of-next-weight c = known-told-of-known-told2 c.before
+next_number-requires-2 : tie.Need-next_number-requires-2
+next_number-requires-2 c κs = (first c).within
 
-abbrev entry-of-next-weight : tie.After-next-weight → tie.Start
-entry-of-next-weight c = entry-of-known-told (known-told-of-next-weight c)
+enum_known-b : tie.Need-enum_known-b
+enum_known-b c = search rules
 
-next-number-requires : tie.Need-next-number-requires
-next-number-requires c κs = search rules
+enum_told-in_default-next_number : tie.Need-enum_told-in_default-next_number
+enum_told-in_default-next_number c = search rules
 
-enum-known-a : tie.Need-enum-known-a
-enum-known-a c = search rules
+returns-in_default-next_number : tie.Need-returns-in_default-next_number
+returns-in_default-next_number c =
+    let args = c.args in
+    no_second args.kind args.line.now (first c.before.before.before)
+    (lost args.line.now c.a-1.given.0.1.0
+    (sym c.next_number-2.ensures ∙ c.enum_told-in_default-next_number-1.given.1))
 
-enum_told : tie.Need-enum-told
-enum_told c = search rules
+second : (c : tie.In-Is-next_number) → Found number_read c.args.line.now
+    c.a-1.given.0.1.0 c.b-1.given.0.0 c.b-1.given.0.1.0
+second c = found c.args.line.now c.a-1.given.0.1.0
+    (first c.before.before.before.before).within (sym c.next_number-2.ensures ∙ c.b-1.given.1)
+
+next_weight-requires : tie.Need-next_weight-requires
+next_weight-requires c κs = (second c).within
+
+enum_known-c : tie.Need-enum_known-c
+enum_known-c c = search rules
+
+enum_told-in_default-next_weight : tie.Need-enum_told-in_default-next_weight
+enum_told-in_default-next_weight c = search rules
+
+returns-in_default-next_weight : tie.Need-returns-in_default-next_weight
+returns-in_default-next_weight c =
+    let args = c.args in
+    no_third args.kind args.line.now (first c.before.before.before.before.before.before.before)
+    (second c.before.before.before)
+    (sym c.next_weight.ensures ∙ c.enum_told-in_default-next_weight-1.given.1)
+
+word_start-requires : tie.Need-word_start-requires
+word_start-requires c κs =
+    let args = c.args in
+    weighed_within args.kind args.line.now c.b-1.given.0.1.0 (second c.before.before.before.before).within
+    (sym c.next_weight.ensures ∙ c.c-1.given.1)
+
+returns-then-word_start-line : tie.Need-returns-then-word_start-line
+returns-then-word_start-line c =
+    let args = c.args in
+    one_more args.line.now (first c.before.before.before.before.before.before.before.before.before.before) (second c.before.before.before.before.before.before) args.kind
+    (sym c.next_weight.ensures ∙ c.c-1.given.1) (omega arith)
 
 returns : tie.Need-returns
-returns c =
-    let args = c.before.before.before.before.args in
-    no_first args.kind args.line.now (lost args.line.now 0 (sym c.before.before.next-number.ensures ∙ c.enum_told.given.1))
+returns-in_default c =
+    let args = c.args in
+    all_three args.line.now (first c.before.before.before.before.before.before.before.before.before.before) (second c.before.before.before.before.before.before) args.kind
+    (sym c.next_weight.ensures ∙ c.c-1.given.1) (omega arith)
 
-first : (c : tie.After-known-told) → Found number_read (entry-of-known-told c).args.line.now 0 c.before.a.given.0.0 c.before.a.given.0.1.0
-first c = found (entry-of-known-told c).args.line.now 0 (omega arith) (sym c.before.before.before.next-number.ensures ∙ c.before.a.given.1)
-
-next-number-requires-2 : tie.Need-next-number-requires-2
-next-number-requires-2 c κs = (first c).within
-
-enum-known-b : tie.Need-enum-known-b
-enum-known-b c = search rules
-
-enum-told-2 : tie.Need-enum-told-2
-enum-told-2 c = search rules
-
-returns-2 : tie.Need-returns-2
-returns-2 c =
-    let args = (entry-of-enum-told2 c).args in
-    no_second args.kind args.line.now (first (known-told-of-enum-told2 c))
-    (lost args.line.now (known-told-of-enum-told2 c).before.a.given.0.1.0
-    (sym c.before.before.next-number2.ensures ∙ c.enum-told2.given.1))
-
-second : (c : tie.After-known-told2) → Found number_read (entry-of-known-told2 c).args.line.now
-    (known-told-of-known-told2 c).before.a.given.0.1.0 c.before.b.given.0.0 c.before.b.given.0.1.0
-second c = found (entry-of-known-told2 c).args.line.now (known-told-of-known-told2 c).before.a.given.0.1.0
-    (first (known-told-of-known-told2 c)).within (sym c.before.before.before.next-number2.ensures ∙ c.before.b.given.1)
-
-next-weight-requires : tie.Need-next-weight-requires
-next-weight-requires c κs = (second c).within
-
-enum-known-c : tie.Need-enum-known-c
-enum-known-c c = search rules
-
-enum-told-3 : tie.Need-enum-told-3
-enum-told-3 c = search rules
-
-returns-3 : tie.Need-returns-3
-returns-3 c =
-    let args = (entry-of-next-weight c.before.before).args in
-    no_third args.kind args.line.now (first (known-told-of-next-weight c.before.before))
-    (second c.before.before.before)
-    (sym c.before.before.next-weight.ensures ∙ c.enum-told3.given.1)
-
-word-start-requires : tie.Need-word-start-requires
-word-start-requires c κs =
-    let weight = c.before.before.before in
-    let args = (entry-of-next-weight weight).args in
-    weighed_within args.kind args.line.now weight.before.before.b.given.0.1.0 (second weight.before).within
-    (sym weight.next-weight.ensures ∙ c.before.c.given.1)
-
-returns-4 : tie.Need-returns-4
-returns-4 c =
-    let weight = c.before.before.before.before.before in
-    let args = (entry-of-next-weight weight).args in
-    one_more args.line.now (first (known-told-of-next-weight weight)) (second weight.before) args.kind
-    (sym weight.next-weight.ensures ∙ c.before.before.before.c.given.1) (omega arith)
-
-returns-5 : tie.Need-returns-5
-returns-5 c =
-    let weight = c.before.before.before.before.before in
-    let args = (entry-of-next-weight weight).args in
-    all_three args.line.now (first (known-told-of-next-weight weight)) (second weight.before) args.kind
-    (sym weight.next-weight.ensures ∙ c.before.before.before.c.given.1) (omega arith)
-
-pub line-numbers-spec : {M : Type 1} → statement M
-line-numbers-spec =
+pub line_numbers_spec : {M : Type 1} → statement M
+line_numbers_spec =
     tie.close
     (tie.spec
-    next-number-requires
-    enum-known-a
-    enum_told
-    returns
-    next-number-requires-2
-    enum-known-b
-    enum-told-2
-    returns-2
-    next-weight-requires
-    enum-known-c
-    enum-told-3
-    returns-3
-    word-start-requires
-    returns-4
-    returns-5)
+    next_number-requires
+    enum_known-a
+    enum_told-1
+    returns-in_default
+    next_number-requires-2
+    enum_known-b
+    enum_told-in_default-next_number
+    returns-in_default-next_number
+    next_weight-requires
+    enum_known-c
+    enum_told-in_default-next_weight
+    returns-in_default-next_weight
+    word_start-requires
+    returns-then-word_start-line
+    returns)

@@ -1,4 +1,5 @@
 -- `numbers::next_number` meets its contract: the next word from a place on, read as a number, signed or not.
+use Rattle.std.proofs.Common.{rules}
 use mathlib.Core.Path.{sym, ap, ap₂, ◌∙◌}
 use Rattle.text_matrix_market.specs.declared.numbers.Number.{Number}
 use Rattle.text_matrix_market.specs.Text.{is_blank}
@@ -10,99 +11,79 @@ use borrow.Author.Rules.{rules}
 use Rattle.text_matrix_market.proofs.numbers.next_number.Statement.{statement}
 use Rattle.text_matrix_market.proofs.numbers.next_number.Tie as tie
 
--- places of the proof, each from a later one
-abbrev entry-of-word-end : tie.After-word-end → tie.Start
-entry-of-word-end c = c.before.before.before
+word_start-start-requires : tie.Need-word_start-start-requires
+word_start-start-requires c κs = search rules
 
-abbrev word-end-of-enum-told : tie.After-enum-told → tie.After-word-end
-word-end-of-enum-told c = c.before.before.before.before
+word_end-end-requires : tie.Need-word_end-end-requires
+word_end-end-requires c κs = omega (arith, reach_within is_word_byte c.args.line.now c.args.from c.requires)
 
-abbrev word-start-of-enum-told : tie.After-enum-told → tie.After-word-start
-word-start-of-enum-told c = (word-end-of-enum-told c).before
+slice_bounds-read_word-count : tie.Need-slice_bounds-read_word-count
+slice_bounds-read_word-count c = omega (arith, reach_from is_blank c.args.line.now c.word_start-start.result)
 
-abbrev read-word-of-known-told : tie.After-known-told → tie.After-read-word
-read-word-of-known-told c = c.before.before.before
-
-abbrev word-start-of-known-told : tie.After-known-told → tie.After-word-start
-word-start-of-known-told c = (read-word-of-known-told c).before.before.before
-
-word-start-requires : tie.Need-word-start-requires
-word-start-requires c κs = search rules
-
-word-end-requires : tie.Need-word-end-requires
-word-end-requires c κs = omega (arith, reach_within is_word_byte c.before.before.args.line.now c.before.before.args.from c.before.before.requires)
-
-sub-read-word : tie.Need-overflow-sub-read-word
-sub-read-word c = omega (arith, reach_from is_blank (entry-of-word-end c).args.line.now c.before.word-start.result)
-
-part-read-word-start : tie.Need-slice-bounds-read-word-start
-part-read-word-start c =
-    let args = (entry-of-word-end c).args in
+slice_bounds-read_word-start : tie.Need-slice_bounds-read_word-start
+slice_bounds-read_word-start c =
+    let args = c.args in
     omega (
       arith,
-      reach_from is_blank args.line.now c.before.word-start.result,
+      reach_from is_blank args.line.now c.word_start-start.result,
       reach_within is_blank args.line.now
-          c.before.word-start.result (omega (
+          c.word_start-start.result (omega (
             arith,
             reach_within is_word_byte args.line.now args.from
-                (entry-of-word-end c).requires,
+                c.requires,
           )),
     )
 
-part-read-word-end : tie.Need-slice-bounds-read-word-end
-part-read-word-end c =
-    let args = (entry-of-word-end c).args in
+slice_bounds-read_word-end : tie.Need-slice_bounds-read_word-end
+slice_bounds-read_word-end c =
+    let args = c.args in
     omega (
       arith,
-      reach_from is_blank args.line.now c.before.word-start.result,
+      reach_from is_blank args.line.now c.word_start-start.result,
       reach_within is_blank args.line.now
-          c.before.word-start.result (omega (
+          c.word_start-start.result (omega (
             arith,
             reach_within is_word_byte args.line.now args.from
-                (entry-of-word-end c).requires,
+                c.requires,
           )),
     )
 
-read-word-requires : tie.Need-read-word-requires
-read-word-requires c κs = search rules
+read_word-found-requires : tie.Need-read_word-found-requires
+read_word-found-requires c κs = search rules
 
-enum-known-found : tie.Need-enum-known-found
-enum-known-found c = search rules
+enum_known-found : tie.Need-enum_known-found
+enum_known-found c = search rules
 
-enum_told : tie.Need-enum-told
-enum_told c = search rules
+enum_told-1 : tie.Need-enum_told-1
+enum_told-1 c = search rules
 
-returns : tie.Need-returns
-returns c =
-    let args = (word-start-of-known-told c).before.before.args in
-    let word-start = word-start-of-known-told c in
-    let word-end = (read-word-of-known-told c).before.before in
-    ap (λ (x : Number). field_of x word-end.word-end.result) (sym c.before.found.given.1) ∙ ap₂ field_of
-    ((read-word-of-known-told c).read_word.ensures ∙ ap (word_read args.signed)
-    (found_word args.line.now args.from word-start.word-start.ensures word-end.word-end.ensures))
-    (found_past args.line.now args.from word-start.word-start.ensures word-end.word-end.ensures)
+returns-in-Is : tie.Need-returns-in-Is
+returns-in-Is c =
+    let args = c.args in
+    ap (λ (x : Number). field_of x c.word_end-end.result) (sym c.found-1.given.1) ∙ ap₂ field_of
+    (c.read_word-found.ensures ∙ ap (word_read args.signed)
+    (found_word args.line.now args.from c.word_start-start.ensures c.word_end-end.ensures))
+    (found_past args.line.now args.from c.word_start-start.ensures c.word_end-end.ensures)
 
-returns-2 : tie.Need-returns-2
-returns-2 c =
-    let args = (word-start-of-enum-told c).before.before.args in
-    let word-start = word-start-of-enum-told c in
-    let word-end = word-end-of-enum-told c in
-    ap (λ (x : Number). field_of x word-end.word-end.result) (sym c.enum_told.given.1) ∙ ap₂ field_of
-    (c.before.before.read_word.ensures ∙ ap (word_read args.signed) (found_word args.line.now args.from
-    word-start.word-start.ensures word-end.word-end.ensures))
-    (found_past args.line.now args.from word-start.word-start.ensures word-end.word-end.ensures)
+returns-in-Misshapen : tie.Need-returns-in-Misshapen
+returns-in-Misshapen c =
+    let args = c.args in
+    ap (λ (x : Number). field_of x c.word_end-end.result) (sym c.enum_told-1.given.1) ∙ ap₂ field_of
+    (c.read_word-found.ensures ∙ ap (word_read args.signed) (found_word args.line.now args.from
+    c.word_start-start.ensures c.word_end-end.ensures))
+    (found_past args.line.now args.from c.word_start-start.ensures c.word_end-end.ensures)
 
-pub next-number-spec : {M : Type 1} → statement M
-next-number-spec =
+pub next_number_spec : {M : Type 1} → statement M
+next_number_spec =
     tie.close
     (tie.spec
-    word-start-requires
-    word-end-requires
-    sub-read-word
-    part-read-word-start
-    part-read-word-end
-    read-word-requires
-    enum-known-found
-    enum_told
-    returns
-    returns-2)
+    word_start-start-requires
+    word_end-end-requires
+    slice_bounds-read_word-count
+    slice_bounds-read_word-start
+    slice_bounds-read_word-end
+    read_word-found-requires
+    enum_known-found
+    enum_told-1
+    returns-in-Is
+    returns-in-Misshapen)

@@ -1,46 +1,47 @@
 -- `numbers::next_weight` meets its contract: by the kind.
+use Rattle.std.proofs.Common.{rules}
 use mathlib.Core.Path.{refl}
 use Rattle.text_matrix_market.specs.inner.Steps.{weight_field}
 use borrow.Author.Rules.{rules}
 use Rattle.text_matrix_market.proofs.numbers.next_weight.Statement.{statement}
 use Rattle.text_matrix_market.proofs.numbers.next_weight.Tie as tie
 
-enum_told : tie.Need-enum-told
-enum_told c = search rules
+enum_told-1 : tie.Need-enum_told-1
+enum_told-1 c = search rules
 
-next-number-requires : tie.Need-next-number-requires
-next-number-requires c κs = search rules
+next_number-requires : tie.Need-next_number-requires
+next_number-requires c κs = search rules
 
-enum-told-2 : tie.Need-enum-told-2
-enum-told-2 c = search rules
+enum_told-in-Symmetric : tie.Need-enum_told-in-Symmetric
+enum_told-in-Symmetric c = search rules
 
-next-number-requires-2 : tie.Need-next-number-requires-2
-next-number-requires-2 c κs = search rules
+next_number-requires-in-Symmetric : tie.Need-next_number-requires-in-Symmetric
+next_number-requires-in-Symmetric c κs = search rules
 
-enum-told-3 : tie.Need-enum-told-3
-enum-told-3 c = search rules
+enum_told-in-Pattern : tie.Need-enum_told-in-Pattern
+enum_told-in-Pattern c = search rules
 
-returns : tie.Need-returns
+returns-in-General : tie.Need-returns-in-General
 unfolding weight_field
-returns c = rw c.before.enum_told.given.1 c.next-number.ensures
+returns-in-General c = rw c.enum_told-1.given.1 c.next_number.ensures
 
-returns-2 : tie.Need-returns-2
+returns-in-Symmetric : tie.Need-returns-in-Symmetric
 unfolding weight_field
-returns-2 c = rw c.before.enum-told2.given.1 c.next-number2.ensures
+returns-in-Symmetric c = rw c.enum_told-in-Symmetric-1.given.1 c.next_number-in-Symmetric.ensures
 
-returns-3 : tie.Need-returns-3
+returns-in-Pattern : tie.Need-returns-in-Pattern
 unfolding weight_field
-returns-3 c = rw c.enum-told3.given.1 refl
+returns-in-Pattern c = rw c.enum_told-in-Pattern-1.given.1 refl
 
-pub next-weight-spec : {M : Type 1} → statement M
-next-weight-spec =
+pub next_weight_spec : {M : Type 1} → statement M
+next_weight_spec =
     tie.close
     (tie.spec
-    enum_told
-    next-number-requires
-    enum-told-2
-    next-number-requires-2
-    enum-told-3
-    returns
-    returns-2
-    returns-3)
+    enum_told-1
+    next_number-requires
+    enum_told-in-Symmetric
+    next_number-requires-in-Symmetric
+    enum_told-in-Pattern
+    returns-in-General
+    returns-in-Symmetric
+    returns-in-Pattern)

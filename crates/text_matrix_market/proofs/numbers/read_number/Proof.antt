@@ -6,89 +6,67 @@ use native.Mathlib.Omega.{arith}
 use Rattle.text_matrix_market.proofs.numbers.read_number.Statement.{statement}
 use Rattle.text_matrix_market.proofs.numbers.read_number.Tie as tie
 
-abbrev invariant-loop : tie.invariant-loop
-invariant-loop word value₀ i₀ value i = Read word value i
+abbrev invariant-loop-i : tie.invariant-loop-i
+invariant-loop-i word value₀ i₀ value i = Read word value i
 
-abbrev decreases-loop : tie.decreases-loop
-decreases-loop word value₀ i₀ value i = length word - i
+abbrev decreases-loop-i : tie.decreases-loop-i
+decreases-loop-i word value₀ i₀ value i = length word - i
 
--- places of the proof, each from a later one
-abbrev entry-of-loop : tie.At-loop invariant-loop decreases-loop → tie.Start invariant-loop decreases-loop
-entry-of-loop c = c.before.before.before
+returns-then-word-eq0 : tie.Need-returns-then-word-eq0 invariant-loop-i decreases-loop-i
+returns-then-word-eq0 c = too_short c.args.word.now c.if-word-eq0.true
 
-abbrev entry-of-then3 : tie.Then3 invariant-loop decreases-loop → tie.Start invariant-loop decreases-loop
-entry-of-then3 c = entry-of-loop c.before.before.before
+returns-then-word-gt-MAX_DIGITS : tie.Need-returns-then-word-gt-MAX_DIGITS invariant-loop-i decreases-loop-i
+returns-then-word-gt-MAX_DIGITS c = too_long c.args.word.now c.if-word-gt-MAX_DIGITS.true
 
-abbrev loop-of-then4 : tie.Then4 invariant-loop decreases-loop → tie.At-loop invariant-loop decreases-loop
-loop-of-then4 c = c.before.before.before.before
+loop-i-init : tie.Need-loop-i-init invariant-loop-i decreases-loop-i
+loop-i-init c = read_none c.args.word.now c.if-word-eq0.false c.if-word-gt-MAX_DIGITS.false
 
-abbrev entry-of-then4 : tie.Then4 invariant-loop decreases-loop → tie.Start invariant-loop decreases-loop
-entry-of-then4 c = entry-of-loop (loop-of-then4 c)
+bounds-word-i : tie.Need-bounds-word-i invariant-loop-i decreases-loop-i
+bounds-word-i c = omega arith
 
-abbrev in-loop-of-else4 : tie.Else4 invariant-loop decreases-loop → tie.In-loop invariant-loop decreases-loop
-in-loop-of-else4 c = c.before.before.before
+returns-then-digit-lt48 : tie.Need-returns-then-digit-lt48 invariant-loop-i decreases-loop-i
+returns-then-digit-lt48 c = below_0 c.args.word.now c.loop-i.invariant (omega arith) c.if-digit-lt48.true
 
-abbrev loop-of-else4 : tie.Else4 invariant-loop decreases-loop → tie.At-loop invariant-loop decreases-loop
-loop-of-else4 c = (in-loop-of-else4 c).before
+returns-then-digit-gt57 : tie.Need-returns-then-digit-gt57 invariant-loop-i decreases-loop-i
+returns-then-digit-gt57 c = above_9 c.args.word.now c.loop-i.invariant (omega arith) c.if-digit-gt57.true
 
-abbrev entry-of-else4 : tie.Else4 invariant-loop decreases-loop → tie.Start invariant-loop decreases-loop
-entry-of-else4 c = entry-of-loop (loop-of-else4 c)
+overflow_mul-value : tie.Need-overflow_mul-value invariant-loop-i decreases-loop-i
+overflow_mul-value c = omega (arith, small c.args.word.now c.loop-i.invariant c.loop-i-test.true)
 
-returns : tie.Need-returns invariant-loop decreases-loop
-returns c = too_short c.before.args.word.now c.if1.true
+overflow_cast-value : tie.Need-overflow_cast-value invariant-loop-i decreases-loop-i
+overflow_cast-value c = omega arith
 
-returns-2 : tie.Need-returns-2 invariant-loop decreases-loop
-returns-2 c = too_long c.before.before.args.word.now c.if2.true
+overflow_add-value : tie.Need-overflow_add-value invariant-loop-i decreases-loop-i
+overflow_add-value c = omega (arith, small c.args.word.now c.loop-i.invariant c.loop-i-test.true)
 
-loop-holds : tie.Need-loop-init invariant-loop decreases-loop
-loop-holds c = read_none c.before.before.args.word.now c.before.if1.false c.if2.false
+overflow_add-i : tie.Need-overflow_add-i invariant-loop-i decreases-loop-i
+overflow_add-i c = omega arith
 
-shared-slice-read-digit : tie.Need-shared-slice-read-digit invariant-loop decreases-loop
-shared-slice-read-digit c = omega arith
+loop-i-smaller : tie.Need-loop-i-smaller invariant-loop-i decreases-loop-i
+loop-i-smaller c = omega arith
 
-returns-3 : tie.Need-returns-3 invariant-loop decreases-loop
-returns-3 c = below_0 (entry-of-then3 c).args.word.now c.before.before.before.loop.invariant (omega arith) c.if3.true
+loop-i-preserved : tie.Need-loop-i-preserved invariant-loop-i decreases-loop-i
+loop-i-preserved c = digit c.args.word.now c.loop-i.invariant (omega arith) (omega arith) (omega arith)
 
-returns-4 : tie.Need-returns-4 invariant-loop decreases-loop
-returns-4 c = above_9 (entry-of-then4 c).args.word.now (loop-of-then4 c).loop.invariant (omega arith) c.if4.true
+returns : tie.Need-returns invariant-loop-i decreases-loop-i
+returns-then-word-eq0 c = read_all c.args.word.now c.loop-i.invariant (omega arith)
 
-mul-value : tie.Need-overflow-mul-value invariant-loop decreases-loop
-mul-value c = omega (arith, small (entry-of-else4 c).args.word.now (loop-of-else4 c).loop.invariant (in-loop-of-else4 c).loop-test.true)
-
-cast-value : tie.Need-overflow-cast-value invariant-loop decreases-loop
-cast-value c = omega arith
-
-add-value : tie.Need-overflow-add-value invariant-loop decreases-loop
-add-value c = omega (arith, small (entry-of-else4 c).args.word.now (loop-of-else4 c).loop.invariant (in-loop-of-else4 c).loop-test.true)
-
-add-i : tie.Need-overflow-add-i invariant-loop decreases-loop
-add-i c = omega arith
-
-loop-less : tie.Need-loop-smaller invariant-loop decreases-loop
-loop-less c = omega arith
-
-loop-again : tie.Need-loop-preserved invariant-loop decreases-loop
-loop-again c = digit (entry-of-else4 c).args.word.now (loop-of-else4 c).loop.invariant (omega arith) (omega arith) (omega arith)
-
-returns-5 : tie.Need-returns-5 invariant-loop decreases-loop
-returns-5 c = read_all (entry-of-loop c.before).args.word.now c.before.loop.invariant (omega arith)
-
-pub read-number-spec : {M : Type 1} → statement M
-read-number-spec =
+pub read_number_spec : {M : Type 1} → statement M
+read_number_spec =
     tie.close
     (tie.spec
-    invariant-loop
-    decreases-loop
-    returns
-    returns-2
-    loop-holds
-    shared-slice-read-digit
-    returns-3
-    returns-4
-    mul-value
-    cast-value
-    add-value
-    add-i
-    loop-less
-    loop-again
-    returns-5)
+    invariant-loop-i
+    decreases-loop-i
+    returns-then-word-eq0
+    returns-then-word-gt-MAX_DIGITS
+    loop-i-init
+    bounds-word-i
+    returns-then-digit-lt48
+    returns-then-digit-gt57
+    overflow_mul-value
+    overflow_cast-value
+    overflow_add-value
+    overflow_add-i
+    loop-i-smaller
+    loop-i-preserved
+    returns)

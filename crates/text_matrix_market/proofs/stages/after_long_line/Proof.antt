@@ -1,42 +1,43 @@
 -- `stages::after_long_line` meets its contract: by the cases of the stage.
+use Rattle.std.proofs.Common.{rules}
 use mathlib.Core.Path.{refl}
 use borrow.Author.Rules.{rules}
 use Rattle.text_matrix_market.proofs.stages.after_long_line.Statement.{statement}
 use Rattle.text_matrix_market.proofs.stages.after_long_line.Tie as tie
 
-enum_told : tie.Need-enum-told
-enum_told c = search rules
+enum_told-1 : tie.Need-enum_told-1
+enum_told-1 c = search rules
 
-enum-told-2 : tie.Need-enum-told-2
-enum-told-2 c = search rules
+enum_told-in-Sizing : tie.Need-enum_told-in-Sizing
+enum_told-in-Sizing c = search rules
 
-enum-told-3 : tie.Need-enum-told-3
-enum-told-3 c = search rules
+enum_told-in-Entering : tie.Need-enum_told-in-Entering
+enum_told-in-Entering c = search rules
 
-enum-known-stage : tie.Need-enum-known-stage
-enum-known-stage c = search rules
+enum_known-stage : tie.Need-enum_known-stage
+enum_known-stage c = search rules
 
-returns : tie.Need-returns
-returns c = λ l. rw c.enum_told.given.1 refl
+returns-in-Start : tie.Need-returns-in-Start
+returns-in-Start c = λ l. rw c.enum_told-1.given.1 refl
 
-returns-2 : tie.Need-returns-2
-returns-2 c = λ l. rw c.enum-told2.given.1 refl
+returns-in-Sizing : tie.Need-returns-in-Sizing
+returns-in-Sizing c = λ l. rw c.enum_told-in-Sizing-1.given.1 refl
 
-returns-3 : tie.Need-returns-3
-returns-3 c = λ l. rw c.enum-told3.given.1 refl
+returns-in-Entering : tie.Need-returns-in-Entering
+returns-in-Entering c = λ l. rw c.enum_told-in-Entering-1.given.1 refl
 
-returns-4 : tie.Need-returns-4
-returns-4 c = λ l. rw c.before.stage.given.1 refl
+returns-in-Refused : tie.Need-returns-in-Refused
+returns-in-Refused c = λ l. rw c.stage-1.given.1 refl
 
-pub after-long-line-spec : {M : Type 1} → statement M
-after-long-line-spec =
+pub after_long_line_spec : {M : Type 1} → statement M
+after_long_line_spec =
     tie.close
     (tie.spec
-    enum_told
-    enum-told-2
-    enum-told-3
-    enum-known-stage
-    returns
-    returns-2
-    returns-3
-    returns-4)
+    enum_told-1
+    enum_told-in-Sizing
+    enum_told-in-Entering
+    enum_known-stage
+    returns-in-Start
+    returns-in-Sizing
+    returns-in-Entering
+    returns-in-Refused)

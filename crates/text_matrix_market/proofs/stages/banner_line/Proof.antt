@@ -1,25 +1,32 @@
 -- `stages::banner_line` meets its contract: by what the banner says.
+use Rattle.std.proofs.Common.{rules}
 use mathlib.Core.Path.{sym, ◌∙◌}
 use Rattle.text_matrix_market.proofs.Entries.{banner_there, banner_lacks}
 use borrow.Author.Rules.{rules}
 use Rattle.text_matrix_market.proofs.stages.banner_line.Statement.{statement}
 use Rattle.text_matrix_market.proofs.stages.banner_line.Tie as tie
 
-read-banner-requires : tie.Need-read-banner-requires
-read-banner-requires c κs = search rules
+read_banner-found-requires : tie.Need-read_banner-found-requires
+read_banner-found-requires c κs = search rules
 
-enum-known-found : tie.Need-enum-known-found
-enum-known-found c = search rules
+enum_known-found : tie.Need-enum_known-found
+enum_known-found c = search rules
 
-enum_told : tie.Need-enum-told
-enum_told c = search rules
+enum_told-1 : tie.Need-enum_told-1
+enum_told-1 c = search rules
 
-returns : tie.Need-returns
-returns c = λ l. banner_there _ (sym c.before.before.before.read-banner.ensures ∙ c.before.found.given.1)
+returns-in-Is : tie.Need-returns-in-Is
+returns-in-Is c = λ l. banner_there _ (sym c.read_banner-found.ensures ∙ c.found-1.given.1)
 
-returns-2 : tie.Need-returns-2
-returns-2 c = λ l. banner_lacks _ (sym c.before.before.read-banner.ensures ∙ c.enum_told.given.1)
+returns-in-Other : tie.Need-returns-in-Other
+returns-in-Other c = λ l. banner_lacks _ (sym c.read_banner-found.ensures ∙ c.enum_told-1.given.1)
 
-pub banner-line-spec : {M : Type 1} → statement M
-banner-line-spec =
-    tie.close (tie.spec read-banner-requires enum-known-found enum_told returns returns-2)
+pub banner_line_spec : {M : Type 1} → statement M
+banner_line_spec =
+    tie.close
+    (tie.spec
+    read_banner-found-requires
+    enum_known-found
+    enum_told-1
+    returns-in-Is
+    returns-in-Other)

@@ -1,4 +1,5 @@
 -- `stages::entry_line` meets its contract: by the tests that led there.
+use Rattle.std.proofs.Common.{rules}
 use mathlib.Core.Path.{sym, ◌∙◌}
 use Rattle.text_matrix_market.specs.inner.Steps.{lists}
 use Rattle.text_matrix_market.proofs.Taken.{blank_left, too_many_left, misshapen_left, above_left, added_left}
@@ -6,102 +7,93 @@ use borrow.Author.Rules.{rules}
 use Rattle.text_matrix_market.proofs.stages.entry_line.Statement.{statement}
 use Rattle.text_matrix_market.proofs.stages.entry_line.Tie as tie
 
--- places of the proof, each from a later one
-abbrev else2-of-enum-told : tie.After-enum-told → tie.Else2
-else2-of-enum-told c = c.before.before.before
+is_blank_line-requires : tie.Need-is_blank_line-requires
+is_blank_line-requires c κs = search rules
 
-abbrev else2-of-enum-told2 : tie.After-enum-told2 → tie.Else2
-else2-of-enum-told2 c = c.before.before.before
+returns-then-is_blank_line : tie.Need-returns-then-is_blank_line
+returns-then-is_blank_line c = blank_left _ _ _ _ _ _ (sym c.is_blank_line.ensures ∙ c.if-is_blank_line.true)
 
-is-blank-line-requires : tie.Need-is-blank-line-requires
-is-blank-line-requires c κs = search rules
+returns-then-read-count : tie.Need-returns-then-read-count
+returns-then-read-count c = too_many_left _ _ _ _ _ _ (sym c.is_blank_line.ensures ∙ c.if-is_blank_line.false) c.if-read-count.true
 
-returns : tie.Need-returns
-returns c = blank_left _ _ _ _ _ _ (sym c.before.is-blank-line.ensures ∙ c.if1.true)
+read_entry-found-requires : tie.Need-read_entry-found-requires
+read_entry-found-requires c κs = search rules
 
-returns-2 : tie.Need-returns-2
-returns-2 c = too_many_left _ _ _ _ _ _ (sym c.before.before.is-blank-line.ensures ∙ c.before.if1.false) c.if2.true
+enum_told-1 : tie.Need-enum_told-1
+enum_told-1 c = search rules
 
-read-entry-requires : tie.Need-read-entry-requires
-read-entry-requires c κs = search rules
+enum_told-in-Upper : tie.Need-enum_told-in-Upper
+enum_told-in-Upper c = search rules
 
-enum_told : tie.Need-enum-told
-enum_told c = search rules
+enum_known-found : tie.Need-enum_known-found
+enum_known-found c = search rules
 
-enum-told-2 : tie.Need-enum-told-2
-enum-told-2 c = search rules
+offset_bounds-rows-at : tie.Need-offset_bounds-rows-at
+offset_bounds-rows-at c = search rules
 
-enum-known-found : tie.Need-enum-known-found
-enum-known-found c = search rules
+bounds-rows-at : tie.Need-bounds-rows-at
+bounds-rows-at c = search rules
 
-mul-rows : tie.Need-overflow-mul-rows
-mul-rows c = search rules
+offset_bounds-columns-at : tie.Need-offset_bounds-columns-at
+offset_bounds-columns-at c = search rules
 
-slice-write-rows : tie.Need-slice-write-rows
-slice-write-rows c = search rules
+bounds-columns-at : tie.Need-bounds-columns-at
+bounds-columns-at c = search rules
 
-mul-columns : tie.Need-overflow-mul-columns
-mul-columns c = search rules
+offset_bounds-weights-at : tie.Need-offset_bounds-weights-at
+offset_bounds-weights-at c = search rules
 
-slice-write-columns : tie.Need-slice-write-columns
-slice-write-columns c = search rules
+bounds-weights-at : tie.Need-bounds-weights-at
+bounds-weights-at c = search rules
 
-mul-weights : tie.Need-overflow-mul-weights
-mul-weights c = search rules
+overflow_add-result : tie.Need-overflow_add-result
+overflow_add-result c = search rules
 
-slice-write-weights : tie.Need-slice-write-weights
-slice-write-weights c = search rules
+returns-in-Misshapen : tie.Need-returns-in-Misshapen
+returns-in-Misshapen c = misshapen_left _ _ _ _ _ _ (sym c.is_blank_line.ensures ∙ c.if-is_blank_line.false)
+    c.if-read-count.false (sym c.read_entry-found.ensures ∙ c.enum_told-1.given.1)
 
-add-t19 : tie.Need-overflow-add-t19
-add-t19 c = search rules
+returns-in-Upper : tie.Need-returns-in-Upper
+returns-in-Upper c = above_left _ _ _ _ _ _ (sym c.is_blank_line.ensures ∙ c.if-is_blank_line.false)
+    c.if-read-count.false (sym c.read_entry-found.ensures ∙ c.enum_told-in-Upper-1.given.1)
 
-returns-3 : tie.Need-returns-3
-returns-3 c = misshapen_left _ _ _ _ _ _ (sym (else2-of-enum-told c).before.before.is-blank-line.ensures ∙ (else2-of-enum-told c).before.if1.false)
-    (else2-of-enum-told c).if2.false (sym c.before.before.read-entry.ensures ∙ c.enum_told.given.1)
+shape_of-rows : tie.Need-shape_of-rows
+shape_of-rows c = search rules
 
-returns-4 : tie.Need-returns-4
-returns-4 c = above_left _ _ _ _ _ _ (sym (else2-of-enum-told2 c).before.before.is-blank-line.ensures ∙ (else2-of-enum-told2 c).before.if1.false)
-    (else2-of-enum-told2 c).if2.false (sym c.before.before.read-entry.ensures ∙ c.enum-told2.given.1)
+shape_of-columns : tie.Need-shape_of-columns
+shape_of-columns c = search rules
 
-same_length_lem : tie.Need-same-length
-same_length_lem c = search rules
+shape_of-weights : tie.Need-shape_of-weights
+shape_of-weights c = search rules
 
-same-length-2 : tie.Need-same-length-2
-same-length-2 c = search rules
-
-same-length-3 : tie.Need-same-length-3
-same-length-3 c = search rules
-
-returns-5 : tie.Need-returns-5
-returns-5 c =
-    let e = c.before.before.before.before.before.before.before.before.before.before.before in
-    let a = e.args in
-    let u = c.before.before.before.before in
+returns-in-Is : tie.Need-returns-in-Is
+returns-in-Is c =
+    let a = c.args in
     added_left a.kind a.n a.count a.read (lists a.rows.now a.columns.now a.weights.now) a.line.now
-    (sym u.before.before.is-blank-line.ensures ∙ u.before.if1.false) u.if2.false e.requires
-    (sym c.before.before.before.read-entry.ensures ∙ c.before.found.given.1)
+    (sym c.is_blank_line.ensures ∙ c.if-is_blank_line.false) c.if-read-count.false c.requires
+    (sym c.read_entry-found.ensures ∙ c.found-1.given.1)
 
-pub entry-line-spec : {M : Type 1} → statement M
-entry-line-spec =
+pub entry_line_spec : {M : Type 1} → statement M
+entry_line_spec =
     tie.close
     (tie.spec
-    is-blank-line-requires
-    returns
-    returns-2
-    read-entry-requires
-    enum_told
-    enum-told-2
-    enum-known-found
-    mul-rows
-    slice-write-rows
-    mul-columns
-    slice-write-columns
-    mul-weights
-    slice-write-weights
-    add-t19
-    returns-3
-    returns-4
-    same_length_lem
-    same-length-2
-    same-length-3
-    returns-5)
+    is_blank_line-requires
+    returns-then-is_blank_line
+    returns-then-read-count
+    read_entry-found-requires
+    enum_told-1
+    enum_told-in-Upper
+    enum_known-found
+    offset_bounds-rows-at
+    bounds-rows-at
+    offset_bounds-columns-at
+    bounds-columns-at
+    offset_bounds-weights-at
+    bounds-weights-at
+    overflow_add-result
+    returns-in-Misshapen
+    returns-in-Upper
+    shape_of-rows
+    shape_of-columns
+    shape_of-weights
+    returns-in-Is)

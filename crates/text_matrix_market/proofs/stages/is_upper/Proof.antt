@@ -1,34 +1,35 @@
 -- `stages::is_upper` meets its contract: by the kind.
+use Rattle.std.proofs.Common.{rules}
 use mathlib.Core.Path.{refl}
 use borrow.Author.Rules.{rules}
 use Rattle.text_matrix_market.proofs.stages.is_upper.Statement.{statement}
 use Rattle.text_matrix_market.proofs.stages.is_upper.Tie as tie
 
-enum_told : tie.Need-enum-told
-enum_told c = search rules
+enum_told-1 : tie.Need-enum_told-1
+enum_told-1 c = search rules
 
-enum-told-2 : tie.Need-enum-told-2
-enum-told-2 c = search rules
+enum_told-in-Symmetric : tie.Need-enum_told-in-Symmetric
+enum_told-in-Symmetric c = search rules
 
-enum-told-3 : tie.Need-enum-told-3
-enum-told-3 c = search rules
+enum_told-in-Pattern : tie.Need-enum_told-in-Pattern
+enum_told-in-Pattern c = search rules
 
-returns : tie.Need-returns
-returns c = rw c.enum_told.given.1 refl
+returns-in-General : tie.Need-returns-in-General
+returns-in-General c = rw c.enum_told-1.given.1 refl
 
-returns-2 : tie.Need-returns-2
-returns-2 c = rw c.enum-told2.given.1 refl
+returns-in-Symmetric : tie.Need-returns-in-Symmetric
+returns-in-Symmetric c = rw c.enum_told-in-Symmetric-1.given.1 refl
 
-returns-3 : tie.Need-returns-3
-returns-3 c = rw c.enum-told3.given.1 refl
+returns-in-Pattern : tie.Need-returns-in-Pattern
+returns-in-Pattern c = rw c.enum_told-in-Pattern-1.given.1 refl
 
-pub is-upper-spec : {M : Type 1} → statement M
-is-upper-spec =
+pub is_upper_spec : {M : Type 1} → statement M
+is_upper_spec =
     tie.close
     (tie.spec
-    enum_told
-    enum-told-2
-    enum-told-3
-    returns
-    returns-2
-    returns-3)
+    enum_told-1
+    enum_told-in-Symmetric
+    enum_told-in-Pattern
+    returns-in-General
+    returns-in-Symmetric
+    returns-in-Pattern)

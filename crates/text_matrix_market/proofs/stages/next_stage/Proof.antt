@@ -1,85 +1,77 @@
 -- `stages::next_stage` meets its contract: the length of the line, then its content by the cases of the stage.
+use Rattle.std.proofs.Common.{rules}
 use native.Mathlib.Omega.{arith}
 use Rattle.text_matrix_market.proofs.Taken.{long_left, short_left, start_left, above_size_left, still_left}
 use borrow.Author.Rules.{rules}
 use Rattle.text_matrix_market.proofs.stages.next_stage.Statement.{statement}
 use Rattle.text_matrix_market.proofs.stages.next_stage.Tie as tie
 
--- places of the proof, each from a later one
-abbrev entry-line-of-slice-known6 : tie.After-slice-known6 → tie.After-entry-line
-entry-line-of-slice-known6 c = c.before.before.before.before.before.before
+after_long_line-requires : tie.Need-after_long_line-requires
+after_long_line-requires c κs = search rules
 
-abbrev stage2-of-slice-known6 : tie.After-slice-known6 → tie.After-stage2
-stage2-of-slice-known6 c = (entry-line-of-slice-known6 c).before.before.before.before.before
+returns-then-line-gt-MAX_LINE : tie.Need-returns-then-line-gt-MAX_LINE
+returns-then-line-gt-MAX_LINE c = long_left _ _ _ (omega arith) (c.after_long_line.ensures _)
 
-after-long-line-requires : tie.Need-after-long-line-requires
-after-long-line-requires c κs = search rules
+enum_told-1 : tie.Need-enum_told-1
+enum_told-1 c = search rules
 
-returns : tie.Need-returns
-returns c = long_left _ _ _ (omega arith) (c.after-long-line.ensures _)
+banner_line-requires : tie.Need-banner_line-requires
+banner_line-requires c κs = search rules
 
-enum_told : tie.Need-enum-told
-enum_told c = search rules
+enum_known-stage : tie.Need-enum_known-stage
+enum_known-stage c = search rules
 
-banner-line-requires : tie.Need-banner-line-requires
-banner-line-requires c κs = search rules
+size_line-requires : tie.Need-size_line-requires
+size_line-requires c κs = search rules
 
-enum-known-stage : tie.Need-enum-known-stage
-enum-known-stage c = search rules
+enum_known-stage-in-Entering-1 : tie.Need-enum_known-stage-in-Entering-1
+enum_known-stage-in-Entering-1 c = search rules
 
-size-line-requires : tie.Need-size-line-requires
-size-line-requires c κs = search rules
+entry_line-requires : tie.Need-entry_line-requires
+entry_line-requires c κs =
+    rw c.stage-in-Entering-1.given.1 at c.requires
 
-enum-known-stage-2 : tie.Need-enum-known-stage-2
-enum-known-stage-2 c = search rules
+enum_known-stage-in-Refused-1 : tie.Need-enum_known-stage-in-Refused-1
+enum_known-stage-in-Refused-1 c = search rules
 
-entry-line-requires : tie.Need-entry-line-requires
-entry-line-requires c κs =
-    let stage2 = c.before.before.before.before in
-    let entry = stage2.before.before.before.before.before.before.before in
-    rw stage2.stage2.given.1 at entry.requires
+returns-in-Start : tie.Need-returns-in-Start
+returns-in-Start c = rw c.enum_told-1.given.1 (start_left _ (omega arith) _ (c.banner_line.ensures _))
 
-enum-known-stage-3 : tie.Need-enum-known-stage-3
-enum-known-stage-3 c = search rules
+returns-in-Sizing : tie.Need-returns-in-Sizing
+returns-in-Sizing c = rw c.stage-1.given.1 (above_size_left _ (omega arith) _ _ (c.size_line.ensures _))
 
-returns-2 : tie.Need-returns-2
-returns-2 c = rw c.before.enum_told.given.1 (start_left _ (omega arith) _ (c.banner_line_lem.ensures _))
+shape_of-rows : tie.Need-shape_of-rows
+shape_of-rows c = search rules
 
-returns-3 : tie.Need-returns-3
-returns-3 c = rw c.before.before.stage.given.1 (above_size_left _ (omega arith) _ _ (c.size_line_lem.ensures _))
+shape_of-columns : tie.Need-shape_of-columns
+shape_of-columns c = search rules
 
-same_length_lem : tie.Need-same-length
-same_length_lem c = search rules
+shape_of-weights : tie.Need-shape_of-weights
+shape_of-weights c = search rules
 
-same-length-2 : tie.Need-same-length-2
-same-length-2 c = search rules
+returns-in-Entering : tie.Need-returns-in-Entering
+returns-in-Entering c = rw c.stage-in-Entering-1.given.1 (short_left _ (omega arith) _ _ _ c.entry_line.ensures)
 
-same-length-3 : tie.Need-same-length-3
-same-length-3 c = search rules
+returns-in-Refused : tie.Need-returns-in-Refused
+returns-in-Refused c = rw c.stage-in-Refused-1.given.1 (still_left _ (omega arith) _ _)
 
-returns-4 : tie.Need-returns-4
-returns-4 c = rw (stage2-of-slice-known6 c).stage2.given.1 (short_left _ (omega arith) _ _ _ (entry-line-of-slice-known6 c).entry-line.ensures)
-
-returns-5 : tie.Need-returns-5
-returns-5 c = rw c.before.stage3.given.1 (still_left _ (omega arith) _ _)
-
-pub next-stage-spec : {M : Type 1} → statement M
-next-stage-spec =
+pub next_stage_spec : {M : Type 1} → statement M
+next_stage_spec =
     tie.close
     (tie.spec
-    after-long-line-requires
-    returns
-    enum_told
-    banner-line-requires
-    enum-known-stage
-    size-line-requires
-    enum-known-stage-2
-    entry-line-requires
-    enum-known-stage-3
-    returns-2
-    returns-3
-    same_length_lem
-    same-length-2
-    same-length-3
-    returns-4
-    returns-5)
+    after_long_line-requires
+    returns-then-line-gt-MAX_LINE
+    enum_told-1
+    banner_line-requires
+    enum_known-stage
+    size_line-requires
+    enum_known-stage-in-Entering-1
+    entry_line-requires
+    enum_known-stage-in-Refused-1
+    returns-in-Start
+    returns-in-Sizing
+    shape_of-rows
+    shape_of-columns
+    shape_of-weights
+    returns-in-Entering
+    returns-in-Refused)

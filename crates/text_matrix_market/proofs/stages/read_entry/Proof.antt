@@ -1,4 +1,5 @@
 -- `stages::read_entry` meets its contract: by the tests that led there.
+use Rattle.std.proofs.Common.{rules}
 use mathlib.Core.Path.{sym, ◌∙◌}
 use Prim.Native.Nat.{◌≤◌}
 use borrow.Author.Tests.{not-true, not-false}
@@ -8,148 +9,114 @@ use borrow.Author.Rules.{rules}
 use Rattle.text_matrix_market.proofs.stages.read_entry.Statement.{statement}
 use Rattle.text_matrix_market.proofs.stages.read_entry.Tie as tie
 
--- places of the proof, each from a later one
-abbrev entry-of-row : tie.After-row → tie.Start
-entry-of-row c = c.before.before.before.before
+line_numbers-requires : tie.Need-line_numbers-requires
+line_numbers-requires c κs = search rules
 
-abbrev row-of-within2 : tie.After-within2 → tie.After-row
-row-of-within2 c = c.before.before.before.before
+enum_known-row : tie.Need-enum_known-row
+enum_known-row c = search rules
 
-abbrev within2-of-is-upper : tie.After-is-upper → tie.After-within2
-within2-of-is-upper c = c.before.before.before.before
+enum_told-1 : tie.Need-enum_told-1
+enum_told-1 c = search rules
 
-abbrev row-of-is-upper : tie.After-is-upper → tie.After-row
-row-of-is-upper c = row-of-within2 (within2-of-is-upper c)
-
-line-numbers-requires : tie.Need-line-numbers-requires
-line-numbers-requires c κs = search rules
-
-enum-known-row : tie.Need-enum-known-row
-enum-known-row c = search rules
-
-enum_told : tie.Need-enum-told
-enum_told c = search rules
-
-returns : tie.Need-returns
-returns c =
-    let a = c.before.before.before.before.args in
-    no_entry a.kind a.n a.line.now (sym c.before.before.line-numbers.ensures ∙ c.enum_told.given.1)
+returns-in_default : tie.Need-returns-in_default
+returns-in_default c =
+    let a = c.args in
+    no_entry a.kind a.n a.line.now (sym c.line_numbers.ensures ∙ c.enum_told-1.given.1)
 
 within-requires : tie.Need-within-requires
 within-requires c κs = search rules
 
-returns-2 : tie.Need-returns-2
-returns-2 c =
-    let w = c.before in
-    let r = w.before.before in
-    let a = (entry-of-row r).args in
-    row_out a.kind a.n a.line.now (sym r.before.before.line-numbers.ensures ∙ r.row.given.1)
-    (sym w.within.ensures ∙ not-true _ c.if1.true)
+returns-then-not-within : tie.Need-returns-then-not-within
+returns-then-not-within c =
+    let a = c.args in
+    row_out a.kind a.n a.line.now (sym c.line_numbers.ensures ∙ c.row-1.given.1)
+    (sym c.within.ensures ∙ not-true _ c.if-not-within.true)
 
 within-requires-2 : tie.Need-within-requires-2
 within-requires-2 c κs = search rules
 
-returns-3 : tie.Need-returns-3
-returns-3 c =
-    let w = c.before in
-    let r = row-of-within2 w in
-    let a = (entry-of-row r).args in
-    column_out a.kind a.n a.line.now (sym r.before.before.line-numbers.ensures ∙ r.row.given.1)
-    (sym w.before.before.within.ensures ∙ not-false _ w.before.if1.false)
-    (sym w.within2.ensures ∙ not-true _ c.if2.true)
+returns-then-not-within-2 : tie.Need-returns-then-not-within-2
+returns-then-not-within-2 c =
+    let a = c.args in
+    column_out a.kind a.n a.line.now (sym c.line_numbers.ensures ∙ c.row-1.given.1)
+    (sym c.within.ensures ∙ not-false _ c.if-not-within.false)
+    (sym c.within-2.ensures ∙ not-true _ c.if-not-within-2.true)
 
-weight-fits-requires : tie.Need-weight-fits-requires
-weight-fits-requires c κs =
-    let w = c.before in
-    let r = row-of-within2 w in
-    some (entry-of-row r).args.n r.row.given.0.0
-    (sym w.before.before.within.ensures ∙ not-false _ w.before.if1.false)
+weight_fits-requires : tie.Need-weight_fits-requires
+weight_fits-requires c κs =
+    some c.args.n c.row-1.given.0.0
+    (sym c.within.ensures ∙ not-false _ c.if-not-within.false)
 
-returns-4 : tie.Need-returns-4
-returns-4 c =
-    let f = c.before in
-    let w = f.before.before in
-    let r = row-of-within2 f.before.before in
-    let a = (entry-of-row r).args in
-    weight_out a.kind a.n a.line.now (sym r.before.before.line-numbers.ensures ∙ r.row.given.1)
-    (sym w.before.before.within.ensures ∙ not-false _ w.before.if1.false)
-    (sym w.within2.ensures ∙ not-false _ f.before.if2.false)
-    (sym f.weight_fits_lem.ensures ∙ not-true _ c.if3.true)
+returns-then-not-weight_fits : tie.Need-returns-then-not-weight_fits
+returns-then-not-weight_fits c =
+    let a = c.args in
+    weight_out a.kind a.n a.line.now (sym c.line_numbers.ensures ∙ c.row-1.given.1)
+    (sym c.within.ensures ∙ not-false _ c.if-not-within.false)
+    (sym c.within-2.ensures ∙ not-false _ c.if-not-within-2.false)
+    (sym c.weight_fits.ensures ∙ not-true _ c.if-not-weight_fits.true)
 
-is-upper-requires : tie.Need-is-upper-requires
-is-upper-requires c κs = search rules
+is_upper-requires : tie.Need-is_upper-requires
+is_upper-requires c κs = search rules
 
-returns-5 : tie.Need-returns-5
-returns-5 c =
-    let p = c.before in
-    let f = p.before.before in
-    let w = within2-of-is-upper p in
-    let r = row-of-is-upper p in
-    let a = (entry-of-row r).args in
-    upper_entry_lem a.kind a.n a.line.now (sym r.before.before.line-numbers.ensures ∙ r.row.given.1)
-    (sym w.before.before.within.ensures ∙ not-false _ w.before.if1.left)
-    (sym w.within2.ensures ∙ not-false _ f.before.if2.false)
-    (sym f.weight_fits_lem.ensures ∙ not-false _ p.before.if3.false)
-    (sym p.is_upper_lem.ensures ∙ c.if4.true)
+returns-then-is_upper : tie.Need-returns-then-is_upper
+returns-then-is_upper c =
+    let a = c.args in
+    upper_entry_lem a.kind a.n a.line.now (sym c.line_numbers.ensures ∙ c.row-1.given.1)
+    (sym c.within.ensures ∙ not-false _ c.if-not-within.left)
+    (sym c.within-2.ensures ∙ not-false _ c.if-not-within-2.false)
+    (sym c.weight_fits.ensures ∙ not-false _ c.if-not-weight_fits.false)
+    (sym c.is_upper.ensures ∙ c.if-is_upper.true)
 
 -- the row is one, and so is the column
-row_inside : (c : tie.Else4) → let r = row-of-is-upper c.before in (1 ≤ r.row.given.0.0) × (r.row.given.0.0 ≤ (entry-of-row r).args.n)
+row_inside : (c : tie.Else-is_upper) → (1 ≤ c.row-1.given.0.0) × (c.row-1.given.0.0 ≤ c.args.n)
 row_inside c =
-    let w = within2-of-is-upper c.before in
-    let r = row-of-is-upper c.before in
-    inside (entry-of-row r).args.n r.row.given.0.0
-    (sym w.before.before.within.ensures ∙ not-false _ w.before.if1.left)
+    inside c.args.n c.row-1.given.0.0
+    (sym c.within.ensures ∙ not-false _ c.if-not-within.left)
 
-column_inside : (c : tie.Else4) → let r = row-of-is-upper c.before in (1 ≤ r.row.given.0.1.0) × (r.row.given.0.1.0 ≤ (entry-of-row r).args.n)
+column_inside : (c : tie.Else-is_upper) → (1 ≤ c.row-1.given.0.1.0) × (c.row-1.given.0.1.0 ≤ c.args.n)
 column_inside c =
-    let p = c.before in
-    let r = row-of-is-upper p in
-    inside (entry-of-row r).args.n r.row.given.0.1.0
-    (sym (within2-of-is-upper p).within2.ensures ∙ not-false _ p.before.before.before.if2.false)
+    inside c.args.n c.row-1.given.0.1.0
+    (sym c.within-2.ensures ∙ not-false _ c.if-not-within-2.false)
 
-sub-t9 : tie.Need-overflow-sub-t9
-sub-t9 c = omega (arith, row_inside c)
+overflow_sub-result : tie.Need-overflow_sub-result
+overflow_sub-result c = omega (arith, row_inside c)
 
-cast-t12 : tie.Need-overflow-cast-t12
-cast-t12 c = omega (arith, row_inside c)
+overflow_cast-result : tie.Need-overflow_cast-result
+overflow_cast-result c = omega (arith, row_inside c)
 
-sub-t13 : tie.Need-overflow-sub-t13
-sub-t13 c = omega (arith, column_inside c)
+overflow_sub-result-2 : tie.Need-overflow_sub-result-2
+overflow_sub-result-2 c = omega (arith, column_inside c)
 
-cast-t14 : tie.Need-overflow-cast-t14
-cast-t14 c = omega (arith, column_inside c)
+overflow_cast-result-2 : tie.Need-overflow_cast-result-2
+overflow_cast-result-2 c = omega (arith, column_inside c)
 
-returns-6 : tie.Need-returns-6
-returns-6 c =
-    let p = c.before in
-    let f = p.before.before in
-    let w = within2-of-is-upper p in
-    let r = row-of-is-upper p in
-    let a = (entry-of-row r).args in
-    an_entry a.kind a.n a.line.now (sym r.before.before.line-numbers.ensures ∙ r.row.given.1)
-    (sym w.before.before.within.ensures ∙ not-false _ w.before.if1.left)
-    (sym w.within2.ensures ∙ not-false _ f.before.if2.false)
-    (sym f.weight_fits_lem.ensures ∙ not-false _ p.before.if3.false)
-    (sym p.is_upper_lem.ensures ∙ c.if4.false)
+returns : tie.Need-returns
+returns-in_default c =
+    let a = c.args in
+    an_entry a.kind a.n a.line.now (sym c.line_numbers.ensures ∙ c.row-1.given.1)
+    (sym c.within.ensures ∙ not-false _ c.if-not-within.left)
+    (sym c.within-2.ensures ∙ not-false _ c.if-not-within-2.false)
+    (sym c.weight_fits.ensures ∙ not-false _ c.if-not-weight_fits.false)
+    (sym c.is_upper.ensures ∙ c.if-is_upper.false)
 
-pub read-entry-spec : {M : Type 1} → statement M
-read-entry-spec =
+pub read_entry_spec : {M : Type 1} → statement M
+read_entry_spec =
     tie.close
     (tie.spec
-    line-numbers-requires
-    enum-known-row
-    enum_told
-    returns
+    line_numbers-requires
+    enum_known-row
+    enum_told-1
+    returns-in_default
     within-requires
-    returns-2
+    returns-then-not-within
     within-requires-2
-    returns-3
-    weight-fits-requires
-    returns-4
-    is-upper-requires
-    returns-5
-    sub-t9
-    cast-t12
-    sub-t13
-    cast-t14
-    returns-6)
+    returns-then-not-within-2
+    weight_fits-requires
+    returns-then-not-weight_fits
+    is_upper-requires
+    returns-then-is_upper
+    overflow_sub-result
+    overflow_cast-result
+    overflow_sub-result-2
+    overflow_cast-result-2
+    returns)

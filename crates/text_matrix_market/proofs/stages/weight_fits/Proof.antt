@@ -1,43 +1,44 @@
 -- `stages::weight_fits` meets its contract: by the kind.
+use Rattle.std.proofs.Common.{rules}
 use mathlib.Core.Path.{refl}
 use Rattle.text_matrix_market.proofs.Entries.{general_fits}
 use borrow.Author.Rules.{rules}
 use Rattle.text_matrix_market.proofs.stages.weight_fits.Statement.{statement}
 use Rattle.text_matrix_market.proofs.stages.weight_fits.Tie as tie
 
-enum_told : tie.Need-enum-told
-enum_told c = search rules
+enum_told-1 : tie.Need-enum_told-1
+enum_told-1 c = search rules
 
-div-result : tie.Need-nonzero-div-result
-div-result c = search rules
+nonzero_div-result : tie.Need-nonzero_div-result
+nonzero_div-result c = search rules
 
-enum-told-2 : tie.Need-enum-told-2
-enum-told-2 c = search rules
+enum_told-in-Symmetric : tie.Need-enum_told-in-Symmetric
+enum_told-in-Symmetric c = search rules
 
-enum-told-3 : tie.Need-enum-told-3
-enum-told-3 c = search rules
+enum_told-in-Pattern : tie.Need-enum_told-in-Pattern
+enum_told-in-Pattern c = search rules
 
-div-result-2 : tie.Need-nonzero-div-result-2
-div-result-2 c = search rules
+nonzero_div-result-in-Pattern : tie.Need-nonzero_div-result-in-Pattern
+nonzero_div-result-in-Pattern c = search rules
 
-returns : tie.Need-returns
-returns c = rw c.enum_told.given.1 (general_fits _ _ c.before.before.requires)
+returns-in-General : tie.Need-returns-in-General
+returns-in-General c = rw c.enum_told-1.given.1 (general_fits _ _ c.requires)
 
-returns-2 : tie.Need-returns-2
-returns-2 c = rw c.enum-told2.given.1 refl
+returns-in-Symmetric : tie.Need-returns-in-Symmetric
+returns-in-Symmetric c = rw c.enum_told-in-Symmetric-1.given.1 refl
 
-returns-3 : tie.Need-returns-3
-returns-3 c = rw c.enum-told3.given.1 (general_fits _ _ c.before.before.requires)
+returns-in-Pattern : tie.Need-returns-in-Pattern
+returns-in-Pattern c = rw c.enum_told-in-Pattern-1.given.1 (general_fits _ _ c.requires)
 
-pub weight-fits-spec : {M : Type 1} → statement M
-weight-fits-spec =
+pub weight_fits_spec : {M : Type 1} → statement M
+weight_fits_spec =
     tie.close
     (tie.spec
-    enum_told
-    div-result
-    enum-told-2
-    enum-told-3
-    div-result-2
-    returns
-    returns-2
-    returns-3)
+    enum_told-1
+    nonzero_div-result
+    enum_told-in-Symmetric
+    enum_told-in-Pattern
+    nonzero_div-result-in-Pattern
+    returns-in-General
+    returns-in-Symmetric
+    returns-in-Pattern)

@@ -9,55 +9,48 @@ use native.Mathlib.Omega.{arith}
 use Rattle.text_matrix_market.proofs.text.line_end.Statement.{statement}
 use Rattle.text_matrix_market.proofs.text.line_end.Tie as tie
 
-abbrev invariant-loop : tie.invariant-loop
-invariant-loop input from at₀ at = (at ≤ length input) × (line_end input at ≡ line_end input from)
+abbrev invariant-loop-at : tie.invariant-loop-at
+invariant-loop-at input from at₀ at = (at ≤ length input) × (line_end input at ≡ line_end input from)
 
-abbrev decreases-loop : tie.decreases-loop
-decreases-loop input from at₀ at = length input - at
+abbrev decreases-loop-at : tie.decreases-loop-at
+decreases-loop-at input from at₀ at = length input - at
 
--- places of the proof, each from a later one
-abbrev loop-of-then1 : tie.Then1 invariant-loop decreases-loop → tie.At-loop invariant-loop decreases-loop
-loop-of-then1 c = c.before.before.before
+loop-at-init : tie.Need-loop-at-init invariant-loop-at decreases-loop-at
+loop-at-init c = (omega arith, refl)
 
-abbrev loop-of-else1 : tie.Else1 invariant-loop decreases-loop → tie.At-loop invariant-loop decreases-loop
-loop-of-else1 c = c.before.before.before
+bounds-input-at : tie.Need-bounds-input-at invariant-loop-at decreases-loop-at
+bounds-input-at c = omega arith
 
-loop-holds : tie.Need-loop-init invariant-loop decreases-loop
-loop-holds c = (omega arith, refl)
+returns-then-input-at-eq10 : tie.Need-returns-then-input-at-eq10 invariant-loop-at decreases-loop-at
+returns-then-input-at-eq10 c = sym (reach_hit _ c.args.input.now c.loop-at.at (omega arith) (eq-eqb _ _ c.if-input-at-eq10.true))
+    ∙ c.loop-at.invariant.1
 
-shared-slice-read-if1 : tie.Need-shared-slice-read-if1 invariant-loop decreases-loop
-shared-slice-read-if1 c = omega arith
+overflow_add-at : tie.Need-overflow_add-at invariant-loop-at decreases-loop-at
+overflow_add-at c = omega arith
 
-returns : tie.Need-returns invariant-loop decreases-loop
-returns c = sym (reach_hit _ (loop-of-then1 c).before.args.input.now (loop-of-then1 c).loop.at (omega arith) (eq-eqb _ _ c.if1.true))
-    ∙ (loop-of-then1 c).loop.invariant.1
+loop-at-smaller : tie.Need-loop-at-smaller invariant-loop-at decreases-loop-at
+loop-at-smaller c = omega arith
 
-add_at : tie.Need-overflow-add-at invariant-loop decreases-loop
-add_at c = omega arith
-
-loop-less : tie.Need-loop-smaller invariant-loop decreases-loop
-loop-less c = omega arith
-
-loop-again : tie.Need-loop-preserved invariant-loop decreases-loop
-loop-again c = (
+loop-at-preserved : tie.Need-loop-at-preserved invariant-loop-at decreases-loop-at
+loop-at-preserved c = (
   omega arith,
-  reach_pass _ (loop-of-else1 c).before.args.input.now (loop-of-else1 c).loop.at (omega arith)
-      (ne_eqb _ _ c.if1.false) ∙ (loop-of-else1 c).loop.invariant.1,
+  reach_pass _ c.args.input.now c.loop-at.at (omega arith)
+      (ne_eqb _ _ c.if-input-at-eq10.false) ∙ c.loop-at.invariant.1,
 )
 
-returns-2 : tie.Need-returns-2 invariant-loop decreases-loop
-returns-2 c = sym (reach_end _ c.before.before.args.input.now c.before.loop.at (omega arith)) ∙ c.before.loop.invariant.1
+returns : tie.Need-returns invariant-loop-at decreases-loop-at
+returns-then-input-at-eq10 c = sym (reach_end _ c.args.input.now c.loop-at.at (omega arith)) ∙ c.loop-at.invariant.1
 
-pub line-end-spec : {M : Type 1} → statement M
-line-end-spec =
+pub line_end_spec : {M : Type 1} → statement M
+line_end_spec =
     tie.close
     (tie.spec
-    invariant-loop
-    decreases-loop
-    loop-holds
-    shared-slice-read-if1
-    returns
-    add_at
-    loop-less
-    loop-again
-    returns-2)
+    invariant-loop-at
+    decreases-loop-at
+    loop-at-init
+    bounds-input-at
+    returns-then-input-at-eq10
+    overflow_add-at
+    loop-at-smaller
+    loop-at-preserved
+    returns)

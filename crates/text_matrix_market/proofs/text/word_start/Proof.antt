@@ -10,61 +10,54 @@ use native.Mathlib.Omega.{arith}
 use Rattle.text_matrix_market.proofs.text.word_start.Statement.{statement}
 use Rattle.text_matrix_market.proofs.text.word_start.Tie as tie
 
-abbrev invariant-loop : tie.invariant-loop
-invariant-loop line from at₀ at = (at ≤ length line) × (word_start line at ≡ word_start line from)
+abbrev invariant-loop-at : tie.invariant-loop-at
+invariant-loop-at line from at₀ at = (at ≤ length line) × (word_start line at ≡ word_start line from)
 
-abbrev decreases-loop : tie.decreases-loop
-decreases-loop line from at₀ at = length line - at
+abbrev decreases-loop-at : tie.decreases-loop-at
+decreases-loop-at line from at₀ at = length line - at
 
--- places of the proof, each from a later one
-abbrev loop-of-then1 : tie.Then1 invariant-loop decreases-loop → tie.At-loop invariant-loop decreases-loop
-loop-of-then1 c = c.before.before.before.before
+loop-at-init : tie.Need-loop-at-init invariant-loop-at decreases-loop-at
+loop-at-init c = (omega arith, refl)
 
-abbrev loop-of-else1 : tie.Else1 invariant-loop decreases-loop → tie.At-loop invariant-loop decreases-loop
-loop-of-else1 c = c.before.before.before.before
+bounds-line-at : tie.Need-bounds-line-at invariant-loop-at decreases-loop-at
+bounds-line-at c = omega arith
 
-loop-holds : tie.Need-loop-init invariant-loop decreases-loop
-loop-holds c = (omega arith, refl)
+is_blank-requires : tie.Need-is_blank-requires invariant-loop-at decreases-loop-at
+is_blank-requires c κs = omega arith
 
-shared-slice-read-is-blank : tie.Need-shared-slice-read-is-blank invariant-loop decreases-loop
-shared-slice-read-is-blank c = omega arith
+returns-then-not-is_blank : tie.Need-returns-then-not-is_blank invariant-loop-at decreases-loop-at
+returns-then-not-is_blank c = sym (reach_hit _ c.args.line.now
+    c.loop-at.at (omega arith) (ap not (sym c.is_blank.ensures) ∙ c.if-not-is_blank.true)) ∙
+    c.loop-at.invariant.1
 
-is-blank-requires : tie.Need-is-blank-requires invariant-loop decreases-loop
-is-blank-requires c κs = omega arith
+overflow_add-at : tie.Need-overflow_add-at invariant-loop-at decreases-loop-at
+overflow_add-at c = omega arith
 
-returns : tie.Need-returns invariant-loop decreases-loop
-returns c = sym (reach_hit _ (loop-of-then1 c).before.before.args.line.now
-    (loop-of-then1 c).loop.at (omega arith) (ap not (sym c.before.is-blank.ensures) ∙ c.if1.true)) ∙
-    (loop-of-then1 c).loop.invariant.1
+loop-at-smaller : tie.Need-loop-at-smaller invariant-loop-at decreases-loop-at
+loop-at-smaller c = omega arith
 
-add_at : tie.Need-overflow-add-at invariant-loop decreases-loop
-add_at c = omega arith
-
-loop-less : tie.Need-loop-smaller invariant-loop decreases-loop
-loop-less c = omega arith
-
-loop-again : tie.Need-loop-preserved invariant-loop decreases-loop
-loop-again c = (
+loop-at-preserved : tie.Need-loop-at-preserved invariant-loop-at decreases-loop-at
+loop-at-preserved c = (
   omega arith,
-  reach_pass _ (loop-of-else1 c).before.before.args.line.now
-      (loop-of-else1 c).loop.at (omega arith) (ap not (sym c.before.is-blank.ensures) ∙ c.if1.false) ∙
-      (loop-of-else1 c).loop.invariant.1,
+  reach_pass _ c.args.line.now
+      c.loop-at.at (omega arith) (ap not (sym c.is_blank.ensures) ∙ c.if-not-is_blank.false) ∙
+      c.loop-at.invariant.1,
 )
 
-returns-2 : tie.Need-returns-2 invariant-loop decreases-loop
-returns-2 c = sym (reach_end _ c.before.before.before.args.line.now c.before.loop.at (omega arith)) ∙ c.before.loop.invariant.1
+returns : tie.Need-returns invariant-loop-at decreases-loop-at
+returns-then-not-is_blank c = sym (reach_end _ c.args.line.now c.loop-at.at (omega arith)) ∙ c.loop-at.invariant.1
 
-pub word-start-spec : {M : Type 1} → statement M
-word-start-spec =
+pub word_start_spec : {M : Type 1} → statement M
+word_start_spec =
     tie.close
     (tie.spec
-    invariant-loop
-    decreases-loop
-    loop-holds
-    shared-slice-read-is-blank
-    is-blank-requires
-    returns
-    add_at
-    loop-less
-    loop-again
-    returns-2)
+    invariant-loop-at
+    decreases-loop-at
+    loop-at-init
+    bounds-line-at
+    is_blank-requires
+    returns-then-not-is_blank
+    overflow_add-at
+    loop-at-smaller
+    loop-at-preserved
+    returns)
