@@ -12,7 +12,7 @@ float_to_bits-result : tie.Need-float_to_bits-result
 float_to_bits-result c = itself_no_nan c.args.x c.if-x.false
 
 returns : tie.Need-returns
-returns-then-x c = search rules
+returns c = search rules
 
 pub bits_of_spec : {M : Type 1} → statement M
 bits_of_spec =

@@ -16,7 +16,7 @@ float_from_bits-result : tie.Need-float_from_bits-result
 float_from_bits-result c = no_nan_pattern c.args.bits c.if-bits-gt9218868437227405312.false
 
 returns : tie.Need-returns
-returns-then-bits-gt9218868437227405312 c = search rules
+returns c = search rules
 
 pub double_of_spec : {M : Type 1} → statement M
 double_of_spec =

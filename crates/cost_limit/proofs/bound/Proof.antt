@@ -70,7 +70,7 @@ float_from_bits-result : tie.Need-float_from_bits-result
 float_from_bits-result c = no_nan _ (omega (arith, bits_in c, bits_are c))
 
 returns : tie.Need-returns
-returns-then-n-eq0 c = subst (λ (b : ℕ). Bound c.args.e c.args.n (of_bits binary64 b)) (bits_are c)
+returns c = subst (λ (b : ℕ). Bound c.args.e c.args.n (of_bits binary64 b)) (bits_are c)
     (made_bound (power c) (omega (arith, c.if-n-eq0.false)) c.requires.1 c.requires.0)
 
 pub bound_spec : {M : Type 1} → statement M

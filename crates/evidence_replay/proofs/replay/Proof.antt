@@ -49,7 +49,7 @@ shape_of-values : tie.Need-shape_of-values invariant-loop decreases-loop
 shape_of-values c = c.loop.invariant.1.1
 
 returns : tie.Need-returns invariant-loop decreases-loop
-returns-then-place-ge-BAD c = tt
+returns c = tt
 
 pub replay_spec : {M : Type 1} → statement M
 replay_spec =

@@ -78,7 +78,7 @@ loop-j-preserved c =
     (ap (λ (t : Bool). unless t exponent_range) (tested c.before ∙ not-false c.within_limit.result c.if-not-within_limit.false))
 
 returns : tie.Need-returns invariant-loop-j decreases-loop-j
-returns-then-not-within_limit c = done _ _ c.loop-j.j c.loop-j.invariant (omega (arith, c.loop-j-test.false, count c.before))
+returns c = done _ _ c.loop-j.j c.loop-j.invariant (omega (arith, c.loop-j-test.false, count c.before))
 
 pub columns_fault_spec : {M : Type 1} → statement M
 columns_fault_spec =

@@ -61,7 +61,7 @@ overflow_sub-result c = subst (SFits w32) (sym (read c)) (lowered_fits (place c.
 
 returns : tie.Need-returns
 unfolding ne
-returns-then-not-moved c =
+returns c =
     let x = c.args.factor in
     let y = moved c.before.before in
     let p = place c.before in

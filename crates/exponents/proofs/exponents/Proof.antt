@@ -83,7 +83,7 @@ shape_of-column_exponents : tie.Need-shape_of-column_exponents
 shape_of-column_exponents c = search rules
 
 returns : tie.Need-returns
-returns-then-sizes-ne-ACCEPTED c =
+returns c =
     accepts c.args.n (lent c.before.before.before.before.before.before.before.before.before.before.before.before.before.before.before) (rows c.before.before.before.before.before.before.before.before.before.before.before.before.before.before.before) (columns c.before.before.before.before.before.before.before.before.before.before.before.before.before.before.before) (no_fault c.before.before.before.before.before.before) c.write_rows.ensures c.write_columns.ensures
 
 pub exponents_spec : {M : Type 1} → statement M

@@ -63,7 +63,7 @@ loop-i-preserved c =
     (ap (λ (t : Bool). unless t exponent_range) (tested c.before ∙ not-false c.within_limit.result c.if-not-within_limit.false))
 
 returns : tie.Need-returns invariant-loop-i decreases-loop-i
-returns-then-not-within_limit c = done _ _ c.loop-i.i c.loop-i.invariant c.loop-i-test.false
+returns c = done _ _ c.loop-i.i c.loop-i.invariant c.loop-i-test.false
 
 pub rows_fault_spec : {M : Type 1} → statement M
 rows_fault_spec =

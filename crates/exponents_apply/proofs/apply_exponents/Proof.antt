@@ -103,7 +103,7 @@ shape_of-values : tie.Need-shape_of-values
 shape_of-values c = search rules
 
 returns : tie.Need-returns
-returns-then-matrix-ne-ACCEPTED c =
+returns c =
     accepts (matrix c.before.before.before.before.before.before.before.before.before.before.before.before.before.before.before) (both-sets c.before.before.before.before.before.before.before.before.before.before.before.before.before.before.before) (values c.before.before.before.before.before.before.before.before.before.before.before.before.before.before.before) _ (no_fault c.before.before.before.before) c.scale_values.ensures
 
 pub apply_exponents_spec : {M : Type 1} → statement M

@@ -106,7 +106,7 @@ loop-k-preserved c =
     (tested c.before ∙ ap (λ (t : Bool). unless t value_not_normal) (not-false c.is_scalable.result c.if-not-is_scalable.false))
 
 returns : tie.Need-returns invariant-loop-k decreases-loop-k
-returns-then-not-is_scalable c =
+returns c =
     let a = c.args in
     let f : 0 ≡ column_fault a.row-idx.now a.row-exponents.now (to_z w32 (of_z w32 a.column-exponent)) a.values.now a.from a.to =
     done _ _ c.loop-k.k c.loop-k.invariant c.loop-k-test.false in

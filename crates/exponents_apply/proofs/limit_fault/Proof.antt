@@ -57,7 +57,7 @@ loop-i-preserved c =
     (ap (λ (t : Bool). unless t exponent_range) (sym (tested c.before) ∙ not-false _ c.if-not-within_limit.false))
 
 returns : tie.Need-returns invariant-loop-i decreases-loop-i
-returns-then-not-within_limit c = done _ _ c.loop-i.i c.loop-i.invariant c.loop-i-test.false
+returns c = done _ _ c.loop-i.i c.loop-i.invariant c.loop-i-test.false
 
 pub limit_fault_spec : {M : Type 1} → statement M
 limit_fault_spec =

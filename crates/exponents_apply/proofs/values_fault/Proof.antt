@@ -101,7 +101,7 @@ loop-j-preserved c =
     pass _ _ c.loop-j.j c.loop-j.invariant c.loop-j-test.true (fault_is c.before ∙ c.if-fault-ne-ACCEPTED.false)
 
 returns : tie.Need-returns invariant-loop-j decreases-loop-j
-returns-then-fault-ne-ACCEPTED c = done _ _ c.loop-j.j c.loop-j.invariant c.loop-j-test.false
+returns c = done _ _ c.loop-j.j c.loop-j.invariant c.loop-j-test.false
 
 pub values_fault_spec : {M : Type 1} → statement M
 values_fault_spec =

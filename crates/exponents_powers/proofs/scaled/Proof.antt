@@ -43,7 +43,7 @@ overflow_add-result-2 : tie.Need-overflow_add-result-2
 overflow_add-result-2 c = let f = facts c in record { fits = omega (arith, f.sum, f.low, f.high) }
 
 returns : tie.Need-returns
-returns-then-bits-eq0 c = let f = facts c in omega (arith, f.sum, f.low, f.high, f.is)
+returns c = let f = facts c in omega (arith, f.sum, f.low, f.high, f.is)
 
 pub scaled_spec : {M : Type 1} → statement M
 scaled_spec =

@@ -15,7 +15,7 @@ matching_fault-requires : tie.Need-matching_fault-requires
 matching_fault-requires c κs = search rules
 
 returns : tie.Need-returns
-returns-then-fault-ne-ACCEPTED c = answer_second c.input_fault-fault.ensures c.if-fault-ne-ACCEPTED.false c.matching_fault.ensures
+returns c = answer_second c.input_fault-fault.ensures c.if-fault-ne-ACCEPTED.false c.matching_fault.ensures
 
 pub call_fault_spec : {M : Type 1} → statement M
 call_fault_spec =

@@ -61,7 +61,7 @@ shape_of-work : tie.Need-shape_of-work
 shape_of-work c = search rules
 
 returns : tie.Need-returns
-returns-then-fault-ne-ACCEPTED c =
+returns c =
     applies c.args.matched (given c.before.before.before.before.before.before.before.before.before.before.before.before.before.before.before.before.before.before.before.before.before) (lent c.before.before.before.before.before.before.before.before.before.before.before.before.before.before.before.before.before.before.before.before.before) (fine c.before.before.before.before.before.before.before.before) c.answer.ensures c.write_flat.ensures
 
 pub flat_factors_spec : {M : Type 1} → statement M

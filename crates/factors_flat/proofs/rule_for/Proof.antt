@@ -7,7 +7,7 @@ returns-then-number-eq0 : tie.Need-returns-then-number-eq0
 returns-then-number-eq0 c = identity_of c.args.number c.if-number-eq0.true
 
 returns : tie.Need-returns
-returns-then-number-eq0 c = flat_of c.args.number c.if-number-eq0.false
+returns c = flat_of c.args.number c.if-number-eq0.false
 
 pub rule_for_spec : {M : Type 1} → statement M
 rule_for_spec =

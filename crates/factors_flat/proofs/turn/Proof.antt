@@ -13,7 +13,7 @@ returns-then-mark-eq2 : tie.Need-returns-then-mark-eq2
 returns-then-mark-eq2 c = rw (eq-eqb _ _ c.if-mark-eq2.true, c.clamp_log.ensures) refl
 
 returns : tie.Need-returns
-returns-then-mark-eq2 c = rw (ne_eqb _ _ c.if-mark-eq2.false) refl
+returns c = rw (ne_eqb _ _ c.if-mark-eq2.false) refl
 
 pub turn_spec : {M : Type 1} → statement M
 turn_spec =

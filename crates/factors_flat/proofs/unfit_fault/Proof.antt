@@ -15,7 +15,7 @@ size_fault-requires-2 : tie.Need-size_fault-requires-2
 size_fault-requires-2 c κs = search rules
 
 returns : tie.Need-returns
-returns-then-number-eq0 c = unfit_flat _ _ _ c.if-number-eq0.false c.size_fault-2.ensures
+returns c = unfit_flat _ _ _ c.if-number-eq0.false c.size_fault-2.ensures
 
 pub unfit_fault_spec : {M : Type 1} → statement M
 unfit_fault_spec =

@@ -37,7 +37,7 @@ shape_of-factors c = search rules
 
 returns : tie.Need-returns
 unfolding identity_factors
-returns-then-fault-ne-ACCEPTED c =
+returns c =
     let args = c.args in
     let fine = sym (onepass_fault_lem (matrix args.n args.col-ptr.now args.row-idx.now args.values.now)
     args.factors.now c.input_fault-fault.ensures

@@ -13,7 +13,7 @@ overflow_sub-result : tie.Need-overflow_sub-result
 overflow_sub-result c = search rules
 
 returns : tie.Need-returns
-returns-then-matched-n c = rw (ne_eqb _ _ c.if-matched-n.false) refl
+returns c = rw (ne_eqb _ _ c.if-matched-n.false) refl
 
 pub answer_spec : {M : Type 1} → statement M
 answer_spec =

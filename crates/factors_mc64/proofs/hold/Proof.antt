@@ -28,7 +28,7 @@ clamp_log-requires c κs = search rules
 
 returns : tie.Need-returns
 unfolding held
-returns-then-x c = rw (c.clamp_log.ensures, no_nan c.args.x c.if-x.false) refl
+returns c = rw (c.clamp_log.ensures, no_nan c.args.x c.if-x.false) refl
 
 pub hold_spec : {M : Type 1} → statement M
 hold_spec =

@@ -21,7 +21,7 @@ returns-then-bounded-both c = rw (c.clamp_log.ensures, ← c.is_finite-fine.ensu
 
 returns : tie.Need-returns
 unfolding log_factor
-returns-then-bounded-both c = rw (← c.is_finite-fine.ensures, ← c.is_finite-bounded.ensures, c.if-bounded-both.false) refl
+returns c = rw (← c.is_finite-fine.ensures, ← c.is_finite-bounded.ensures, c.if-bounded-both.false) refl
 
 pub log_factor_spec : {M : Type 1} → statement M
 log_factor_spec =

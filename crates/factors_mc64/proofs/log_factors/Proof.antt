@@ -39,7 +39,7 @@ shape_of-work : tie.Need-shape_of-work
 shape_of-work c = search rules
 
 returns : tie.Need-returns
-returns-then-fault-ne-ACCEPTED c = with_number _ _ _ _ (applies _ _ _ _ (sym (fault_is _ _ _ _ (call-fault-of-write-factors
+returns c = with_number _ _ _ _ (applies _ _ _ _ (sym (fault_is _ _ _ _ (call-fault-of-write-factors
     c.before.before.before.before.before).call-fault.ensures
     c.lengths_fit-lengths.ensures) ∙
     c.if-fault-ne-ACCEPTED.left) c.answer.ensures

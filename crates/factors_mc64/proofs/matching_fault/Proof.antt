@@ -60,7 +60,7 @@ loop-k-preserved c = (
 
 returns : tie.Need-returns invariant-loop-k decreases-loop-k
 unfolding matching_fault
-returns-then-matched-n c = rw (le-leb _ _ c.if-matched-n.false) (done _ _ c.loop-k.k c.loop-k.invariant.1 c.loop-k-test.false)
+returns c = rw (le-leb _ _ c.if-matched-n.false) (done _ _ c.loop-k.k c.loop-k.invariant.1 c.loop-k-test.false)
 
 pub matching_fault_spec : {M : Type 1} → statement M
 matching_fault_spec =

@@ -34,7 +34,7 @@ shape_of-columns : tie.Need-shape_of-columns
 shape_of-columns c = search rules
 
 returns : tie.Need-returns
-returns-then-fault-ne-ACCEPTED c = sides_number _ _ _ _ _ _ (sides_apply _ _ _ _ _ _ (sym (c.size_fault-fault.ensures ∙
+returns c = sides_number _ _ _ _ _ _ (sides_apply _ _ _ _ _ _ (sym (c.size_fault-fault.ensures ∙
     ap (sizes _) c.side_lengths-lengths.ensures) ∙
     c.if-fault-ne-ACCEPTED.left)
     c.write_sides.ensures.rows_after c.write_sides.ensures.columns_after)

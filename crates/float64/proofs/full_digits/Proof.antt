@@ -39,7 +39,7 @@ overflow_add-result-2 : tie.Need-overflow_add-result-2
 overflow_add-result-2 c = search rules
 
 returns : tie.Need-returns
-returns-then-bits-lt4503599627370496 c = normal_scaling c.args.bits c.if-bits-lt4503599627370496.false c.requires.1
+returns c = normal_scaling c.args.bits c.if-bits-lt4503599627370496.false c.requires.1
 
 pub full_digits_spec : {M : Type 1} → statement M
 full_digits_spec =

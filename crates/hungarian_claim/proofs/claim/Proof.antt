@@ -111,7 +111,7 @@ shape_of-work : tie.Need-shape_of-work
 shape_of-work c = simp length-set
 
 returns : tie.Need-returns
-returns-then-column c =
+returns c =
     let pre = c.requires in
     claimed_taken pre.fact_1 pre.fact_2 c.if-column.false _ c.if-work-n.false c.if-col_len-n.false
 

@@ -87,7 +87,7 @@ shape_of-fwork : tie.Need-shape_of-fwork
 shape_of-fwork c = c.improve_assign-started.auto.fwork ∙ c.prepare.auto.fwork
 
 returns : tie.Need-returns
-returns-then-num-n c = begun_late c.row_minima.ensures
+returns c = begun_late c.row_minima.ensures
     c.claim_columns-num.ensures _ c.if-num-n.false
     c.zero_empty_rows-2.ensures c.improve_assign-started.ensures
 

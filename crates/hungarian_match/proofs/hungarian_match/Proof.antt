@@ -63,7 +63,7 @@ shape_of-fwork : tie.Need-shape_of-fwork
 shape_of-fwork c = search rules
 
 returns : tie.Need-returns
-returns-then-fault-ne-ACCEPTED c =
+returns c =
     let e = sym (fault_is _ _ c.graph_fault-fault.ensures c.lengths_fit-lengths.ensures)
     ∙ c.if-fault-ne-ACCEPTED.left in
     let d = c.shared_slice_known-3-1.given in

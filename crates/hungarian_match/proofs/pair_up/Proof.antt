@@ -45,7 +45,7 @@ shape_of-fwork : tie.Need-shape_of-fwork
 shape_of-fwork c = c.run.auto.fwork ∙ c.start-started.auto.fwork
 
 returns : tie.Need-returns
-returns-then-num-n c = paired_late (λ e. c.if-num-n.false (c.start-started.ensures.num ∙ e)) c.run.ensures
+returns c = paired_late (λ e. c.if-num-n.false (c.start-started.ensures.num ∙ e)) c.run.ensures
 
 pub pair_up_spec : {M : Type 1} → statement M
 pair_up_spec =

@@ -56,7 +56,7 @@ shape_of-d : tie.Need-shape_of-d
 shape_of-d c = c.relax.auto.d
 
 returns : tie.Need-returns
-returns-then-x-bound c =
+returns c =
     edge_relax _ _ _ _ _ _ _ _ _ _ c.requires
     (rw c.least-bound.ensures at c.if-x-bound.false)
     c.if-pos-i.false c.if-work-i.false _ _ _ _ _ c.relax.ensures

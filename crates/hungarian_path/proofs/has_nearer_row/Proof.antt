@@ -20,7 +20,7 @@ bounds-keys-0 c = c.requires (positive c.args.frontier.len c.if-frontier-eq0.fal
 
 returns : tie.Need-returns
 unfolding has_nearer_row
-returns-then-frontier-eq0 c = rw (ne_eqb _ 0 c.if-frontier-eq0.false)
+returns c = rw (ne_eqb _ 0 c.if-frontier-eq0.false)
 
 pub has_nearer_row_spec : {M : Type 1} → statement M
 has_nearer_row_spec =

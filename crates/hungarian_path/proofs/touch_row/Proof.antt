@@ -60,7 +60,7 @@ shape_of-pos : tie.Need-shape_of-pos
 shape_of-pos c = simp length-set
 
 returns : tie.Need-returns
-returns-then-pos-i-ne0 c = record {
+returns c = record {
   words = rw (eq-eqb _ 0 c.if-pos-i-ne0.false);
   places = rw (eq-eqb _ 0 c.if-pos-i-ne0.false);
   answer =

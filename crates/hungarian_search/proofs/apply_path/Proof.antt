@@ -41,7 +41,7 @@ shape_of-work : tie.Need-shape_of-work
 shape_of-work c = c.flip.auto.work
 
 returns : tie.Need-returns
-returns-in_default c = apply_along _ _ _ _ _ _ _ _ c.requires _ _ _ (ap found_of c.end-1.given.1) _
+returns c = apply_along _ _ _ _ _ _ _ _ c.requires _ _ _ (ap found_of c.end-1.given.1) _
     c.flip.ensures _ c.raise.ensures
 
 pub apply_path_spec : {M : Type 1} → statement M

@@ -62,7 +62,7 @@ shape_of-work : tie.Need-shape_of-work
 shape_of-work c = search rules
 
 returns : tie.Need-returns
-returns-then-fault-ne-ACCEPTED c =
+returns c =
     let args = c.args in
     infnorm_promised (matrix args.n args.col-ptr.now args.row-idx.now args.values.now) args.factors.now args.work.now (accepted_is refl)
     (infnorm_done (matrix args.n args.col-ptr.now args.row-idx.now args.values.now) args.factors.now

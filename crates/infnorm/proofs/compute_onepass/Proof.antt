@@ -48,7 +48,7 @@ shape_of-factors : tie.Need-shape_of-factors
 shape_of-factors c = search rules
 
 returns : tie.Need-returns
-returns-then-fault-ne-ACCEPTED c =
+returns c =
     let args = c.args in
     onepass_promised (matrix args.n args.col-ptr.now args.row-idx.now args.values.now) args.factors.now (accepted_is refl)
     (onepass_done (matrix args.n args.col-ptr.now args.row-idx.now args.values.now) args.factors.now

@@ -22,7 +22,7 @@ number_of-requires c κs = search rules
 
 returns : tie.Need-returns
 unfolding input_fault
-returns-then-sizes-ne-ACCEPTED c = answer_second c.size_fault-sizes.ensures c.if-sizes-ne-ACCEPTED.false
+returns c = answer_second c.size_fault-sizes.ensures c.if-sizes-ne-ACCEPTED.false
     (number_told c.number_of.ensures c.validate.ensures.answer)
 
 pub input_fault_spec : {M : Type 1} → statement M

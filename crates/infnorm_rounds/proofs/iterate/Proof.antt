@@ -67,7 +67,7 @@ shape_of-work : tie.Need-shape_of-work invariant-loop-done decreases-loop-done
 shape_of-work c = c.loop-done.invariant.2 ∙ sym c.requires.factors_len.1
 
 returns : tie.Need-returns invariant-loop-done decreases-loop-done
-returns-then-not-far c =
+returns c =
     let args = c.args in
     rounds_end (matrix args.n args.col-ptr.now args.row-idx.now args.values.now) 10 c.loop-done.done c.loop-done.factors
     c.loop-done.invariant.3 (omega arith)

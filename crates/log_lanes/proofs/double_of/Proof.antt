@@ -23,7 +23,7 @@ returns-then-word-ge-NO_LOG : tie.Need-returns-then-word-ge-NO_LOG
 returns-then-word-ge-NO_LOG c = c.quiet_nan.ensures ∙ quiet ∙ sym (ap double_of (no_word _ c.if-word-ge-NO_LOG.true))
 
 returns : tie.Need-returns
-returns-then-word-ge-NO_LOG c =
+returns c =
     let word = c.args.word in
     let below : word < no_log = omega (arith, c.if-word-ge-NO_LOG.false) in
     rw c.from_units.ensures (ap (of_int binary64) (to_z-of_z w32 (from_units word) (fits_i32 word below)) ∙ sym (ap double_of (word_is word below)))

@@ -47,7 +47,7 @@ overflow_add-result-4 : tie.Need-overflow_add-result-4
 overflow_add-result-4 c = search rules
 
 returns : tie.Need-returns
-returns-then-digit-ne0 c =
+returns c =
     let d = digit_none _ _ _ (here c.before) c.if-digit-ne0.false in
     (d.0, omega (arith, d.1))
 

@@ -43,7 +43,7 @@ returns-then-fault-ne-ACCEPTED c =
     (not-false _ c.if-not-small_wholes.false) c.claim_fault-fault.ensures c.if-fault-ne-ACCEPTED.true)
 
 returns : tie.Need-returns
-returns-then-graph-ne-ACCEPTED c =
+returns c =
     promises _ _ (λ k h. c.shared_slice_known-3-1.given k)
     (record { rows = c.shared_slice_known-5-1.given; columns = c.shared_slice_known-6-1.given })
     (by_none _ _ c.graph_fault-graph.ensures c.lengths_fit-lengths.ensures c.if-graph-ne-ACCEPTED.left

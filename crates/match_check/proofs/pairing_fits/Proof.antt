@@ -30,7 +30,7 @@ pairs_stand-requires : tie.Need-pairs_stand-requires
 pairs_stand-requires c κs = search rules
 
 returns : tie.Need-returns
-returns-then-not-rows_below c = stands _ _ c.rows_below.ensures (not-false _ c.if-not-rows_below.false)
+returns c = stands _ _ c.rows_below.ensures (not-false _ c.if-not-rows_below.false)
     c.requires.fact_2 c.rows_once.ensures (not-false _ c.if-not-rows_once.false) c.pairs_stand.ensures
 
 pub pairing_fits_spec : {M : Type 1} → statement M

@@ -40,7 +40,7 @@ pairs_fault-requires c κs = let r =
     c.if-graph-ne-ACCEPTED.false) in (r.pattern, (r.rows, c.step_limit-limit.ensures))
 
 returns : tie.Need-returns
-returns-then-digits-gt50 c = 
+returns c = 
     by_pairs _ _ _ _ c.if-digits-gt50.left (lengths_are _ _ _ c.lengths_fit.ensures) c.graph_fault-graph.ensures
     c.if-graph-ne-ACCEPTED.false c.all_in_steps.ensures (not-false _ c.if-not-all_in_steps.false)
     c.pairs_fault.ensures

@@ -49,7 +49,7 @@ shape_of-gap : tie.Need-shape_of-gap
 shape_of-gap c = search rules
 
 returns : tie.Need-returns
-returns-then-fault-ne-ACCEPTED c = let z = c.if-fault-ne-ACCEPTED.false in all_promised _ _ _ _ (costs c.before.before) (duals c.before.before)
+returns c = let z = c.if-fault-ne-ACCEPTED.false in all_promised _ _ _ _ (costs c.before.before) (duals c.before.before)
     (found _ _ _ _ c.gap_fault-fault.ensures z (only c.args.gap.now c.sum_columns.result
     (passed _ _ _ _ (sym c.gap_fault-fault.ensures ∙ z)).room ∙ ap (λ (x : ℕ). x ∷ [])
     (c.sum_columns.ensures ∙ steps_are c.args.digits _ _)))

@@ -125,7 +125,7 @@ shape_of-matched : tie.Need-shape_of-matched
 shape_of-matched c = search rules
 
 returns : tie.Need-returns
-returns-then-shape-ne-ACCEPTED c =
+returns c =
     let a = c.args in
     let s = slices a.columns.now a.rows.now a.matched.now in
     let f = fit _ _ a.row-idx.now a.perm.now s

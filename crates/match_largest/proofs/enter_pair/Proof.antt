@@ -120,7 +120,7 @@ shape_of-inverse : tie.Need-shape_of-inverse
 shape_of-inverse c = search rules
 
 returns : tie.Need-returns
-returns-then-perm-j c = let p = c.requires in let a =
+returns c = let p = c.requires in let a =
     c.args in
     enters_pair p.j_lt_n_2 p.accepted_pattern_1.few p.j_lt_n_1 a.col-ptr.now a.row-idx.now
     c.if-perm-j.false

@@ -16,7 +16,7 @@ returns-then-x c =
     (own_bits c.args.x c.if-x.true t, λ h. (refl, t))
 
 returns : tie.Need-returns
-returns-then-x c = (no_nan _ (omega arith), λ h. absurd (true≢false (sym h ∙ c.if-x.false)))
+returns c = (no_nan _ (omega arith), λ h. absurd (true≢false (sym h ∙ c.if-x.false)))
 
 pub bits_above_zero_spec : {M : Type 1} → statement M
 bits_above_zero_spec =

@@ -34,7 +34,7 @@ shape_of-roots : tie.Need-shape_of-roots
 shape_of-roots c = search rules
 
 returns : tie.Need-returns
-returns-then-off_line-eq0 c = search rules
+returns c = search rules
 
 pub try_block_spec : {M : Type 1} → statement M
 try_block_spec =

@@ -21,7 +21,7 @@ returns-then-sizes-ne-ACCEPTED c =
 
 returns : tie.Need-returns
 unfolding external_fault
-returns-then-sizes-ne-ACCEPTED c = sym (or-none (sym c.size_fault-sizes.ensures ∙ c.if-sizes-ne-ACCEPTED.false))
+returns c = sym (or-none (sym c.size_fault-sizes.ensures ∙ c.if-sizes-ne-ACCEPTED.false))
 
 pub external_fault_spec : {M : Type 1} → statement M
 external_fault_spec =

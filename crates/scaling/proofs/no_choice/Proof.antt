@@ -28,7 +28,7 @@ returns-then-fault-ne-ACCEPTED c =
 
 returns : tie.Need-returns
 unfolding no_choice
-returns-then-fault-ne-ACCEPTED c =
+returns c =
     let args = c.args in
     sym (or-none (sym (onepass_fault_lem (matrix args.n args.col-ptr.now args.row-idx.now args.values.now) args.factors.now
     c.input_fault-fault.ensures c.lengths_fit-lengths.ensures) ∙ c.if-fault-ne-ACCEPTED.false))

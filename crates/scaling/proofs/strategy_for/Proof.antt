@@ -22,7 +22,7 @@ unfolding strategy_for
 returns-then-choice-eq3 c = sym (ap strategy_for c.if-choice-eq3.true)
 
 returns : tie.Need-returns
-returns-then-choice-eq0 c = beyond _ c.if-choice-eq0.false c.if-choice-eq1.false c.if-choice-eq2.false c.if-choice-eq3.false
+returns c = beyond _ c.if-choice-eq0.false c.if-choice-eq1.false c.if-choice-eq2.false c.if-choice-eq3.false
 
 pub strategy_for_spec : {M : Type 1} → statement M
 strategy_for_spec =

@@ -85,7 +85,7 @@ get_two-requires : tie.Need-get_two-requires
 get_two-requires c κs = omega arith
 
 returns : tie.Need-returns
-returns-then-bytes-lt3 c =
+returns c =
     let r = row_taken _ _ c.take_row.ensures c.row-1.given.1 in
     let u = number_taken _ _ c.take_number.ensures r.place c.u-1.given.1 in
     let v = number_taken _ _ c.take_number-2.ensures u.place c.v-1.given.1 in

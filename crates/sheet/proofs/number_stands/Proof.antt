@@ -7,7 +7,7 @@ returns-then-bits-eq0 : tie.Need-returns-then-bits-eq0
 returns-then-bits-eq0 c = stands_not 0 _ c.if-bits-eq0.true
 
 returns : tie.Need-returns
-returns-then-bits-eq0 c = stands_so 0 _ c.if-bits-eq0.false
+returns c = stands_so 0 _ c.if-bits-eq0.false
 
 pub number_stands_spec : {M : Type 1} → statement M
 number_stands_spec =

@@ -8,7 +8,7 @@ returns-then-row-eq-NONE : tie.Need-returns-then-row-eq-NONE
 returns-then-row-eq-NONE c = stands_not none _ c.if-row-eq-NONE.true
 
 returns : tie.Need-returns
-returns-then-row-eq-NONE c = stands_so none _ c.if-row-eq-NONE.false
+returns c = stands_so none _ c.if-row-eq-NONE.false
 
 pub row_stands_spec : {M : Type 1} → statement M
 row_stands_spec =

@@ -22,7 +22,7 @@ overflow_add-result : tie.Need-overflow_add-result
 overflow_add-result c = search rules
 
 returns : tie.Need-returns
-returns-then-bit-eq0 c = number_there _ _ _ (omega arith) (omega arith) c.get_u64.ensures
+returns c = number_there _ _ _ (omega arith) (omega arith) c.get_u64.ensures
 
 pub take_number_spec : {M : Type 1} → statement M
 take_number_spec =

@@ -16,7 +16,7 @@ get_two-requires : tie.Need-get_two-requires
 get_two-requires c κs = search rules
 
 returns : tie.Need-returns
-returns-then-bit-eq0 c = row_there _ _ (omega arith) (omega arith) c.get_two.ensures
+returns c = row_there _ _ (omega arith) (omega arith) c.get_two.ensures
 
 pub take_row_spec : {M : Type 1} → statement M
 take_row_spec =

@@ -14,7 +14,7 @@ records_fault-requires : tie.Need-records_fault-requires
 records_fault-requires c κs = search rules
 
 returns : tie.Need-returns
-returns-then-canonical c = rw c.if-canonical.false c.records_fault.ensures
+returns c = rw c.if-canonical.false c.records_fault.ensures
 
 pub body_fault_spec : {M : Type 1} → statement M
 body_fault_spec =

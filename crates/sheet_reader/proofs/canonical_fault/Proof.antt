@@ -15,7 +15,7 @@ returns-then-needless-ne-ACCEPTED : tie.Need-returns-then-needless-ne-ACCEPTED
 returns-then-needless-ne-ACCEPTED c = needless_first _ _ c.needless_fault-needless.ensures c.if-needless-ne-ACCEPTED.true
 
 returns : tie.Need-returns
-returns-then-needless-ne-ACCEPTED c = rising_second _ _ c.needless_fault-needless.ensures c.if-needless-ne-ACCEPTED.false c.rising_fault-rising.ensures
+returns c = rising_second _ _ c.needless_fault-needless.ensures c.if-needless-ne-ACCEPTED.false c.rising_fault-rising.ensures
 
 pub canonical_fault_spec : {M : Type 1} → statement M
 canonical_fault_spec =

@@ -20,7 +20,7 @@ returns-then-get_two-gt-MAX_COLUMNS c = rw (le-leb 2 _ c.if-sheet-lt2.false, lt-
 
 returns : tie.Need-returns
 unfolding head_fault
-returns-then-sheet-lt2 c = rw (le-leb 2 _ c.if-sheet-lt2.false, le-leb _ 4096 (rw c.get_two.ensures at c.if-get_two-gt-MAX_COLUMNS.false)) refl
+returns c = rw (le-leb 2 _ c.if-sheet-lt2.false, le-leb _ 4096 (rw c.get_two.ensures at c.if-get_two-gt-MAX_COLUMNS.false)) refl
 
 pub head_fault_spec : {M : Type 1} → statement M
 head_fault_spec =

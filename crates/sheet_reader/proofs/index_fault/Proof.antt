@@ -7,7 +7,7 @@ returns-then-r-n : tie.Need-returns-then-r-n
 returns-then-r-n c = index_so _ _ c.if-r-n.true
 
 returns : tie.Need-returns
-returns-then-r-n c = index_not _ _ c.if-r-n.false
+returns c = index_not _ _ c.if-r-n.false
 
 pub index_fault_spec : {M : Type 1} → statement M
 index_fault_spec =

@@ -12,7 +12,7 @@ returns-then-head-ne-ACCEPTED : tie.Need-returns-then-head-ne-ACCEPTED
 returns-then-head-ne-ACCEPTED c = size_head _ c.head_fault-head.ensures c.if-head-ne-ACCEPTED.true
 
 returns : tie.Need-returns
-returns-then-head-ne-ACCEPTED c = size_length _ c.head_fault-head.ensures c.if-head-ne-ACCEPTED.false
+returns c = size_length _ c.head_fault-head.ensures c.if-head-ne-ACCEPTED.false
 
 pub length_fault_spec : {M : Type 1} → statement M
 length_fault_spec =

@@ -12,7 +12,7 @@ returns-then-r-map : tie.Need-returns-then-r-map
 returns-then-r-map c = needless_is _ c.bits_of-map.ensures c.if-r-map.true
 
 returns : tie.Need-returns
-returns-then-r-map c = needless_is _ c.bits_of-map.ensures c.if-r-map.false
+returns c = needless_is _ c.bits_of-map.ensures c.if-r-map.false
 
 pub needless_fault_spec : {M : Type 1} → statement M
 needless_fault_spec =

@@ -115,7 +115,7 @@ shape_of-cmax : tie.Need-shape_of-cmax
 shape_of-cmax c = c.fill_match.auto.cmax
 
 returns : tie.Need-returns
-returns-then-head-ne-ACCEPTED c =
+returns c =
     let a = c.args in
     reads (body_of a.canonical a.sheet.now) a.sheet.now (match_of a.perm.now a.u.now a.v.now a.cmax.now)
     c.head_fault-head.ensures

@@ -7,7 +7,7 @@ returns-then-mark-eq0 : tie.Need-returns-then-mark-eq0
 returns-then-mark-eq0 c = mark_none _ c.if-mark-eq0.true
 
 returns : tie.Need-returns
-returns-then-mark-eq0 c = mark_some _ c.if-mark-eq0.false
+returns c = mark_some _ c.if-mark-eq0.false
 
 pub repeat_fault_spec : {M : Type 1} → statement M
 repeat_fault_spec =

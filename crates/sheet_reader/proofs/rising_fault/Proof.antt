@@ -8,7 +8,7 @@ returns-then-next-r : tie.Need-returns-then-next-r
 returns-then-next-r c = rises_so c.args.next c.args.r c.if-next-r.true
 
 returns : tie.Need-returns
-returns-then-next-r c = rises_not c.args.next c.args.r (omega (arith, c.if-next-r.false))
+returns c = rises_not c.args.next c.args.r (omega (arith, c.if-next-r.false))
 
 pub rising_fault_spec : {M : Type 1} → statement M
 rising_fault_spec =

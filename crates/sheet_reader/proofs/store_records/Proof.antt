@@ -238,7 +238,7 @@ shape_of-cmax : tie.Need-shape_of-cmax invariant-loop-at decreases-loop-at
 shape_of-cmax c = c.loop-at.invariant.3 ∙ sym c.requires.cmax_len
 
 returns : tie.Need-returns invariant-loop-at decreases-loop-at
-returns-in_default c = sym (c.loop-at.invariant.5 ∙ all_stored c.args.sheet.now c.loop-at.at
+returns c = sym (c.loop-at.invariant.5 ∙ all_stored c.args.sheet.now c.loop-at.at
     (match_of c.loop-at.perm c.loop-at.u c.loop-at.v c.loop-at.cmax) (omega arith))
 
 pub store_records_spec : {M : Type 1} → statement M

@@ -121,7 +121,7 @@ loop-at-preserved c =
     )
 
 returns : tie.Need-returns invariant-loop-at decreases-loop-at
-returns-in_default c =
+returns c =
     let a = c.args in
     sym (c.loop-at.invariant.1 ∙ canonical_end a.n a.sheet.now c.loop-at.next c.loop-at.at (omega arith))
 

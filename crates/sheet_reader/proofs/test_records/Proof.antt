@@ -148,7 +148,7 @@ shape_of-marks : tie.Need-shape_of-marks invariant-loop-at decreases-loop-at
 shape_of-marks c = c.loop-at.invariant.1
 
 returns : tie.Need-returns invariant-loop-at decreases-loop-at
-returns-in_default c =
+returns c =
     let a = c.args in
     sym (c.loop-at.invariant.2 ∙ all_passed a.n a.sheet.now c.loop-at.marks c.loop-at.at (omega arith))
 

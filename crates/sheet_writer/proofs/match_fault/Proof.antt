@@ -17,7 +17,7 @@ returns-then-fit-count c =
     match_fine a.n a.matched a.perm.now c.rows_fit-fit.ensures c.rows_present-count.ensures c.if-fit-count.true
 
 returns : tie.Need-returns
-returns-then-fit-count c =
+returns c =
     let a = c.args in
     match_not a.n a.matched a.perm.now c.rows_fit-fit.ensures c.rows_present-count.ensures c.if-fit-count.false
 

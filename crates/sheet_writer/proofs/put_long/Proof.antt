@@ -21,7 +21,7 @@ shape_of-out : tie.Need-shape_of-out
 shape_of-out c = search rules
 
 returns : tie.Need-returns
-returns-then-bit-eq0 c =
+returns c =
     let a = c.args in
     part_there _ 8 _ c.if-bit-eq0.false
     (record { bytes = c.put_u64.ensures; place = ap (λ (k : ℕ). a.at + k) (sym (bytes_length 8 a.value)) })

@@ -26,7 +26,7 @@ shape_of-out : tie.Need-shape_of-out
 shape_of-out c = search rules
 
 returns : tie.Need-returns
-returns-then-bits-eq0 c =
+returns c =
     let made = c.bits_of-bits.ensures in
     patch_there _ _ _ _ _ (λ e. c.if-bits-eq0.false (made ∙ e))
     (rw (c.record_size.ensures, c.bits_of-bits.ensures) at

@@ -15,7 +15,7 @@ shape_of-out : tie.Need-shape_of-out
 shape_of-out c = search rules
 
 returns : tie.Need-returns
-returns-then-bit-eq0 c = part_there _ 2 _ c.if-bit-eq0.false c.put_two.ensures
+returns c = part_there _ 2 _ c.if-bit-eq0.false c.put_two.ensures
 
 pub put_row_spec : {M : Type 1} → statement M
 put_row_spec =

@@ -64,7 +64,7 @@ shape_of-sheet : tie.Need-shape_of-sheet
 shape_of-sheet c = search rules
 
 returns : tie.Need-returns
-returns-then-sizes-ne-ACCEPTED c =
+returns c =
     let a = c.args in
     writes a.n a.matched (match_of a.perm.now a.u.now a.v.now a.cmax.now) a.sheet.now c.lengths_fit-fit.ensures
     c.size_fault-sizes.ensures c.if-sizes-ne-ACCEPTED.left c.match_fault-fault.ensures c.if-fault-ne-ACCEPTED.false

@@ -43,7 +43,7 @@ returns-then-rest-s : tie.Need-returns-then-rest-s
 returns-then-rest-s c = extended_down c.args.n c.args.s c.requires.0 c.requires.2 c.if-rest-s.true
 
 returns : tie.Need-returns
-returns-then-rest-s c = extended_up c.args.n c.args.s c.requires.0 c.requires.2 c.if-rest-s.false
+returns c = extended_up c.args.n c.args.s c.requires.0 c.requires.2 c.if-rest-s.false
 
 pub extended_spec : {M : Type 1} → statement M
 extended_spec =

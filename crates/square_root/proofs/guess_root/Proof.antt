@@ -31,7 +31,7 @@ returns-then-shown : tie.Need-returns-then-shown
 returns-then-shown c = search rules
 
 returns : tie.Need-returns
-returns-then-shown c = search rules
+returns c = search rules
 
 pub guess_root_spec : {M : Type 1} → statement M
 guess_root_spec =

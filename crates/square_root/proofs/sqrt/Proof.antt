@@ -32,7 +32,7 @@ returns-then-x-2 : tie.Need-returns-then-x-2
 returns-then-x-2 c = promised c.args.x (double c.before.before) (sym (zero_answer c.args.x c.if-x-2.true))
 
 returns : tie.Need-returns
-returns-then-bits-lt9218868437227405312 c = promised c.args.x (double c.before.before)
+returns c = promised c.args.x (double c.before.before)
     (sym (refused_answer c.args.x c.if-x.false c.if-x-2.false))
 
 pub sqrt_spec : {M : Type 1} → statement M

@@ -36,7 +36,7 @@ extended-requires : tie.Need-extended-requires
 extended-requires c κs = search rules
 
 returns : tie.Need-returns
-returns-then-n-eq4503599627370496 c = search rules
+returns c = search rules
 
 pub whole_root_spec : {M : Type 1} → statement M
 whole_root_spec =

@@ -33,7 +33,7 @@ answer_input-requires-2 : tie.Need-answer_input-requires-2
 answer_input-requires-2 c κs = search rules
 
 returns : tie.Need-returns
-returns-then-count-lt-BUFFER_LENGTH c =
+returns c =
     let args = c.args in
     let e = full args.form args.count args.buffer.now args.output.now (omega (arith, c.all-1.given.0, c.if-count-lt-BUFFER_LENGTH.false))
     c.answer_input-2.ensures.text in

@@ -144,7 +144,7 @@ shape_of-output : tie.Need-shape_of-output
 shape_of-output c = search rules
 
 returns : tie.Need-returns
-returns-then-kept-len c =
+returns c =
     (
       λ weights v. c.answer_graph.ensures.text ∙ ap (λ (text : List ℕ). report_written text c.args.output.now)
           (graph_text_lem c.requires c.assemble-kept.ensures c.if-kept-len.left (part_length _ 512 _ (short c.before.before.before.before.before.before.before.before.before.before.before.before)) (part_length _ 512 _ (short c.before.before.before.before.before.before.before.before.before.before.before.before))

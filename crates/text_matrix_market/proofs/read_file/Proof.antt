@@ -98,7 +98,7 @@ shape_of-weights : tie.Need-shape_of-weights invariant-loop-at decreases-loop-at
 shape_of-weights c = c.loop-at.invariant.kept.weights
 
 returns : tie.Need-returns invariant-loop-at decreases-loop-at
-returns-then-input-gt-MAX_INPUT c = concluded _ _ c.loop-at.invariant c.loop-at-test.false (c.conclude.ensures _)
+returns c = concluded _ _ c.loop-at.invariant c.loop-at-test.false (c.conclude.ensures _)
 
 pub read_file_spec : {M : Type 1} → statement M
 read_file_spec =

@@ -49,7 +49,7 @@ overflow_add-result-2 : tie.Need-overflow_add-result-2
 overflow_add-result-2 c = omega (arith, few c.before.before.before c.if-got-lt0.false, c.requires.at_lt_buffer_length)
 
 returns : tie.Need-returns
-returns-then-got-lt0 c = full _ (held c.before.before.before) c.if-got-lt0.false c.if-more-eq0.false c.if-at-more-lt-BUFFER_LENGTH.false
+returns c = full _ (held c.before.before.before) c.if-got-lt0.false c.if-more-eq0.false c.if-at-more-lt-BUFFER_LENGTH.false
     ∙ ap (input_after _) (same c.before.before.before)
 
 pub after_read_spec : {M : Type 1} → statement M

@@ -20,7 +20,7 @@ shape_of-out : tie.Need-shape_of-out
 shape_of-out c = c.put_pair.auto.out
 
 returns : tie.Need-returns
-returns-then-row-eq-NONE c = restated (sym
+returns c = restated (sym
     (one_pair c.args.row c.args.column c.if-row-eq-NONE.false)) refl
     c.put_pair.ensures
 

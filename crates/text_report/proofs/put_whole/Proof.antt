@@ -57,7 +57,7 @@ shape_of-out : tie.Need-shape_of-out
 shape_of-out c = search rules
 
 returns : tie.Need-returns
-returns-then-has_minus c = restated (sym (other_text c.args.x
+returns c = restated (sym (other_text c.args.x
     c.requires.printable
     (sym c.has_minus.ensures ∙ c.if-has_minus.false))) refl
     (rw c.abs-size.ensures at c.put_decimal-2.ensures)

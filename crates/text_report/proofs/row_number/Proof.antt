@@ -19,7 +19,7 @@ overflow_add-result c = omega arith
 
 returns : tie.Need-returns
 unfolding row_number
-returns-then-row-eq-NONE c =
+returns c =
     let row = c.args.row in
     sym (ap (λ (none : Bool). cond none 0 (row + 1)) (ne_eqb row 4294967295 c.if-row-eq-NONE.false))
 

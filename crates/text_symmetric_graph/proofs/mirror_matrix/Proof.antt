@@ -70,7 +70,7 @@ shape_of-cmax : tie.Need-shape_of-cmax
 shape_of-cmax c = search rules
 
 returns : tie.Need-returns
-returns-then-kept-rows c =
+returns c =
     let pre = c.requires in
     let b = c.assemble-kept.ensures in
     let work = work_same pre.symmetric_values b ∙ pre.sized.room in (

@@ -81,7 +81,7 @@ loop-k-preserved c =
     )
 
 returns : tie.Need-returns invariant-loop-k decreases-loop-k
-returns-then-position c = (λ e x h. c.loop-k.invariant.1 x (omega arith), λ e. absurd (true≢false e))
+returns c = (λ e x h. c.loop-k.invariant.1 x (omega arith), λ e. absurd (true≢false e))
 
 pub are_sorted_spec : {M : Type 1} → statement M
 are_sorted_spec =

@@ -50,7 +50,7 @@ position-requires-2 c κs =
     (c.requires.0.rows_in _ (omega arith), c.requires.0.cols_in _ (omega arith))
 
 returns : tie.Need-returns
-returns-then-k-eq0 c =
+returns c =
     let a = c.position in
     let b = c.position-2 in (
       λ e. (omega arith, omega (arith, eqb-true a.result b.result e, a.ensures, b.ensures)),

@@ -141,7 +141,7 @@ shape_of-values : tie.Need-shape_of-values
 shape_of-values c = search rules
 
 returns : tie.Need-returns
-returns-then-repeats c =
+returns c =
     let p = c.requires in
     let a = c.args in
     let t = triplets a.rows.now a.cols.now a.vals.now in

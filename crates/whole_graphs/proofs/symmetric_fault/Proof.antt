@@ -30,7 +30,7 @@ values_fault-requires c κs = search rules
 
 returns : tie.Need-returns
 unfolding symmetric_input_fault
-returns-then-sizes-ne-ACCEPTED c = answer_second c.size_fault-sizes.ensures c.if-sizes-ne-ACCEPTED.false
+returns c = answer_second c.size_fault-sizes.ensures c.if-sizes-ne-ACCEPTED.false
     (answer_second (number_told c.number_of-fault.ensures c.validate.ensures.answer) c.if-fault-ne-ACCEPTED.false
     c.values_fault.ensures)
 

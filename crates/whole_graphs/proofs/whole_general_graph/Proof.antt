@@ -103,7 +103,7 @@ shape_of-work c = c.clear.auto.list ∙ c.put_words.auto.words
 
 returns : tie.Need-returns
 unfolding whole_general_graph
-returns-then-fault-ne-ACCEPTED c =
+returns c =
     let p = accepted (input c.before.before.before.before.before.before.before.before.before.before.before.before.before.before.before.before.before.before.before.before.before.before.before.before.before.before.before.before.before.before.before.before) (value_logs c.args.values.now) (lent c.before.before.before.before.before.before.before.before.before.before.before.before.before.before.before.before.before.before.before.before.before.before.before.before.before.before.before.before.before.before.before.before) _ c.build-count.result _ (sym (fine c.before.before.before.before.before.before.before.before.before.before.before.before.before.before.before.before.before.before.before.before.before))
     c.build-count.ensures
     (c.clear.ensures ∙ ap (λ (k : ℕ). replicate k 0) c.put_words.kept.1.1.1.0) in

@@ -83,7 +83,7 @@ shape_of-work c = c.build-kept.kept.1.1.1.1.1.1.1.1.1.0
 
 returns : tie.Need-returns
 unfolding whole_symmetric_graph
-returns-then-fault-ne-ACCEPTED c =
+returns c =
     let p = accepted c.args.n (mirrored_columns (input c.before.before.before.before.before.before.before.before.before.before.before.before.before.before.before.before.before.before.before.before.before.before.before.before.before.before.before)) (value_logs c.args.values.now) (lent c.before.before.before.before.before.before.before.before.before.before.before.before.before.before.before.before.before.before.before.before.before.before.before.before.before.before.before) _ c.build-kept.result _
     (sym (fine c.before.before.before.before.before.before.before.before.before.before.before.before.before.before.before.before)) c.build-kept.ensures in
     record {

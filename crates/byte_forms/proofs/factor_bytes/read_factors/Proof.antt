@@ -116,7 +116,7 @@ shape_of-unmatched : tie.Need-shape_of-unmatched
 shape_of-unmatched c = search rules
 
 returns : tie.Need-returns
-returns-then-fault-ne-ACCEPTED c =
+returns c =
     let args = c.args in
     let holds = part_holds args.n 256 _ c.read_words.last.1.0 (omega (arith, c.requires.duals.columns)) c.read_words.kept.1.0
     (words args.perm.now) c.read_words.ensures in

@@ -40,7 +40,7 @@ loop-at-preserved : tie.Need-loop-at-preserved invariant-loop-at decreases-loop-
 loop-at-preserved c = tt
 
 returns : tie.Need-returns invariant-loop-at decreases-loop-at
-returns-then-digit-gt15 c = search rules
+returns c = search rules
 
 pub number_spec : {M : Type 1} → statement M
 number_spec =

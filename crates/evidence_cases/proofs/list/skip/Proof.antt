@@ -28,7 +28,7 @@ loop-at-preserved : tie.Need-loop-at-preserved invariant-loop-at decreases-loop-
 loop-at-preserved c = tt
 
 returns : tie.Need-returns invariant-loop-at decreases-loop-at
-returns-then-byte-ne10 c = search rules
+returns c = search rules
 
 pub skip_spec : {M : Type 1} → statement M
 skip_spec =

@@ -15,7 +15,7 @@ doubles-place-requires-3 : tie.Need-doubles-place-requires-3
 doubles-place-requires-3 c κs = tt
 
 doubles-requires : tie.Need-doubles-requires
-doubles-place-requires c κs = tt
+doubles-requires c κs = tt
 
 shape_of-col_ptr : tie.Need-shape_of-col_ptr
 shape_of-col_ptr c = c.fill-place.auto.col_ptr

@@ -60,7 +60,7 @@ cost_fault-requires c κs = ((sizes_accepted _ max_general _ _).0 (sym c.size_fa
 
 returns : tie.Need-returns
 unfolding graph_fault
-returns-then-sizes-ne-ACCEPTED c = answer_second c.size_fault-sizes.ensures
+returns c = answer_second c.size_fault-sizes.ensures
     c.if-sizes-ne-ACCEPTED.false (answer_second
     c.pointer_fault-pointers.ensures c.if-pointers-ne-ACCEPTED.false
     (answer_second c.columns_fault-columns.ensures c.if-columns-ne-ACCEPTED.false c.cost_fault.ensures))

@@ -22,7 +22,7 @@ rising_fault-requires : tie.Need-rising_fault-requires
 rising_fault-requires c κs = search rules
 
 returns : tie.Need-returns
-returns-then-column_fine c = sym (or-none (sym c.lower_fault-lower.ensures ∙ c.if-lower-ne-ACCEPTED.false) ∙ sym c.rising_fault.ensures)
+returns c = sym (or-none (sym c.lower_fault-lower.ensures ∙ c.if-lower-ne-ACCEPTED.false) ∙ sym c.rising_fault.ensures)
 
 pub column_fault_spec : {M : Type 1} → statement M
 column_fault_spec =

@@ -28,7 +28,7 @@ column_rises-requires : tie.Need-column_rises-requires
 column_rises-requires c κs = search rules
 
 returns : tie.Need-returns
-returns-then-from-to c = λ t. lower_risen _ _ _ _ _ (λ h. c.if-row_idx-from.false) (eqb-true _ _ (sym c.column_rises.ensures ∙ t))
+returns c = λ t. lower_risen _ _ _ _ _ (λ h. c.if-row_idx-from.false) (eqb-true _ _ (sym c.column_rises.ensures ∙ t))
 
 pub column_fine_spec : {M : Type 1} → statement M
 column_fine_spec =

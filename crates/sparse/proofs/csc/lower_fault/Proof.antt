@@ -50,7 +50,7 @@ loop-k-preserved c =
     pass _ _ l.k l.inv c.loop-k-test.true (lower_right a.n a.row-idx.now l.k a.j c.if-row-n.false c.if-row-j.false)
 
 returns : tie.Need-returns invariant-loop-k decreases-loop-k
-returns-then-row-n c = (done _ _ c.loop-k.k c.loop-k.invariant c.loop-k-test.false)
+returns c = (done _ _ c.loop-k.k c.loop-k.invariant c.loop-k-test.false)
 
 pub lower_fault_spec : {M : Type 1} → statement M
 lower_fault_spec =

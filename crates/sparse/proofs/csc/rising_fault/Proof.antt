@@ -53,7 +53,7 @@ loop-k-preserved c =
     (omega arith, pass _ _ l.k l.inv.1 (omega (arith, c.loop-k-test.true)) (pair_rises a.row-idx.now l.k c.if-row_idx-k.false))
 
 returns : tie.Need-returns invariant-loop-k decreases-loop-k
-returns-then-row_idx-k c = (done _ _ c.loop-k.k c.loop-k.invariant.1 (omega (arith, c.loop-k-test.false)))
+returns c = (done _ _ c.loop-k.k c.loop-k.invariant.1 (omega (arith, c.loop-k-test.false)))
 
 pub rising_fault_spec : {M : Type 1} → statement M
 rising_fault_spec =

@@ -88,7 +88,7 @@ loop-k-preserved c =
     ))
 
 returns : tie.Need-returns invariant-loop-k decreases-loop-k
-returns-then-rows-k c = done _ _ c.loop-k.k c.loop-k.invariant c.loop-k-test.false
+returns c = done _ _ c.loop-k.k c.loop-k.invariant c.loop-k-test.false
 
 pub triplets_fault_spec : {M : Type 1} → statement M
 triplets_fault_spec =

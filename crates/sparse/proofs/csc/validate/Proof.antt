@@ -33,7 +33,7 @@ validity_of-requires c κs = search rules
 
 returns : tie.Need-returns
 unfolding symmetric_fault
-returns-then-frame-ne-ACCEPTED c = let a = c.args in
+returns c = let a = c.args in
     answers (symmetric_listed (matrix a.n a.col-ptr.now a.row-idx.now a.values.now)) c.validity_of.ensures
     (answer_second c.frame_fault-frame.ensures c.if-frame-ne-ACCEPTED.false c.columns_fault.ensures)
 

@@ -16,7 +16,7 @@ first_fault-requires : tie.Need-first_fault-requires
 first_fault-requires c κs = search rules
 
 returns : tie.Need-returns
-returns-then-column_rises c = search rules
+returns c = search rules
 
 pub column_fault_spec : {M : Type 1} → statement M
 column_fault_spec =

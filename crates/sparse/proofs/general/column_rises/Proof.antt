@@ -71,7 +71,7 @@ overflow_cast-result : tie.Need-overflow_cast-result invariant-loop-k decreases-
 overflow_cast-result c = omega (arith, c.shared_slice_known-2-1.given (c.args.to - 1))
 
 returns : tie.Need-returns invariant-loop-k decreases-loop-k
-returns-then-from-to c = rises_end _ _ _ _ c.loop-k.k c.loop-k.fine (omega arith) (omega arith) c.loop-k.invariant.2
+returns c = rises_end _ _ _ _ c.loop-k.k c.loop-k.fine (omega arith) (omega arith) c.loop-k.invariant.2
 
 pub column_rises_spec : {M : Type 1} → statement M
 column_rises_spec =

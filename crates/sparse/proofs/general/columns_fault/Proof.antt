@@ -67,7 +67,7 @@ loop-j-preserved c =
     (sym c.column_fault-fault.ensures ∙ c.if-fault-ne-ACCEPTED.false))
 
 returns : tie.Need-returns invariant-loop-j decreases-loop-j
-returns-then-fault-ne-ACCEPTED c = ((done _ _ c.loop-j.j c.loop-j.invariant c.loop-j-test.false))
+returns c = ((done _ _ c.loop-j.j c.loop-j.invariant c.loop-j-test.false))
 
 pub columns_fault_spec : {M : Type 1} → statement M
 columns_fault_spec =

@@ -60,7 +60,7 @@ loop-k-preserved c =
     )
 
 returns : tie.Need-returns invariant-loop-k decreases-loop-k
-returns-then-row-n c = (done _ _ c.loop-k.k c.loop-k.invariant.2 c.loop-k-test.false)
+returns c = (done _ _ c.loop-k.k c.loop-k.invariant.2 c.loop-k-test.false)
 
 pub first_fault_spec : {M : Type 1} → statement M
 first_fault_spec =

@@ -63,7 +63,7 @@ shape_of-work c = c.assemble-kept.auto.work
 
 returns : tie.Need-returns
 unfolding general_assembly triplet_fault
-returns-then-sizes-ne-ACCEPTED c =
+returns c =
     let a = c.args in
     accepted a.n (triplets a.rows.now a.cols.now a.vals.now)
     (slices a.col-ptr.now a.row-idx.now a.values.now a.work.now) _ c.assemble-kept.result _

@@ -40,7 +40,7 @@ columns_fault-requires c κs =
 
 returns : tie.Need-returns
 unfolding pattern_fault
-returns-then-sizes-ne-ACCEPTED c =
+returns c =
     answer_second c.size_fault-sizes.ensures c.if-sizes-ne-ACCEPTED.false
     (answer_second c.pointer_fault-pointers.ensures c.if-pointers-ne-ACCEPTED.false c.columns_fault.ensures)
 

@@ -58,7 +58,7 @@ loop-k-preserved c =
     (rw (lt-ltb (get_or a.rows.now l.k 0) a.n c.if-rows-k.false, lt-ltb (get_or a.cols.now l.k 0) a.n c.if-cols-k.false))
 
 returns : tie.Need-returns invariant-loop-k decreases-loop-k
-returns-then-rows-k c = done _ _ c.loop-k.k c.loop-k.invariant c.loop-k-test.false
+returns c = done _ _ c.loop-k.k c.loop-k.invariant c.loop-k-test.false
 
 pub triplets_fault_spec : {M : Type 1} → statement M
 triplets_fault_spec =

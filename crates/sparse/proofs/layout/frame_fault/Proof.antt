@@ -44,7 +44,7 @@ pointer_fault-requires c κs =
 
 returns : tie.Need-returns
 unfolding frame_fault
-returns-then-sizes-ne-ACCEPTED c = answer_second (sizes-are c.before.before) c.if-sizes-ne-ACCEPTED.false c.pointer_fault.ensures
+returns c = answer_second (sizes-are c.before.before) c.if-sizes-ne-ACCEPTED.false c.pointer_fault.ensures
 
 pub frame_fault_spec : {M : Type 1} → statement M
 frame_fault_spec =

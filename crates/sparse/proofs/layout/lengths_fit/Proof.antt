@@ -63,7 +63,7 @@ overflow_add-result-2 c = omega arith
 
 returns : tie.Need-returns
 unfolding triplet_lengths
-returns-then-cols-count c = let a = c.args in
+returns c = let a = c.args in
     rw (
       eq-eqb a.cols a.count c.if-cols-count.false,
       eq-eqb a.vals a.count

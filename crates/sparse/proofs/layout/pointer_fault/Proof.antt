@@ -49,7 +49,7 @@ returns-then-one_falls : tie.Need-returns-then-one_falls
 returns-then-one_falls c = sym (tested c.before ∙ rw c.if-one_falls.true at c.one_falls.ensures)
 
 returns : tie.Need-returns
-returns-then-col_ptr-ne0 c = sym (tested c.before ∙ rw c.if-one_falls.false at c.one_falls.ensures)
+returns c = sym (tested c.before ∙ rw c.if-one_falls.false at c.one_falls.ensures)
 
 pub pointer_fault_spec : {M : Type 1} → statement M
 pointer_fault_spec =

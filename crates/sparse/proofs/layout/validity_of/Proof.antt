@@ -7,7 +7,7 @@ returns-then-fault-eq-ACCEPTED : tie.Need-returns-then-fault-eq-ACCEPTED
 returns-then-fault-eq-ACCEPTED c = accepted_is c.if-fault-eq-ACCEPTED.true
 
 returns : tie.Need-returns
-returns-then-fault-eq-ACCEPTED c = refused_is c.if-fault-eq-ACCEPTED.false
+returns c = refused_is c.if-fault-eq-ACCEPTED.false
 
 pub validity_of_spec : {M : Type 1} → statement M
 validity_of_spec =

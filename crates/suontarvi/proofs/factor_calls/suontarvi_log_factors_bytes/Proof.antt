@@ -30,7 +30,7 @@ shape_of-unmatched : tie.Need-shape_of-unmatched
 shape_of-unmatched c = search rules
 
 returns : tie.Need-returns
-returns-then-sizes-ne-ACCEPTED c = factors_number _ _ _ _ _ _ _ _ (factors_result _ _ _ _ _ _ _ _ (size-fault-of-read-factors
+returns c = factors_number _ _ _ _ _ _ _ _ (factors_result _ _ _ _ _ _ _ _ (size-fault-of-read-factors
     c.before.before.before.before).size-fault.ensures (Else1-of-read-factors
     c.before.before.before.before).if1.left c.read_factors.ensures)
 

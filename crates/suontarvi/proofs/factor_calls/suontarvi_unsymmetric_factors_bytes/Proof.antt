@@ -29,7 +29,7 @@ shape_of-column_factors : tie.Need-shape_of-column_factors
 shape_of-column_factors c = search rules
 
 returns : tie.Need-returns
-returns-then-sizes-ne-ACCEPTED c = sides_number _ _ _ _ _ _ (sides_result _ _ _ _ _ _ c.size_fault-sizes.ensures
+returns c = sides_number _ _ _ _ _ _ (sides_result _ _ _ _ _ _ c.size_fault-sizes.ensures
     c.if-sizes-ne-ACCEPTED.left c.read_sides.ensures)
 
 pub suontarvi_unsymmetric_factors_bytes_spec : {M : Type 1} → statement M

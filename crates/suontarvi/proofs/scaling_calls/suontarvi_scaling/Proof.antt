@@ -106,7 +106,7 @@ shape_of-info : tie.Need-shape_of-info
 shape_of-info c = c.put_info.auto.info
 
 returns : tie.Need-returns
-returns-then-choice-eq4 c =
+returns c =
     let args = c.args in
     promised _ _ _ _ _ _ (λ k h. c.shared_slice_known-5-1.given k)
     (chosen args.choice (matrix args.n args.col-ptr.now args.row-idx.now args.values.now) args.external.now

@@ -118,7 +118,7 @@ word_start-requires : tie.Need-word_start-requires
 word_start-requires c κs = (past-fifth c).within
 
 returns : tie.Need-returns
-returns-then-not-begins_percent c = rw c.word_start.ensures (nothing_more _ _ c.args.line.now (past-fifth c.before))
+returns c = rw c.word_start.ensures (nothing_more _ _ c.args.line.now (past-fifth c.before))
 
 pub is_banner_spec : {M : Type 1} → statement M
 is_banner_spec =

@@ -17,7 +17,7 @@ overflow_add-result : tie.Need-overflow_add-result
 overflow_add-result c = search rules
 
 returns : tie.Need-returns
-returns-then-b-lt65 c = rw (le-leb 65 c.args.b (omega arith), le-leb c.args.b 90 (omega arith))
+returns c = rw (le-leb 65 c.args.b (omega arith), le-leb c.args.b 90 (omega arith))
 
 pub lower_case_spec : {M : Type 1} → statement M
 lower_case_spec =

@@ -27,7 +27,7 @@ returns-then-is_banner-3 c = is_pattern _ (sym c.is_banner.ensures ∙ c.if-is_b
     (sym c.is_banner-2.ensures ∙ c.if-is_banner-2.false) (sym c.is_banner-3.ensures ∙ c.if-is_banner-3.true)
 
 returns : tie.Need-returns
-returns-then-is_banner c = no_kind _ (sym c.is_banner.ensures ∙ c.if-is_banner.false)
+returns c = no_kind _ (sym c.is_banner.ensures ∙ c.if-is_banner.false)
     (sym c.is_banner-2.ensures ∙ c.if-is_banner-2.false) (sym c.is_banner-3.ensures ∙ c.if-is_banner-3.false)
 
 pub read_banner_spec : {M : Type 1} → statement M

@@ -53,7 +53,7 @@ loop-i-preserved c =
     )
 
 returns : tie.Need-returns invariant-loop-i decreases-loop-i
-returns-then-word-name c =
+returns c =
     let args = c.args in
     same_end args.word.now args.name.now c.loop-i.i (omega arith) (omega arith) ∙ sym c.loop-i.invariant.2
 

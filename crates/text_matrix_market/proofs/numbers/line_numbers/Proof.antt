@@ -75,7 +75,7 @@ returns-then-word_start-line c =
     (sym c.next_weight.ensures ∙ c.c-1.given.1) (omega arith)
 
 returns : tie.Need-returns
-returns-in_default c =
+returns c =
     let args = c.args in
     all_three args.line.now (first c.before.before.before.before.before.before.before.before.before.before) (second c.before.before.before.before.before.before) args.kind
     (sym c.next_weight.ensures ∙ c.c-1.given.1) (omega arith)

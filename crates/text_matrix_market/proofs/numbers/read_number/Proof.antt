@@ -49,7 +49,7 @@ loop-i-preserved : tie.Need-loop-i-preserved invariant-loop-i decreases-loop-i
 loop-i-preserved c = digit c.args.word.now c.loop-i.invariant (omega arith) (omega arith) (omega arith)
 
 returns : tie.Need-returns invariant-loop-i decreases-loop-i
-returns-then-word-eq0 c = read_all c.args.word.now c.loop-i.invariant (omega arith)
+returns c = read_all c.args.word.now c.loop-i.invariant (omega arith)
 
 pub read_number_spec : {M : Type 1} → statement M
 read_number_spec =

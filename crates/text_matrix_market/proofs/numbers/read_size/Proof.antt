@@ -31,7 +31,7 @@ read_number-requires-2 : tie.Need-read_number-requires-2
 read_number-requires-2 c κs = search rules
 
 returns : tie.Need-returns
-returns-then-word-eq0 c = c.read_number-2.ensures ∙ size_plain _ c.if-word-eq0.false c.if-word-eq45.false
+returns c = c.read_number-2.ensures ∙ size_plain _ c.if-word-eq0.false c.if-word-eq45.false
 
 pub read_size_spec : {M : Type 1} → statement M
 read_size_spec =

@@ -14,7 +14,7 @@ read_number-requires : tie.Need-read_number-requires
 read_number-requires c κs = search rules
 
 returns : tie.Need-returns
-returns-then-signed c = rw c.if-signed.false c.read_number.ensures
+returns c = rw c.if-signed.false c.read_number.ensures
 
 pub read_word_spec : {M : Type 1} → statement M
 read_word_spec =

@@ -91,7 +91,7 @@ overflow_cast-result-2 : tie.Need-overflow_cast-result-2
 overflow_cast-result-2 c = omega (arith, column_inside c)
 
 returns : tie.Need-returns
-returns-in_default c =
+returns c =
     let a = c.args in
     an_entry a.kind a.n a.line.now (sym c.line_numbers.ensures ∙ c.row-1.given.1)
     (sym c.within.ensures ∙ not-false _ c.if-not-within.left)

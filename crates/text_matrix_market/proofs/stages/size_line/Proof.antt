@@ -65,7 +65,7 @@ overflow_cast-result-2 c = search rules
 
 returns : tie.Need-returns
 unfolding first_entries
-returns-then-is_blank_line c = λ l. a_size _ c.args.line.now
+returns c = λ l. a_size _ c.args.line.now
     (sym c.is_blank_line.ensures ∙
     c.if-is_blank_line.false) (sym
     c.begins_percent.ensures ∙

@@ -12,7 +12,7 @@ bounds-line-0 : tie.Need-bounds-line-0
 bounds-line-0 c = search rules
 
 returns : tie.Need-returns
-returns-then-line-eq0 c = percent_first c.args.line.now c.if-line-eq0.false
+returns c = percent_first c.args.line.now c.if-line-eq0.false
 
 pub begins_percent_spec : {M : Type 1} → statement M
 begins_percent_spec =

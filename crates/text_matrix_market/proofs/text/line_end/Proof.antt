@@ -39,7 +39,7 @@ loop-at-preserved c = (
 )
 
 returns : tie.Need-returns invariant-loop-at decreases-loop-at
-returns-then-input-at-eq10 c = sym (reach_end _ c.args.input.now c.loop-at.at (omega arith)) ∙ c.loop-at.invariant.1
+returns c = sym (reach_end _ c.args.input.now c.loop-at.at (omega arith)) ∙ c.loop-at.invariant.1
 
 pub line_end_spec : {M : Type 1} → statement M
 line_end_spec =

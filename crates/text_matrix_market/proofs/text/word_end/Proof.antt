@@ -43,7 +43,7 @@ loop-at-preserved c = (
 )
 
 returns : tie.Need-returns invariant-loop-at decreases-loop-at
-returns-then-is_blank c = sym (reach_end _ c.args.line.now c.loop-at.at (omega arith)) ∙ c.loop-at.invariant.1
+returns c = sym (reach_end _ c.args.line.now c.loop-at.at (omega arith)) ∙ c.loop-at.invariant.1
 
 pub word_end_spec : {M : Type 1} → statement M
 word_end_spec =

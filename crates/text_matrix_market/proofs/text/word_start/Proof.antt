@@ -45,7 +45,7 @@ loop-at-preserved c = (
 )
 
 returns : tie.Need-returns invariant-loop-at decreases-loop-at
-returns-then-not-is_blank c = sym (reach_end _ c.args.line.now c.loop-at.at (omega arith)) ∙ c.loop-at.invariant.1
+returns c = sym (reach_end _ c.args.line.now c.loop-at.at (omega arith)) ∙ c.loop-at.invariant.1
 
 pub word_start_spec : {M : Type 1} → statement M
 word_start_spec =
