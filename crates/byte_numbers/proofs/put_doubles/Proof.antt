@@ -45,11 +45,11 @@ loop-i-preserved c =
     let n : length (bits_of args.values.now) ≡ length args.values.now = bits_length args.values.now in
     let h : length args.out.now ≡ 8 * length (bits_of args.values.now) = omega arith in (
       omega arith,
-      c.put_double.auto.out ∙ l.inv.1,
+      c.put_double.auto.out ∙ l.invariant.1,
       c.put_double.ensures ∙ ap (λ (v : ℕ). sets l.out (8 * l.i) (bytes_of 8 v))
           (sym (bits_at args.values.now l.i))
-          ∙ ap (λ (x : List ℕ). sets x (8 * l.i) (bytes_of 8 (get_or (bits_of args.values.now) l.i (to_bits binary64 nan)))) l.inv.2
-          ∙ lay_more 8 (bits_of args.values.now) args.out.now l.i (to_bits binary64 nan) (omega arith) (sym (ap length l.inv.2) ∙ l.inv.1 ∙ h),
+          ∙ ap (λ (x : List ℕ). sets x (8 * l.i) (bytes_of 8 (get_or (bits_of args.values.now) l.i (to_bits binary64 nan)))) l.invariant.2
+          ∙ lay_more 8 (bits_of args.values.now) args.out.now l.i (to_bits binary64 nan) (omega arith) (sym (ap length l.invariant.2) ∙ l.invariant.1 ∙ h),
     )
 
 shape_of-out : tie.Need-shape_of-out invariant-loop-i decreases-loop-i

@@ -43,10 +43,10 @@ loop-i-preserved c =
     let l = c.loop-i in
     let h : length args.out.now ≡ 4 * length args.values.now = omega arith in (
       omega arith,
-      c.put_u32.auto.out ∙ l.inv.1,
+      c.put_u32.auto.out ∙ l.invariant.1,
       c.put_u32.ensures
-          ∙ ap (λ (x : List ℕ). sets x (4 * l.i) (bytes_of 4 (get_or args.values.now l.i 0))) l.inv.2
-          ∙ lay_more 4 args.values.now args.out.now l.i 0 (omega arith) (sym (ap length l.inv.2) ∙ l.inv.1 ∙ h),
+          ∙ ap (λ (x : List ℕ). sets x (4 * l.i) (bytes_of 4 (get_or args.values.now l.i 0))) l.invariant.2
+          ∙ lay_more 4 args.values.now args.out.now l.i 0 (omega arith) (sym (ap length l.invariant.2) ∙ l.invariant.1 ∙ h),
     )
 
 shape_of-out : tie.Need-shape_of-out invariant-loop-i decreases-loop-i

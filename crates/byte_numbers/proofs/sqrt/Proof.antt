@@ -22,8 +22,8 @@ enum_known-answer c = search rules
 
 float_to_bits-y : tie.Need-float_to_bits-y
 float_to_bits-y c = (root_double c.args.x
-    c.answer-1.given.0.0 (double c.before.before.before.before.before.before.before)
-    (sym c.sqrt-answer.ensures.fault ∙ c.answer-1.given.1)).not_nan
+    c.in-Is.y (double c.before.before.before.before.before.before.before)
+    (sym c.sqrt-answer.ensures.0 ∙ c.in-Is.is)).not_nan
 
 put_u64-requires : tie.Need-put_u64-requires
 put_u64-requires c κs = search rules
@@ -37,19 +37,19 @@ shape_of-root c = search rules
 returns-in-Is : tie.Need-returns-in-Is
 returns-in-Is c = let a = answered c.args.x
     c.args.root.now
-    c.answer-1.given.0.0
+    c.in-Is.y
     (double c.before.before.before.before.before.before.before.before.before.before)
     c.if-root-ne8.false
-    (sym c.sqrt-answer.ensures.fault ∙
-    c.answer-1.given.1) in
+    (sym c.sqrt-answer.ensures.0 ∙
+    c.in-Is.is) in
     (a.0, (c.put_u64.ensures ∙ a.1.0, (rw c.put_u64.ensures a.1.1.0, a.1.1.1)))
 
 returns-in-Refused : tie.Need-returns-in-Refused
 returns-in-Refused c =
     let args = c.args in
-    no_root_lem args.x args.root.now c.answer-in-Refused-1.given.0.0 (double c.before.before.before.before.before.before)
-    c.if-root-ne8.false (sym c.sqrt-answer.ensures.fault ∙
-    c.answer-in-Refused-1.given.1)
+    no_root_lem args.x args.root.now c.in-Refused.number (double c.before.before.before.before.before.before)
+    c.if-root-ne8.false (sym c.sqrt-answer.ensures.0 ∙
+    c.in-Refused.is)
 
 pub sqrt_spec : {M : Type 1} → statement M
 sqrt_spec =

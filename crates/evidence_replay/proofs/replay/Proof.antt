@@ -37,7 +37,7 @@ loop-smaller c = omega arith
 
 loop-preserved : tie.Need-loop-preserved invariant-loop decreases-loop
 loop-preserved c =
-    (omega arith, (c.step-place.auto.rows ∙ c.loop.inv.1.0, c.step-place.auto.values ∙ c.loop.inv.1.1))
+    (omega arith, (c.step-place.auto.rows ∙ c.loop.invariant.1.0, c.step-place.auto.values ∙ c.loop.invariant.1.1))
 
 bad-requires : tie.Need-bad-requires invariant-loop decreases-loop
 bad-requires c κs = tt

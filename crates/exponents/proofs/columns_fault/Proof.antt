@@ -1,4 +1,5 @@
 -- `columns_fault` meets its contract. The loop's invariant: no difference before j has a fault.
+use mathlib.Core.Bool.{not}
 use Rattle.std.proofs.Common.{rules}
 use mathlib.Core.Path.{◌≡◌, sym, ap, ◌∙◌}
 use mathlib.Core.Bool.{Bool}
@@ -58,13 +59,13 @@ tested : (c : tie.After-within_limit invariant-loop-j decreases-loop-j) → let 
 tested c =
     let a = c.args in
     ap factor_fits (difference_at a.v.now a.cmax.now c.requires c.loop-j.j c.loop-j-test.true)
-    ∙ sym (c.within_limit.ensures ∙ ap within_limit (read_is c.exponent_of-exponent.result c.exponent_of-exponent.type-inv)
+    ∙ sym (c.within_limit.ensures ∙ ap within_limit (read_is c.exponent_of-exponent.result c.exponent_of-exponent.type_inv)
     ∙ c.exponent_of-exponent.ensures.fits)
 
 returns-then-not-within_limit : tie.Need-returns-then-not-within_limit invariant-loop-j decreases-loop-j
 returns-then-not-within_limit c =
-    found _ _ c.loop-j.j c.loop-j.invariant (omega (arith, c.loop-j-test.taken, count c.before.before.before.before.before.before))
-    (ap (λ (t : Bool). unless t exponent_range) (tested c.before ∙ not-true c.within_limit.result c.if-not-within_limit.true)) (omega arith)
+    found _ _ c.loop-j.j c.loop-j.invariant (omega (arith, c.loop-j-test.true, count c.before.before.before.before.before.before))
+    (ap (λ (t : Bool). unless t exponent_range) (tested c.before ∙ not-true c.within_limit.result c.if-not-within_limit.true  )) (omega arith)
 
 overflow_add-j : tie.Need-overflow_add-j invariant-loop-j decreases-loop-j
 overflow_add-j c = search rules
@@ -74,8 +75,8 @@ loop-j-smaller c = search rules
 
 loop-j-preserved : tie.Need-loop-j-preserved invariant-loop-j decreases-loop-j
 loop-j-preserved c =
-    pass _ _ c.loop-j.j c.loop-j.invariant (omega (arith, c.loop-j-test.taken, count c.before.before.before.before.before.before))
-    (ap (λ (t : Bool). unless t exponent_range) (tested c.before ∙ not-false c.within_limit.result c.if-not-within_limit.false))
+    pass _ _ c.loop-j.j c.loop-j.invariant (omega (arith, c.loop-j-test.true, count c.before.before.before.before.before.before))
+    (ap (λ (t : Bool). unless t exponent_range) (tested c.before ∙ not-false c.within_limit.result c.if-not-within_limit.false  ))
 
 returns : tie.Need-returns invariant-loop-j decreases-loop-j
 returns c = done _ _ c.loop-j.j c.loop-j.invariant (omega (arith, c.loop-j-test.false, count c.before))

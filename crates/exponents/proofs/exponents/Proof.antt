@@ -17,10 +17,10 @@ abbrev lent : tie.Start → Duals
 lent s = duals s.args.u.now s.args.v.now s.args.cmax.now
 
 abbrev rows : tie.Start → List ℤ
-rows s = s.args.row-exponents.now
+rows s = s.args.row_exponents.now
 
 abbrev columns : tie.Start → List ℤ
-columns s = s.args.column-exponents.now
+columns s = s.args.column_exponents.now
 
 -- ---- places, each from a later one
 -- ---- a test that was passed found nothing
@@ -65,7 +65,7 @@ returns-then-columns-ne-ACCEPTED : tie.Need-returns-then-columns-ne-ACCEPTED
 unfolding exponents_fault lengths_fit
 returns-then-columns-ne-ACCEPTED c =
     refuses c.args.n (lent c.before.before.before.before.before.before.before.before.before) (rows c.before.before.before.before.before.before.before.before.before) (columns c.before.before.before.before.before.before.before.before.before)
-    (answer_second c.size_fault-sizes.ensures c.if-sizes-ne-ACCEPTED.left
+    (answer_second c.size_fault-sizes.ensures c.if-sizes-ne-ACCEPTED.false
     (answer_second c.rows_fault-rows.ensures c.if-rows-ne-ACCEPTED.false c.columns_fault-columns.ensures)) c.if-columns-ne-ACCEPTED.true
 
 write_rows-requires : tie.Need-write_rows-requires

@@ -1,4 +1,5 @@
 -- `rows_fault` meets its contract. The loop's invariant: no factor before i has a fault.
+use mathlib.Core.Bool.{not}
 use Rattle.std.proofs.Common.{rules}
 use mathlib.Core.Path.{◌≡◌, sym, ap, ◌∙◌}
 use mathlib.Core.Bool.{Bool}
@@ -43,13 +44,13 @@ within_limit-requires c κs = tt
 -- the test at i, of the exponent that was found there
 tested : (c : tie.After-within_limit invariant-loop-i decreases-loop-i) → 
     factor_fits (get_or c.args.u.now c.loop-i.i nan) ≡ c.within_limit.result
-tested c = sym (c.within_limit.ensures ∙ ap within_limit (read_is c.exponent_of-exponent.result c.exponent_of-exponent.type-inv)
+tested c = sym (c.within_limit.ensures ∙ ap within_limit (read_is c.exponent_of-exponent.result c.exponent_of-exponent.type_inv)
     ∙ c.exponent_of-exponent.ensures.fits)
 
 returns-then-not-within_limit : tie.Need-returns-then-not-within_limit invariant-loop-i decreases-loop-i
 returns-then-not-within_limit c =
     found _ _ c.loop-i.i c.loop-i.invariant c.loop-i-test.true
-    (ap (λ (t : Bool). unless t exponent_range) (tested c.before ∙ not-true c.within_limit.result c.if-not-within_limit.true)) (omega arith)
+    (ap (λ (t : Bool). unless t exponent_range) (tested c.before ∙ not-true c.within_limit.result c.if-not-within_limit.true  )) (omega arith)
 
 overflow_add-i : tie.Need-overflow_add-i invariant-loop-i decreases-loop-i
 overflow_add-i c = search rules
@@ -60,7 +61,7 @@ loop-i-smaller c = search rules
 loop-i-preserved : tie.Need-loop-i-preserved invariant-loop-i decreases-loop-i
 loop-i-preserved c =
     pass _ _ c.loop-i.i c.loop-i.invariant c.loop-i-test.true
-    (ap (λ (t : Bool). unless t exponent_range) (tested c.before ∙ not-false c.within_limit.result c.if-not-within_limit.false))
+    (ap (λ (t : Bool). unless t exponent_range) (tested c.before ∙ not-false c.within_limit.result c.if-not-within_limit.false  ))
 
 returns : tie.Need-returns invariant-loop-i decreases-loop-i
 returns c = done _ _ c.loop-i.i c.loop-i.invariant c.loop-i-test.false

@@ -28,10 +28,10 @@ abbrev factors : tie.At-loop-j invariant-loop-j decreases-loop-j → List Float
 factors c = differences c.args.v.now c.args.cmax.now
 
 count : (c : tie.At-loop-j invariant-loop-j decreases-loop-j) → length (factors c) ≡ length c.args.v.now
-count c = differences_length c.args.v.now c.args.cmax.now c.requires.cmax_len.0
+count c = differences_length c.args.v.now c.args.cmax.now c.requires.0.0
 
 loop-j-init : tie.Need-loop-j-init invariant-loop-j decreases-loop-j
-loop-j-init c = (omega arith, c.requires.cmax_len.1, refl)
+loop-j-init c = (omega arith, c.requires.0.1, refl)
 
 offset_bounds-v-j : tie.Need-offset_bounds-v-j invariant-loop-j decreases-loop-j
 offset_bounds-v-j c = search rules
@@ -43,7 +43,7 @@ offset_bounds-cmax-j : tie.Need-offset_bounds-cmax-j invariant-loop-j decreases-
 offset_bounds-cmax-j c = search rules
 
 bounds-cmax-j : tie.Need-bounds-cmax-j invariant-loop-j decreases-loop-j
-bounds-cmax-j c = omega (arith, c.loop-j-test.true, c.requires.cmax_len.0)
+bounds-cmax-j c = omega (arith, c.loop-j-test.true, c.requires.0.0)
 
 exponent_of-requires : tie.Need-exponent_of-requires invariant-loop-j decreases-loop-j
 exponent_of-requires c κs = tt
@@ -68,10 +68,10 @@ loop-j-preserved c =
     let h = c.loop-j-test.true in
     let b : j < length d = omega (arith, count c.before.before.before.before) in
     let e : Exponent (get_or d j nan) c.exponent_of.result =
-    subst (λ (x : Float). Exponent x c.exponent_of.result) (sym (difference_at a.v.now a.cmax.now c.requires.cmax_len.0 j h))
+    subst (λ (x : Float). Exponent x c.exponent_of.result) (sym (difference_at a.v.now a.cmax.now c.requires.0.0 j h))
     c.exponent_of.ensures in
     let x : to_z w32 (of_z w32 c.exponent_of.result) ≡ get_or (map exponent_of d) j (exponent_of nan) =
-    read_is c.exponent_of.result c.exponent_of.type-inv ∙ exponent_at_lem d j e (factor_fits_lem d c.requires.cmax_value j b) in (
+    read_is c.exponent_of.result c.exponent_of.type_inv ∙ exponent_at_lem d j e (factor_fits_lem d c.requires.1 j b) in (
       omega arith,
       length-set c.loop-j.exponents j (to_z w32 (of_z w32 c.exponent_of.result)) ∙ c.loop-j.invariant.1,
       copied c.loop-j.exponents (map exponent_of d) j (to_z w32 (of_z w32 c.exponent_of.result)) (exponent_of nan) (omega (arith, c.loop-j.invariant.1))
@@ -79,7 +79,7 @@ loop-j-preserved c =
     )
 
 shape_of-exponents : tie.Need-shape_of-exponents invariant-loop-j decreases-loop-j
-shape_of-exponents c = c.loop-j.invariant.1 ∙ sym c.requires.cmax_len.1
+shape_of-exponents c = c.loop-j.invariant.1 ∙ sym c.requires.0.1
 
 returns : tie.Need-returns invariant-loop-j decreases-loop-j
 returns c =

@@ -23,7 +23,7 @@ abbrev decreases-loop-i : tie.decreases-loop-i
 decreases-loop-i u exponents₀ i₀ exponents i = length u - i
 
 loop-i-init : tie.Need-loop-i-init invariant-loop-i decreases-loop-i
-loop-i-init c = (omega arith, c.requires.exponents_len, refl)
+loop-i-init c = (omega arith, c.requires.0, refl)
 
 offset_bounds-u-i : tie.Need-offset_bounds-u-i invariant-loop-i decreases-loop-i
 offset_bounds-u-i c = search rules
@@ -52,7 +52,7 @@ loop-i-preserved c =
     let i = c.loop-i.i in
     let h = c.loop-i-test.true in
     let x : to_z w32 (of_z w32 c.exponent_of.result) ≡ get_or (map exponent_of u) i (exponent_of nan) =
-    read_is c.exponent_of.result c.exponent_of.type-inv ∙ exponent_at_lem u i c.exponent_of.ensures (factor_fits_lem u c.requires.u_value i h) in (
+    read_is c.exponent_of.result c.exponent_of.type_inv ∙ exponent_at_lem u i c.exponent_of.ensures (factor_fits_lem u c.requires.1 i h) in (
       omega arith,
       length-set c.loop-i.exponents i (to_z w32 (of_z w32 c.exponent_of.result)) ∙ c.loop-i.invariant.1,
       copied c.loop-i.exponents (map exponent_of u) i (to_z w32 (of_z w32 c.exponent_of.result)) (exponent_of nan) (omega (arith, c.loop-i.invariant.1))
@@ -60,7 +60,7 @@ loop-i-preserved c =
     )
 
 shape_of-exponents : tie.Need-shape_of-exponents invariant-loop-i decreases-loop-i
-shape_of-exponents c = c.loop-i.invariant.1 ∙ sym c.requires.exponents_len
+shape_of-exponents c = c.loop-i.invariant.1 ∙ sym c.requires.0
 
 returns : tie.Need-returns invariant-loop-i decreases-loop-i
 returns c =

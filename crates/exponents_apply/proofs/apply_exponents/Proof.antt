@@ -20,10 +20,10 @@ use Rattle.exponents_apply.proofs.apply_exponents.Tie as tie
 
 -- ---- what is lent
 abbrev matrix : tie.Start → Pattern
-matrix s = pattern s.args.n s.args.col-ptr.now s.args.row-idx.now
+matrix s = pattern s.args.n s.args.col_ptr.now s.args.row_idx.now
 
 abbrev both-sets : tie.Start → Exponents
-both-sets s = exponents s.args.row-exponents.now s.args.column-exponents.now
+both-sets s = exponents s.args.row_exponents.now s.args.column_exponents.now
 
 abbrev values : tie.Start → List ℕ
 values s = s.args.values.now
@@ -55,8 +55,8 @@ overflow_add-lengths : tie.Need-overflow_add-lengths
 overflow_add-lengths c = search rules
 
 pattern_fault-matrix-requires : tie.Need-pattern_fault-matrix-requires
-pattern_fault-matrix-requires c κs = λ t. let a = c.args in eqb-true (length a.col-ptr.now) (a.n + 1)
-    (both (eqb (length a.col-ptr.now) (a.n + 1)) _ t).0
+pattern_fault-matrix-requires c κs = λ t. let a = c.args in eqb-true (length a.col_ptr.now) (a.n + 1)
+    (both (eqb (length a.col_ptr.now) (a.n + 1)) _ t).0
 
 returns-then-matrix-ne-ACCEPTED : tie.Need-returns-then-matrix-ne-ACCEPTED
 unfolding apply_fault
@@ -79,7 +79,7 @@ returns-then-columns-ne-ACCEPTED : tie.Need-returns-then-columns-ne-ACCEPTED
 unfolding apply_fault
 returns-then-columns-ne-ACCEPTED c =
     refuses (matrix c.before.before.before.before.before.before.before.before.before) (both-sets c.before.before.before.before.before.before.before.before.before) (values c.before.before.before.before.before.before.before.before.before)
-    (answer_second c.pattern_fault-matrix.ensures c.if-matrix-ne-ACCEPTED.left
+    (answer_second c.pattern_fault-matrix.ensures c.if-matrix-ne-ACCEPTED.false
     (answer_second c.limit_fault-rows.ensures c.if-rows-ne-ACCEPTED.false (answer_first _ c.limit_fault-columns.ensures c.if-columns-ne-ACCEPTED.true))) c.if-columns-ne-ACCEPTED.true
 
 values_fault-fault-requires : tie.Need-values_fault-fault-requires
@@ -92,8 +92,8 @@ returns-then-fault-ne-ACCEPTED : tie.Need-returns-then-fault-ne-ACCEPTED
 unfolding apply_fault
 returns-then-fault-ne-ACCEPTED c =
     refuses (matrix c.before.before.before.before.before.before.before.before.before.before.before) (both-sets c.before.before.before.before.before.before.before.before.before.before.before) (values c.before.before.before.before.before.before.before.before.before.before.before)
-    (answer_second c.pattern_fault-matrix.ensures c.if-matrix-ne-ACCEPTED.left
-    (answer_second c.limit_fault-rows.ensures c.if-rows-ne-ACCEPTED.left
+    (answer_second c.pattern_fault-matrix.ensures c.if-matrix-ne-ACCEPTED.false
+    (answer_second c.limit_fault-rows.ensures c.if-rows-ne-ACCEPTED.false
     (answer_second c.limit_fault-columns.ensures c.if-columns-ne-ACCEPTED.false c.values_fault-fault.ensures))) c.if-fault-ne-ACCEPTED.true
 
 scale_values-requires : tie.Need-scale_values-requires

@@ -1,4 +1,5 @@
 -- `column_fault` meets its contract. The loop's invariant: no place before k has a fault.
+use mathlib.Core.Bool.{not}
 use mathlib.Core.Path.{◌≡◌, refl, sym, ap, ◌∙◌}
 use mathlib.Core.Bool.{Bool}
 use Prim.Native.Nat.{◌+◌, ◌-◌, ◌<◌}
@@ -27,12 +28,12 @@ decreases-loop-k row-idx row-exponents column-exponent values from to k₀ k = t
 
 -- place k is one of the places, and its row has an exponent
 facts : (c : tie.In-loop-k invariant-loop-k decreases-loop-k) → let a = c.args in let k = c.loop-k.k in
-    (k < length a.row-idx.now) × (k < length a.values.now) × (get_or a.row-idx.now k 0 < length a.row-exponents.now)
+    (k < length a.row_idx.now) × (k < length a.values.now) × (get_or a.row_idx.now k 0 < length a.row_exponents.now)
 facts c =
     let p = c.requires in
     let k = c.loop-k.k in
-    let i : k < length c.args.row-idx.now = omega (arith, c.loop-k-test.true, p.to_in_bounds.0) in
-    (i, omega (arith, p.places.stored), p.places.inside k i)
+    let i : k < length c.args.row_idx.now = omega (arith, c.loop-k-test.true, p.1.0) in
+    (i, omega (arith, p.0.stored), p.0.inside k i)
 
 loop-k-init : tie.Need-loop-k-init invariant-loop-k decreases-loop-k
 unfolding column_fault
@@ -62,36 +63,36 @@ bounds-values-k c = omega (arith, facts c.before.before.before)
 is_scalable-requires : tie.Need-is_scalable-requires invariant-loop-k decreases-loop-k
 is_scalable-requires c κs =
     let row = read_is _ c.row_exponent-1.given in
-    let column = to_z-of_z w32 c.args.column-exponent c.ranges.column-exponent in
-    (ap within_limit row ∙ c.requires.places.within _ (facts c.before.before.before).2, ap within_limit column ∙ c.requires.to_in_bounds.1)
+    let column = to_z-of_z w32 c.args.column_exponent c.ranges.column_exponent in
+    (ap within_limit row ∙ c.requires.0.within _ (facts c.before.before.before).2, ap within_limit column ∙ c.requires.1.1)
 
 -- the test of place k, with the column's exponent as it is read
 tested : (c : tie.After-is_scalable invariant-loop-k decreases-loop-k) → let a = c.args in
-    place_fault a.row-idx.now a.row-exponents.now (to_z w32 (of_z w32 a.column-exponent)) a.values.now c.loop-k.k ≡ unless
+    place_fault a.row_idx.now a.row_exponents.now (to_z w32 (of_z w32 a.column_exponent)) a.values.now c.loop-k.k ≡ unless
     c.is_scalable.result value_not_normal
 tested c =
     let a = c.args in
     ap (λ (t : Bool). unless t value_not_normal)
-    (ap (λ (z : ℤ). scalable (get_or a.values.now c.loop-k.k 0) (z +ℤ to_z w32 (of_z w32 a.column-exponent)))
-    (sym (read_is (exponent_at a.row-exponents.now (get_or a.row-idx.now c.loop-k.k 0)) c.row_exponent-1.given))
+    (ap (λ (z : ℤ). scalable (get_or a.values.now c.loop-k.k 0) (z +ℤ to_z w32 (of_z w32 a.column_exponent)))
+    (sym (read_is (exponent_at a.row_exponents.now (get_or a.row_idx.now c.loop-k.k 0)) c.row_exponent-1.given))
     ∙ sym c.is_scalable.ensures)
 
 -- the whole search, with the exponent itself
 whole-search : (c : tie.At-loop-k invariant-loop-k decreases-loop-k) → let a = c.args in
-    column_fault a.row-idx.now a.row-exponents.now (to_z w32 (of_z w32 a.column-exponent)) a.values.now a.from a.to
-    ≡ column_fault a.row-idx.now a.row-exponents.now a.column-exponent a.values.now a.from a.to
+    column_fault a.row_idx.now a.row_exponents.now (to_z w32 (of_z w32 a.column_exponent)) a.values.now a.from a.to
+    ≡ column_fault a.row_idx.now a.row_exponents.now a.column_exponent a.values.now a.from a.to
 whole-search c =
     let a = c.args in
-    ap (λ (z : ℤ). column_fault a.row-idx.now a.row-exponents.now z a.values.now a.from a.to)
-    (to_z-of_z w32 a.column-exponent c.ranges.column-exponent)
+    ap (λ (z : ℤ). column_fault a.row_idx.now a.row_exponents.now z a.values.now a.from a.to)
+    (to_z-of_z w32 a.column_exponent c.ranges.column_exponent)
 
 returns-then-not-is_scalable : tie.Need-returns-then-not-is_scalable invariant-loop-k decreases-loop-k
 returns-then-not-is_scalable c =
     let a = c.args in
-    let e : place_fault a.row-idx.now a.row-exponents.now (to_z w32 (of_z w32 a.column-exponent)) a.values.now c.loop-k.k ≡ value_not_normal =
-    tested c.before ∙ ap (λ (t : Bool). unless t value_not_normal) (not-true c.is_scalable.result c.if-not-is_scalable.true) in
-    let f : value_not_normal ≡ column_fault a.row-idx.now a.row-exponents.now (to_z w32 (of_z w32 a.column-exponent)) a.values.now a.from a.to =
-    found _ _ c.loop-k.k c.loop-k.invariant c.loop-k-test.taken e (omega arith) in
+    let e : place_fault a.row_idx.now a.row_exponents.now (to_z w32 (of_z w32 a.column_exponent)) a.values.now c.loop-k.k ≡ value_not_normal =
+    tested c.before ∙ ap (λ (t : Bool). unless t value_not_normal) (not-true c.is_scalable.result c.if-not-is_scalable.true  ) in
+    let f : value_not_normal ≡ column_fault a.row_idx.now a.row_exponents.now (to_z w32 (of_z w32 a.column_exponent)) a.values.now a.from a.to =
+    found _ _ c.loop-k.k c.loop-k.invariant c.loop-k-test.true e (omega arith) in
     f ∙ whole-search c.before.before.before.before.before.before
 
 overflow_add-k : tie.Need-overflow_add-k invariant-loop-k decreases-loop-k
@@ -103,12 +104,12 @@ loop-k-smaller c = omega (arith, c.loop-k-test.true)
 loop-k-preserved : tie.Need-loop-k-preserved invariant-loop-k decreases-loop-k
 loop-k-preserved c =
     pass _ _ c.loop-k.k c.loop-k.invariant c.loop-k-test.true
-    (tested c.before ∙ ap (λ (t : Bool). unless t value_not_normal) (not-false c.is_scalable.result c.if-not-is_scalable.false))
+    (tested c.before ∙ ap (λ (t : Bool). unless t value_not_normal) (not-false c.is_scalable.result c.if-not-is_scalable.false  ))
 
 returns : tie.Need-returns invariant-loop-k decreases-loop-k
 returns c =
     let a = c.args in
-    let f : 0 ≡ column_fault a.row-idx.now a.row-exponents.now (to_z w32 (of_z w32 a.column-exponent)) a.values.now a.from a.to =
+    let f : 0 ≡ column_fault a.row_idx.now a.row_exponents.now (to_z w32 (of_z w32 a.column_exponent)) a.values.now a.from a.to =
     done _ _ c.loop-k.k c.loop-k.invariant c.loop-k-test.false in
     f ∙ whole-search c.before
 

@@ -30,27 +30,27 @@ decreases-loop-k row-idx row-exponents column-exponent values₀ from to k₀ va
 
 -- place k is one of the places, and its row has an exponent
 facts : (c : tie.In-loop-k invariant-loop-k decreases-loop-k) → let a = c.args in let k = c.loop-k.k in
-    (k < length a.row-idx.now) × (k < length a.values.now) × (get_or a.row-idx.now k 0 < length a.row-exponents.now)
+    (k < length a.row_idx.now) × (k < length a.values.now) × (get_or a.row_idx.now k 0 < length a.row_exponents.now)
     × (length c.loop-k.values ≡ length a.values.now)
 facts c =
     let p = c.requires in
     let k = c.loop-k.k in
-    let i : k < length c.args.row-idx.now = omega (arith, c.loop-k-test.true, p.from_le_to.1.0) in
-    (i, omega (arith, p.places.stored), p.places.inside k i, c.loop-k.invariant.2.same)
+    let i : k < length c.args.row_idx.now = omega (arith, c.loop-k-test.true, p.1.0.1.0) in
+    (i, omega (arith, p.0.stored), p.0.inside k i, c.loop-k.invariant.2.same)
 
 -- the exponents of the column and of the row as they are read
-column_read : (c : tie.At-loop-k invariant-loop-k decreases-loop-k) → to_z w32 (of_z w32 c.args.column-exponent) ≡ c.args.column-exponent
-column_read c = to_z-of_z w32 c.args.column-exponent c.ranges.column-exponent
+column_read : (c : tie.At-loop-k invariant-loop-k decreases-loop-k) → to_z w32 (of_z w32 c.args.column_exponent) ≡ c.args.column_exponent
+column_read c = to_z-of_z w32 c.args.column_exponent c.ranges.column_exponent
 
 row_read : (c : tie.After-row_exponent-1 invariant-loop-k decreases-loop-k) → let a = c.args in let e =
-    exponent_at a.row-exponents.now (get_or a.row-idx.now c.loop-k.k 0) in
+    exponent_at a.row_exponents.now (get_or a.row_idx.now c.loop-k.k 0) in
     to_z w32 (of_z w32 e) ≡ e
 row_read c =
     let a = c.args in
-    read_is (exponent_at a.row-exponents.now (get_or a.row-idx.now c.loop-k.k 0)) c.row_exponent-1.given
+    read_is (exponent_at a.row_exponents.now (get_or a.row_idx.now c.loop-k.k 0)) c.row_exponent-1.given
 
 loop-k-init : tie.Need-loop-k-init invariant-loop-k decreases-loop-k
-loop-k-init c = (le_refl _, c.requires.from_le_to.0, none_written _ _ _)
+loop-k-init c = (le_refl _, c.requires.1.0.0, none_written _ _ _)
 
 offset_bounds-row_idx-k : tie.Need-offset_bounds-row_idx-k invariant-loop-k decreases-loop-k
 offset_bounds-row_idx-k c = omega (arith, facts c, c.well_formed.0.1)
@@ -79,9 +79,9 @@ scaled-requires c κs =
     let k = c.loop-k.k in
     let f = facts c.before.before.before in
     let old : get_or c.loop-k.values k 0 ≡ get_or a.values.now k 0 = c.loop-k.invariant.2.over k (le_refl k) in
-    let fine = place_scalable a.row-idx.now a.row-exponents.now a.column-exponent a.values.now a.from a.to c.requires.to_value k
+    let fine = place_scalable a.row_idx.now a.row_exponents.now a.column_exponent a.values.now a.from a.to c.requires.1.1 k
     c.loop-k.invariant.0 c.loop-k-test.true in (
-      (ap within_limit (row_read c.before) ∙ c.requires.places.within _ f.2, ap within_limit (column_read c.before.before.before.before) ∙ c.requires.from_le_to.1.1),
+      (ap within_limit (row_read c.before) ∙ c.requires.0.within _ f.2, ap within_limit (column_read c.before.before.before.before) ∙ c.requires.1.0.1.1),
       ap₂ scalable old (ap₂ ◌+ℤ◌ (row_read c.before) (column_read c.before.before.before.before)) ∙ fine,
     )
 
@@ -103,9 +103,9 @@ loop-k-preserved c =
     let k = c.loop-k.k in
     let i = c.loop-k.invariant in
     let f = facts c.before.before.before.before in
-    let e : c.scaled.result ≡ target a.row-idx.now a.row-exponents.now (to_z w32 (of_z w32 a.column-exponent)) a.values.now k =
+    let e : c.scaled.result ≡ target a.row_idx.now a.row_exponents.now (to_z w32 (of_z w32 a.column_exponent)) a.values.now k =
     c.scaled.ensures
-    ∙ ap₂ (λ (v : ℕ) (z : ℤ). scaled_bits v (z +ℤ to_z w32 (of_z w32 a.column-exponent))) (i.2.over k (le_refl k)) (row_read c.before.before) in
+    ∙ ap₂ (λ (v : ℕ) (z : ℤ). scaled_bits v (z +ℤ to_z w32 (of_z w32 a.column_exponent))) (i.2.over k (le_refl k)) (row_read c.before.before) in
     (omega (arith, i.0), omega (arith, c.loop-k-test.true), one_more i.0 f.1 e i.2)
 
 shape_of-values : tie.Need-shape_of-values invariant-loop-k decreases-loop-k
@@ -115,9 +115,9 @@ returns : tie.Need-returns invariant-loop-k decreases-loop-k
 returns c =
     let a = c.args in
     let e : c.loop-k.k ≡ a.to = omega (arith, c.loop-k.invariant.1, c.loop-k-test.false) in
-    subst (λ (k : ℕ). Written (target a.row-idx.now a.row-exponents.now a.column-exponent a.values.now) a.from k a.values.now
+    subst (λ (k : ℕ). Written (target a.row_idx.now a.row_exponents.now a.column_exponent a.values.now) a.from k a.values.now
     c.loop-k.values) e
-    (subst (λ (z : ℤ). Written (target a.row-idx.now a.row-exponents.now z a.values.now) a.from c.loop-k.k a.values.now
+    (subst (λ (z : ℤ). Written (target a.row_idx.now a.row_exponents.now z a.values.now) a.from c.loop-k.k a.values.now
     c.loop-k.values) (column_read c.before) c.loop-k.invariant.2)
 
 pub scale_column_spec : {M : Type 1} → statement M

@@ -25,8 +25,8 @@ abbrev decreases-loop-j : tie.decreases-loop-j
 decreases-loop-j n col-ptr row-idx row-exponents column-exponents values j₀ j = n - j
 
 column_read : (c : tie.After-column_exponent-1 invariant-loop-j decreases-loop-j) → let e =
-    exponent_at c.args.column-exponents.now c.loop-j.j in to_z w32 (of_z w32 e) ≡ e
-column_read c = read_is (exponent_at c.args.column-exponents.now c.loop-j.j) c.column_exponent-1.given
+    exponent_at c.args.column_exponents.now c.loop-j.j in to_z w32 (of_z w32 e) ≡ e
+column_read c = read_is (exponent_at c.args.column_exponents.now c.loop-j.j) c.column_exponent-1.given
 
 loop-j-init : tie.Need-loop-j-init invariant-loop-j decreases-loop-j
 unfolding values_fault
@@ -75,20 +75,20 @@ column_fault-fault-requires c κs =
 -- the fault of column j
 fault_is : (c : tie.After-column_fault-fault invariant-loop-j decreases-loop-j) → let a = c.args in let j =
     c.loop-j.j in
-    column_fault a.row-idx.now a.row-exponents.now (exponent_at a.column-exponents.now j) a.values.now (get_or a.col-ptr.now j 0)
-    (get_or a.col-ptr.now (suc j) 0) ≡ c.column_fault-fault.result
+    column_fault a.row_idx.now a.row_exponents.now (exponent_at a.column_exponents.now j) a.values.now (get_or a.col_ptr.now j 0)
+    (get_or a.col_ptr.now (suc j) 0) ≡ c.column_fault-fault.result
 fault_is c =
     let a = c.args in
     let j = c.loop-j.j in
-    ap (λ (i : ℕ). column_fault a.row-idx.now a.row-exponents.now (exponent_at a.column-exponents.now j) a.values.now
-    (get_or a.col-ptr.now j 0) (get_or a.col-ptr.now i 0)) (sym (add-one j))
-    ∙ ap (λ (z : ℤ). column_fault a.row-idx.now a.row-exponents.now z a.values.now (get_or a.col-ptr.now j 0)
-    (get_or a.col-ptr.now (j + 1) 0)) (sym (column_read c.before.before.before))
+    ap (λ (i : ℕ). column_fault a.row_idx.now a.row_exponents.now (exponent_at a.column_exponents.now j) a.values.now
+    (get_or a.col_ptr.now j 0) (get_or a.col_ptr.now i 0)) (sym (add-one j))
+    ∙ ap (λ (z : ℤ). column_fault a.row_idx.now a.row_exponents.now z a.values.now (get_or a.col_ptr.now j 0)
+    (get_or a.col_ptr.now (j + 1) 0)) (sym (column_read c.before.before.before))
     ∙ sym c.column_fault-fault.ensures
 
 returns-then-fault-ne-ACCEPTED : tie.Need-returns-then-fault-ne-ACCEPTED invariant-loop-j decreases-loop-j
 returns-then-fault-ne-ACCEPTED c =
-    found _ _ c.loop-j.j c.loop-j.invariant c.loop-j-test.taken (fault_is c.before) c.if-fault-ne-ACCEPTED.true
+    found _ _ c.loop-j.j c.loop-j.invariant c.loop-j-test.true (fault_is c.before) c.if-fault-ne-ACCEPTED.true
 
 overflow_add-j : tie.Need-overflow_add-j invariant-loop-j decreases-loop-j
 overflow_add-j c = omega (arith, c.loop-j-test.true, c.requires.colptrs, c.well_formed.1.0.1)

@@ -16,7 +16,7 @@ facts c =
     let a = c.args in
     found a.bits c.raised.result c.raised-2.result a.row a.column
     (read_raised a.row c.ranges.row c.raised.ensures.0) (read_raised a.column c.ranges.column c.raised-2.ensures.0)
-    (ne_eqb _ _ c.if-bits-eq0.false) c.requires.column_value
+    (ne_eqb _ _ c.if-bits-eq0.false) c.requires.1
 
 returns-then-bits-eq0 : tie.Need-returns-then-bits-eq0
 returns-then-bits-eq0 c = let a = c.args in sym (zero_scaled a.bits (a.row +ℤ a.column) (eq-eqb _ _ c.if-bits-eq0.true))

@@ -26,9 +26,9 @@ decreases-loop-k j col-ptr row-idx values logs factors₀ work₀ k₀ k-end fac
 
 -- the place k stands in column j
 in_column_lem : (c : tie.In-loop-k invariant-loop-k decreases-loop-k) → let a = c.args in
-    InColumn (pattern (length a.factors.now) a.col-ptr.now a.row-idx.now) a.j c.loop-k.k
+    InColumn (pattern (length a.factors.now) a.col_ptr.now a.row_idx.now) a.j c.loop-k.k
 in_column_lem c = record {
-  column = c.requires.j_in_bounds.0;
+  column = c.requires.0.0;
   above = c.loop-k.invariant.0;
   below =
       rw add-one at c.loop-k-test.true;
@@ -45,21 +45,21 @@ pub record Facts (k n : ℕ) (rows : List ℕ) (values logs factors : List Float
   pub small : length factors ≤ 4096
 
 facts : (c : tie.In-loop-k invariant-loop-k decreases-loop-k) → let a = c.args in let l = c.loop-k in
-    Facts l.k (length a.factors.now) a.row-idx.now a.values.now a.logs.now l.factors l.work a.j
+    Facts l.k (length a.factors.now) a.row_idx.now a.values.now a.logs.now l.factors l.work a.j
 facts c =
     let a = c.args in
     let p = c.requires in
-    let m = matrix (length a.factors.now) a.col-ptr.now a.row-idx.now a.values.now in
+    let m = matrix (length a.factors.now) a.col_ptr.now a.row_idx.now a.values.now in
     let l = c.loop-k in
     record {
-      place = place_below_lem m p.fact.triangle (in_column_lem c);
-      row = omega (arith, row_below m p.fact.triangle (in_column_lem c), l.invariant.2);
-      few = p.fact.triangle.entries;
-      same = omega (arith, p.j_in_bounds.1, l.invariant.2, l.invariant.3);
-      column = omega (arith, p.j_in_bounds.0, l.invariant.2);
-      valued = p.fact.triangle.stored;
-      logged = p.fact.logged;
-      small = omega (arith, p.fact.triangle.few, p.fact.triangle.colptrs, l.invariant.2);
+      place = place_below_lem m p.1.triangle (in_column_lem c);
+      row = omega (arith, row_below m p.1.triangle (in_column_lem c), l.invariant.2);
+      few = p.1.triangle.entries;
+      same = omega (arith, p.0.1, l.invariant.2, l.invariant.3);
+      column = omega (arith, p.0.0, l.invariant.2);
+      valued = p.1.triangle.stored;
+      logged = p.1.logged;
+      small = omega (arith, p.1.triangle.few, p.1.triangle.colptrs, l.invariant.2);
     }
 
 offset_bounds-col_ptr-j : tie.Need-offset_bounds-col_ptr-j invariant-loop-k decreases-loop-k
@@ -88,9 +88,9 @@ loop-k-init c =
     let a = c.args in
     let p = c.requires in (
       omega arith,
-      subst (λ (i : ℕ). get_or a.col-ptr.now a.j 0 ≤ get_or a.col-ptr.now i 0) (omega arith)
-          (pointers_rise (pattern (length a.factors.now) a.col-ptr.now a.row-idx.now) p.fact.triangle.columns a.j (a.j + 1) (omega arith)
-          (omega (arith, p.j_in_bounds.0))),
+      subst (λ (i : ℕ). get_or a.col_ptr.now a.j 0 ≤ get_or a.col_ptr.now i 0) (omega arith)
+          (pointers_rise (pattern (length a.factors.now) a.col_ptr.now a.row_idx.now) p.1.triangle.columns a.j (a.j + 1) (omega arith)
+          (omega (arith, p.0.0))),
       refl,
       refl,
       enters_none _ _,
@@ -114,7 +114,7 @@ loop-k-preserved-then-values-k c = (
   omega (arith, c.loop-k-test.true),
   c.loop-k.invariant.2,
   c.loop-k.invariant.3,
-  enters_dropped c.requires.fact.triangle
+  enters_dropped c.requires.1.triangle
       c.if-values-k.true c.loop-k.invariant.4,
 )
 
@@ -168,7 +168,7 @@ loop-k-preserved c =
       omega (arith, c.loop-k-test.true),
       c.enter.auto.factors ∙ c.loop-k.invariant.2,
       c.enter.auto.work ∙ c.loop-k.invariant.3,
-      enters_more p.fact.triangle (in_column_lem
+      enters_more p.1.triangle (in_column_lem
           c.before.before.before.before.before.before.before.before.before.before.before) c.if-values-k.false c.enter.ensures
           c.loop-k.invariant.4,
     )
@@ -182,9 +182,9 @@ shape_of-work c = c.loop-k.invariant.3
 returns : tie.Need-returns invariant-loop-k decreases-loop-k
 returns c =
     let a = c.args in
-    let e : c.loop-k.k ≡ get_or a.col-ptr.now (a.j + 1) 0 = omega arith in
-    subst (λ (k : ℕ). Enters (matrix (length a.factors.now) a.col-ptr.now a.row-idx.now a.values.now) a.logs.now
-    (get_or a.col-ptr.now a.j 0) k (slices a.factors.now a.work.now)
+    let e : c.loop-k.k ≡ get_or a.col_ptr.now (a.j + 1) 0 = omega arith in
+    subst (λ (k : ℕ). Enters (matrix (length a.factors.now) a.col_ptr.now a.row_idx.now a.values.now) a.logs.now
+    (get_or a.col_ptr.now a.j 0) k (slices a.factors.now a.work.now)
     (slices c.loop-k.factors c.loop-k.work)) e c.loop-k.invariant.4
 
 pub enter_column_spec : {M : Type 1} → statement M

@@ -22,10 +22,10 @@ loop-j-init c =
     let p = c.requires in
     let a = c.args in (
       omega arith,
-      p.factors_len.0,
-      p.factors_len.1,
-      subst (λ (k : ℕ). Enters (matrix a.n a.col-ptr.now a.row-idx.now a.values.now) a.logs.now 0 k
-          (slices a.factors.now a.work.now) (slices a.factors.now a.work.now)) (sym p.ready.triangle.columns.pointers.first)
+      p.0.0,
+      p.0.1,
+      subst (λ (k : ℕ). Enters (matrix a.n a.col_ptr.now a.row_idx.now a.values.now) a.logs.now 0 k
+          (slices a.factors.now a.work.now) (slices a.factors.now a.work.now)) (sym p.1.triangle.columns.pointers.first)
           (enters_none 0 _),
     )
 
@@ -37,14 +37,14 @@ enter_column-requires c κs =
         c.loop-j.invariant.2
             ∙ sym c.loop-j.invariant.1,
       ),
-      subst (λ (i : ℕ). Ready (matrix i a.col-ptr.now a.row-idx.now a.values.now) a.logs.now) (sym
-          c.loop-j.invariant.1) c.requires.ready,
+      subst (λ (i : ℕ). Ready (matrix i a.col_ptr.now a.row_idx.now a.values.now) a.logs.now) (sym
+          c.loop-j.invariant.1) c.requires.1,
     )
 
 overflow_step-j : tie.Need-overflow_step-j invariant-loop-j decreases-loop-j
 overflow_step-j c =
     let p = c.requires in
-    omega (arith, c.loop-j-test.true, p.ready.triangle.few)
+    omega (arith, c.loop-j-test.true, p.1.triangle.few)
 
 loop-j-smaller : tie.Need-loop-j-smaller invariant-loop-j decreases-loop-j
 loop-j-smaller c = omega (arith, c.loop-j-test.true)
@@ -59,20 +59,20 @@ loop-j-preserved c = (
 )
 
 shape_of-factors : tie.Need-shape_of-factors invariant-loop-j decreases-loop-j
-shape_of-factors c = c.loop-j.invariant.1 ∙ sym c.requires.factors_len.0
+shape_of-factors c = c.loop-j.invariant.1 ∙ sym c.requires.0.0
 
 shape_of-work : tie.Need-shape_of-work invariant-loop-j decreases-loop-j
-shape_of-work c = c.loop-j.invariant.2 ∙ sym c.requires.factors_len.1
+shape_of-work c = c.loop-j.invariant.2 ∙ sym c.requires.0.1
 
 returns : tie.Need-returns invariant-loop-j decreases-loop-j
 returns c =
     let a = c.args in
     let p = c.requires in
     let e : c.loop-j.j ≡ a.n = omega (arith, c.loop-j.invariant.0, c.loop-j-test.false) in
-    subst (λ (k : ℕ). Enters (matrix a.n a.col-ptr.now a.row-idx.now a.values.now) a.logs.now 0 k
+    subst (λ (k : ℕ). Enters (matrix a.n a.col_ptr.now a.row_idx.now a.values.now) a.logs.now 0 k
     (slices a.factors.now a.work.now)
     (slices c.loop-j.factors c.loop-j.work))
-    (ap (λ (i : ℕ). get_or a.col-ptr.now i 0) e ∙ p.ready.triangle.columns.pointers.last) c.loop-j.invariant.3
+    (ap (λ (i : ℕ). get_or a.col_ptr.now i 0) e ∙ p.1.triangle.columns.pointers.last) c.loop-j.invariant.3
 
 pub enter_entries_spec : {M : Type 1} → statement M
 enter_entries_spec =

@@ -17,7 +17,7 @@ low c = omega (arith, c.if-number-gt1.false)
 returns-then-number-gt1 : tie.Need-returns-then-number-gt1
 returns-then-number-gt1 c =
     let a = c.args in
-    let g = input (match_of a.perm.now a.u.now a.v.now a.cmax.now) (matrix a.n a.col-ptr.now a.row-idx.now a.values.now)
+    let g = input (match_of a.perm.now a.u.now a.v.now a.cmax.now) (matrix a.n a.col_ptr.now a.row_idx.now a.values.now)
     a.logs.now in
     let s = slices a.factors.now a.work.now in
     no_rule a.number a.matched g s a.unmatched.now c.if-number-gt1.true
@@ -28,7 +28,7 @@ unfit_fault-requires c κs = search rules
 returns-then-unmatched-ne1 : tie.Need-returns-then-unmatched-ne1
 returns-then-unmatched-ne1 c =
     let a = c.args in
-    let g = input (match_of a.perm.now a.u.now a.v.now a.cmax.now) (matrix a.n a.col-ptr.now a.row-idx.now a.values.now)
+    let g = input (match_of a.perm.now a.u.now a.v.now a.cmax.now) (matrix a.n a.col_ptr.now a.row_idx.now a.values.now)
     a.logs.now in
     let s = slices a.factors.now a.work.now in
     unfit a.number a.matched g s a.unmatched.now (low c.before.before) c.if-unmatched-ne1.true c.unfit_fault.ensures
@@ -66,13 +66,13 @@ shape_of-unmatched-in-Applied c = search rules
 returns-in-Applied : tie.Need-returns-in-Applied
 returns-in-Applied c =
     let a = c.args in
-    let g = input (match_of a.perm.now a.u.now a.v.now a.cmax.now) (matrix a.n a.col-ptr.now a.row-idx.now a.values.now)
+    let g = input (match_of a.perm.now a.u.now a.v.now a.cmax.now) (matrix a.n a.col_ptr.now a.row_idx.now a.values.now)
     a.logs.now in
     let s = slices a.factors.now a.work.now in
     applied a.number a.matched g s a.unmatched.now (low c.before.before.before.before.before.before.before.before.before.before.before)
-    c.if-unmatched-ne1.left
+    c.if-unmatched-ne1.false
     c.rule_for-rule.ensures
-    c.log_factors_by_rule-answer.ensures c.enum_told-1.given.1
+    c.log_factors_by_rule-answer.ensures c.in-Applied.is
 
 shape_of-factors-in-PartialSingular : tie.Need-shape_of-factors-in-PartialSingular
 shape_of-factors-in-PartialSingular c = search rules
@@ -86,13 +86,12 @@ shape_of-unmatched-in-PartialSingular c = search rules
 returns-in-PartialSingular : tie.Need-returns-in-PartialSingular
 returns-in-PartialSingular c =
     let a = c.args in
-    let g = input (match_of a.perm.now a.u.now a.v.now a.cmax.now) (matrix a.n a.col-ptr.now a.row-idx.now a.values.now)
+    let g = input (match_of a.perm.now a.u.now a.v.now a.cmax.now) (matrix a.n a.col_ptr.now a.row_idx.now a.values.now)
     a.logs.now in
     let s = slices a.factors.now a.work.now in
     partial a.number a.matched g s a.unmatched.now (low c.before.before.before.before.before.before.before.before.before.before.before.before)
-    c.if-unmatched-ne1.left (rule-of-called
-    c.before.before.before.before.before.before.before).rule-for.ensures
-    c.log_factors_by_rule-answer.ensures c.answer-1.given.1
+    c.if-unmatched-ne1.false c.rule_for-rule.ensures
+    c.log_factors_by_rule-answer.ensures c.in-PartialSingular.is
 
 shape_of-factors-in-Refused : tie.Need-shape_of-factors-in-Refused
 shape_of-factors-in-Refused c = search rules
@@ -103,13 +102,12 @@ shape_of-work-in-Refused c = search rules
 returns-in-Refused : tie.Need-returns-in-Refused
 returns-in-Refused c =
     let a = c.args in
-    let g = input (match_of a.perm.now a.u.now a.v.now a.cmax.now) (matrix a.n a.col-ptr.now a.row-idx.now a.values.now)
+    let g = input (match_of a.perm.now a.u.now a.v.now a.cmax.now) (matrix a.n a.col_ptr.now a.row_idx.now a.values.now)
     a.logs.now in
     let s = slices a.factors.now a.work.now in
     refused a.number a.matched g s a.unmatched.now (low c.before.before.before.before.before.before.before.before.before.before.before.before)
-    c.if-unmatched-ne1.left (rule-of-called
-    c.before.before.before.before.before.before.before).rule-for.ensures
-    c.log_factors_by_rule-answer.ensures c.answer-in-Refused-1.given.1
+    c.if-unmatched-ne1.false c.rule_for-rule.ensures
+    c.log_factors_by_rule-answer.ensures c.in-Refused.is
 
 pub factors_by_number_spec : {M : Type 1} → statement M
 factors_by_number_spec =

@@ -15,7 +15,7 @@ use Rattle.factors_flat.proofs.flat_factors.Tie as tie
 abbrev given : tie.Start → Input
 given c =
     let a = c.args in
-    input (match_of a.perm.now a.u.now a.v.now a.cmax.now) (matrix a.n a.col-ptr.now a.row-idx.now a.values.now) a.logs.now
+    input (match_of a.perm.now a.u.now a.v.now a.cmax.now) (matrix a.n a.col_ptr.now a.row_idx.now a.values.now) a.logs.now
 
 abbrev lent : tie.Start → Slices
 lent c = slices c.args.factors.now c.args.work.now

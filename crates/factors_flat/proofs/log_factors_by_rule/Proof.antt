@@ -33,8 +33,8 @@ returns-in-Identity : tie.Need-returns-in-Identity
 returns-in-Identity c =
     let a = c.args in
     promised a.matched (input (match_of a.perm.now a.u.now a.v.now a.cmax.now)
-    (matrix a.n a.col-ptr.now a.row-idx.now a.values.now) a.logs.now) (slices a.factors.now a.work.now) a.rule Identity
-    c.enum_told-1.given.1 c.log_factors.ensures.outcome
+    (matrix a.n a.col_ptr.now a.row_idx.now a.values.now) a.logs.now) (slices a.factors.now a.work.now) a.rule Identity
+    c.in-Identity.is c.log_factors.ensures.outcome
 
 shape_of-factors-in-Flat : tie.Need-shape_of-factors-in-Flat
 shape_of-factors-in-Flat c = search rules
@@ -46,8 +46,8 @@ returns-in-Flat : tie.Need-returns-in-Flat
 returns-in-Flat c =
     let a = c.args in
     promised a.matched (input (match_of a.perm.now a.u.now a.v.now a.cmax.now)
-    (matrix a.n a.col-ptr.now a.row-idx.now a.values.now) a.logs.now) (slices a.factors.now a.work.now) a.rule Flat
-    c.enum_told-in-Flat-1.given.1 c.flat_factors.ensures
+    (matrix a.n a.col_ptr.now a.row_idx.now a.values.now) a.logs.now) (slices a.factors.now a.work.now) a.rule Flat
+    c.in-Flat.is c.flat_factors.ensures
 
 pub log_factors_by_rule_spec : {M : Type 1} → statement M
 log_factors_by_rule_spec =

@@ -16,7 +16,7 @@ abbrev decreases-loop-i : tie.decreases-loop-i
 decreases-loop-i n perm cmax work₀ i₀ work i = n - i
 
 loop-i-init : tie.Need-loop-i-init invariant-loop-i decreases-loop-i
-loop-i-init c = (omega arith, c.requires.n_le_max_columns.1)
+loop-i-init c = (omega arith, c.requires.1.1)
 
 offset_bounds-perm-i : tie.Need-offset_bounds-perm-i invariant-loop-i decreases-loop-i
 offset_bounds-perm-i c = omega arith
@@ -64,7 +64,7 @@ loop-i-preserved c =
     )
 
 shape_of-work : tie.Need-shape_of-work invariant-loop-i decreases-loop-i
-shape_of-work c = omega (arith, c.loop-i.invariant.1.words, c.requires.n_le_max_columns.1.words)
+shape_of-work c = omega (arith, c.loop-i.invariant.1.words, c.requires.1.1.words)
 
 returns : tie.Need-returns invariant-loop-i decreases-loop-i
 returns c = marked_last (omega arith) c.loop-i.invariant.1

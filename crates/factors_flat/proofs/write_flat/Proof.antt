@@ -9,12 +9,12 @@ use Rattle.factors_flat.proofs.write_flat.Statement.{statement}
 use Rattle.factors_flat.proofs.write_flat.Tie as tie
 
 fill_matched-requires : tie.Need-fill_matched-requires
-fill_matched-requires c κs = c.requires.accepted
+fill_matched-requires c κs = c.requires.0
 
 enter_entries-requires : tie.Need-enter_entries-requires
 enter_entries-requires c κs = (
   (c.fill_matched.ensures.room, c.fill_matched.ensures.words),
-  c.requires.ready,
+  c.requires.1,
 )
 
 turn_sums-requires : tie.Need-turn_sums-requires
@@ -35,7 +35,7 @@ shape_of-work c = search rules
 returns : tie.Need-returns
 returns c =
     let a = c.args in
-    flat_written (match_of a.perm.now a.u.now a.v.now a.cmax.now) (matrix a.n a.col-ptr.now a.row-idx.now a.values.now)
+    flat_written (match_of a.perm.now a.u.now a.v.now a.cmax.now) (matrix a.n a.col_ptr.now a.row_idx.now a.values.now)
     a.logs.now
     c.fill_matched.ensures
     c.enter_entries.ensures c.turn_sums.ensures c.clear.ensures

@@ -26,7 +26,7 @@ unfolding identity_factors
 returns-then-fault-ne-ACCEPTED c =
     let args = c.args in
     filled_refused (replicate args.n Constants.one) args.factors.now
-    (onepass_fault_lem (matrix args.n args.col-ptr.now args.row-idx.now args.values.now) args.factors.now
+    (onepass_fault_lem (matrix args.n args.col_ptr.now args.row_idx.now args.values.now) args.factors.now
     c.input_fault-fault.ensures c.lengths_fit-lengths.ensures) c.if-fault-ne-ACCEPTED.true
 
 fill-requires : tie.Need-fill-requires
@@ -39,13 +39,13 @@ returns : tie.Need-returns
 unfolding identity_factors
 returns c =
     let args = c.args in
-    let fine = sym (onepass_fault_lem (matrix args.n args.col-ptr.now args.row-idx.now args.values.now)
+    let fine = sym (onepass_fault_lem (matrix args.n args.col_ptr.now args.row_idx.now args.values.now)
     args.factors.now c.input_fault-fault.ensures
     c.lengths_fit-lengths.ensures) ∙
     c.if-fault-ne-ACCEPTED.false in
     filled_done (replicate args.n Constants.one) args.factors.now fine
     (c.fill.ensures ∙ ap (λ (k : ℕ). replicate k Constants.one)
-    (onepass_room (matrix args.n args.col-ptr.now args.row-idx.now args.values.now) args.factors.now fine))
+    (onepass_room (matrix args.n args.col_ptr.now args.row_idx.now args.values.now) args.factors.now fine))
 
 pub identity_factors_spec : {M : Type 1} → statement M
 identity_factors_spec =

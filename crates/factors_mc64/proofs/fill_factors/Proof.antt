@@ -69,7 +69,7 @@ loop-i-preserved c = (
   omega arith,
   simp length-set c.loop-i.invariant.1,
   fill_goes_on _ _ c.loop-i.i _ (omega arith)
-      (c.log_factor.ensures ∙ rw (mark_tells c.requires.marked
+      (c.log_factor.ensures ∙ rw (mark_tells c.requires.1
       c.loop-i.i
       c.loop-i-test.true) refl)
       c.loop-i.invariant.2,

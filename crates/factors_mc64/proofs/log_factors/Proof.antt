@@ -27,10 +27,8 @@ write_factors-requires c κs = accepted _ _ _ _ (sym (fault_is _ _ _ _ c.call_fa
     c.lengths_fit-lengths.ensures) ∙ c.if-fault-ne-ACCEPTED.false)
 
 answer-requires : tie.Need-answer-requires
-answer-requires c κs = few_matched _ _ _ _ (sym (fault_is _ _ _ _ (call-fault-of-write-factors
-    c.before.before.before.before).call-fault.ensures (lengths-fit-of-write-factors
-    c.before.before.before.before).lengths_fit_lem.ensures) ∙
-    c.if-fault-ne-ACCEPTED.left)
+answer-requires c κs = few_matched _ _ _ _ (sym (fault_is _ _ _ _ c.call_fault-fault.ensures c.lengths_fit-lengths.ensures) ∙
+    c.if-fault-ne-ACCEPTED.false)
 
 shape_of-factors : tie.Need-shape_of-factors
 shape_of-factors c = search rules
@@ -39,10 +37,9 @@ shape_of-work : tie.Need-shape_of-work
 shape_of-work c = search rules
 
 returns : tie.Need-returns
-returns c = with_number _ _ _ _ (applies _ _ _ _ (sym (fault_is _ _ _ _ (call-fault-of-write-factors
-    c.before.before.before.before.before).call-fault.ensures
+returns c = with_number _ _ _ _ (applies _ _ _ _ (sym (fault_is _ _ _ _ c.call_fault-fault.ensures
     c.lengths_fit-lengths.ensures) ∙
-    c.if-fault-ne-ACCEPTED.left) c.answer.ensures
+    c.if-fault-ne-ACCEPTED.false) c.answer.ensures
     c.write_factors.ensures)
 
 pub log_factors_spec : {M : Type 1} → statement M

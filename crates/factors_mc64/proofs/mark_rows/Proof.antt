@@ -15,7 +15,7 @@ abbrev decreases-loop-k : tie.decreases-loop-k
 decreases-loop-k n perm work₀ k₀ work k = n - k
 
 loop-k-init : tie.Need-loop-k-init invariant-loop-k decreases-loop-k
-loop-k-init c = (omega arith, c.requires.marked)
+loop-k-init c = (omega arith, c.requires.1.1)
 
 offset_bounds-perm-k : tie.Need-offset_bounds-perm-k invariant-loop-k decreases-loop-k
 offset_bounds-perm-k c = omega arith
@@ -26,17 +26,17 @@ bounds-perm-k c = omega arith
 overflow_cast-work : tie.Need-overflow_cast-work invariant-loop-k decreases-loop-k
 overflow_cast-work c = omega (
   arith,
-  row_inside _ _ (c.requires.rows c.loop-k.k c.loop-k-test.true)
+  row_inside _ _ (c.requires.1.0 c.loop-k.k c.loop-k-test.true)
       c.if-row.true,
 )
 
 offset_bounds-work-row : tie.Need-offset_bounds-work-row invariant-loop-k decreases-loop-k
-offset_bounds-work-row c = omega (arith, row_inside _ _ (c.requires.rows c.loop-k.k c.loop-k-test.true) c.if-row.true)
+offset_bounds-work-row c = omega (arith, row_inside _ _ (c.requires.1.0 c.loop-k.k c.loop-k-test.true) c.if-row.true)
 
 bounds-work-row : tie.Need-bounds-work-row invariant-loop-k decreases-loop-k
 bounds-work-row c = omega (
   arith,
-  row_inside _ _ (c.requires.rows c.loop-k.k c.loop-k-test.true)
+  row_inside _ _ (c.requires.1.0 c.loop-k.k c.loop-k-test.true)
       c.if-row.true,
 )
 
@@ -50,7 +50,7 @@ loop-k-preserved : tie.Need-loop-k-preserved invariant-loop-k decreases-loop-k
 loop-k-preserved c = (
   omega arith,
   ⊎_elim (λ x. rw x.1 (mark_row c.loop-k.invariant.1
-      (row_inside _ _ (c.requires.rows c.loop-k.k
+      (row_inside _ _ (c.requires.1.0 c.loop-k.k
       c.loop-k-test.true) x.0.taken))) (λ x. rw x.1
       (mark_none c.loop-k.invariant.1 (omega arith) x.0.left)) c.if-row.branch,
 )

@@ -36,8 +36,8 @@ shape_of-columns c = search rules
 returns : tie.Need-returns
 returns c = sides_number _ _ _ _ _ _ (sides_apply _ _ _ _ _ _ (sym (c.size_fault-fault.ensures ∙
     ap (sizes _) c.side_lengths-lengths.ensures) ∙
-    c.if-fault-ne-ACCEPTED.left)
-    c.write_sides.ensures.rows_after c.write_sides.ensures.columns_after)
+    c.if-fault-ne-ACCEPTED.false)
+    c.write_sides.ensures.0 c.write_sides.ensures.1)
 
 pub unsymmetric_factors_spec : {M : Type 1} → statement M
 unsymmetric_factors_spec =

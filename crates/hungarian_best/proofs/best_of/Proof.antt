@@ -16,15 +16,15 @@ invariant-loop-k n col_ptr rows cost u work j start end first least best₀ free
 abbrev decreases-loop-k : tie.decreases-loop-k
 decreases-loop-k n col_ptr rows cost u work j start end first least best₀ free₀ limit₀ k₀ best free limit k = end - k
 
-first-in : (c : tie.Start invariant-loop-k decreases-loop-k) → (get_or c.args.col-ptr.now c.args.j 0 < length c.args.row-idx.now)
-    × (get_or c.args.row-idx.now (get_or c.args.col-ptr.now c.args.j 0) 0 < c.args.n)
-first-in c = entry_in _ _ _ c.requires.fact_1.sound c.requires.fact_2 c.requires.fact_3
+first-in : (c : tie.Start invariant-loop-k decreases-loop-k) → (get_or c.args.col_ptr.now c.args.j 0 < length c.args.row_idx.now)
+    × (get_or c.args.row_idx.now (get_or c.args.col_ptr.now c.args.j 0) 0 < c.args.n)
+first-in c = entry_in _ _ _ c.requires.0.sound c.requires.1.0 c.requires.1.1
 
-inside : (c : tie.In-loop-k invariant-loop-k decreases-loop-k) → (c.loop-k.k < length c.args.row-idx.now)
-    × (get_or c.args.row-idx.now c.loop-k.k 0 < c.args.n)
+inside : (c : tie.In-loop-k invariant-loop-k decreases-loop-k) → (c.loop-k.k < length c.args.row_idx.now)
+    × (get_or c.args.row_idx.now c.loop-k.k 0 < c.args.n)
 inside c =
     let pre = c.requires in
-    entry_in _ _ _ pre.fact_1.sound pre.fact_2 c.loop-k-test.true
+    entry_in _ _ _ pre.0.sound pre.1.0 c.loop-k-test.true
 
 offset_bounds-col_ptr-j : tie.Need-offset_bounds-col_ptr-j invariant-loop-k decreases-loop-k
 offset_bounds-col_ptr-j c = omega arith
@@ -78,7 +78,7 @@ overflow_step-k : tie.Need-overflow_step-k invariant-loop-k decreases-loop-k
 overflow_step-k c = omega (arith, first-in c.before.before.before.before.before.before)
 
 loop-k-init : tie.Need-loop-k-init invariant-loop-k decreases-loop-k
-loop-k-init c = let pre = c.requires in choosing_start pre.fact_1.sound pre.fact_2 _ _ pre.fact_3
+loop-k-init c = let pre = c.requires in choosing_start pre.0.sound pre.1.0 _ _ pre.1.1
 
 offset_bounds-row_idx-k : tie.Need-offset_bounds-row_idx-k invariant-loop-k decreases-loop-k
 offset_bounds-row_idx-k c = omega (arith, inside c)
@@ -116,14 +116,14 @@ loop-k-smaller c = omega arith
 loop-k-preserved : tie.Need-loop-k-preserved invariant-loop-k decreases-loop-k
 loop-k-preserved c =
     let pre = c.requires in
-    ⊎_elim (λ t. rw (t.1, t.2, t.3) (choosing_moves pre.fact_1.sound pre.fact_2 c.loop-k.inv c.loop-k-test.taken t.0.taken))
-    (λ t. rw (t.1, t.2, t.3) (choosing_stays pre.fact_1.sound pre.fact_2 c.loop-k.inv c.loop-k-test.taken t.0.left))
+    ⊎_elim (λ t. rw (t.1, t.2, t.3) (choosing_moves pre.0.sound pre.1.0 c.loop-k.invariant c.loop-k-test.true t.0.taken))
+    (λ t. rw (t.1, t.2, t.3) (choosing_stays pre.0.sound pre.1.0 c.loop-k.invariant c.loop-k-test.true t.0.left))
     c.if-best-value.branch
 
 returns : tie.Need-returns invariant-loop-k decreases-loop-k
 returns c =
     let pre = c.requires in
-    choosing_end pre.fact_1.sound pre.fact_2 c.loop-k.invariant c.loop-k-test.false
+    choosing_end pre.0.sound pre.1.0 c.loop-k.invariant c.loop-k-test.false
 
 pub best_of_spec : {M : Type 1} → statement M
 best_of_spec =

@@ -48,7 +48,7 @@ shape_of-work : tie.Need-shape_of-work
 shape_of-work c = simp length-set
 
 returns : tie.Need-returns
-returns c = linked _ _ _ _ _ c.requires.fact_2 c.requires.fact_3
+returns c = linked _ _ _ _ _ c.requires.1.0 c.requires.1.1.0
 
 pub pair_and_advance_spec : {M : Type 1} → statement M
 pair_and_advance_spec =

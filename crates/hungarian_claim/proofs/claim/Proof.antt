@@ -9,7 +9,7 @@ use Rattle.hungarian_claim.proofs.claim.Statement.{statement}
 use Rattle.hungarian_claim.proofs.claim.Tie as tie
 
 column-in : (c : tie.Else-column) → get_or c.args.work.now c.args.i 0 < c.args.n
-column-in c = column_range c.requires.fact_1 c.requires.fact_2 c.if-column.false
+column-in c = column_range c.requires.0 c.requires.1.0 c.if-column.false
 
 offset_bounds-work-i : tie.Need-offset_bounds-work-i
 offset_bounds-work-i c = omega arith
@@ -18,7 +18,7 @@ bounds-work-i : tie.Need-bounds-work-i
 bounds-work-i c = omega arith
 
 returns-then-column : tie.Need-returns-then-column
-returns-then-column c = claimed_bare c.requires.fact_1 c.requires.fact_2 _ c.if-column.true
+returns-then-column c = claimed_bare c.requires.0 c.requires.1.0 _ c.if-column.true
 
 overflow_cast-j : tie.Need-overflow_cast-j
 overflow_cast-j c = omega (arith, column-in c)
@@ -44,7 +44,7 @@ shape_of-work-then-work-n c = simp length-set
 returns-then-work-n : tie.Need-returns-then-work-n
 returns-then-work-n c =
     let pre = c.requires in
-    claimed_held pre.fact_1 pre.fact_2 c.if-column.false _ c.if-work-n.true
+    claimed_held pre.0 pre.1.0 c.if-column.false _ c.if-work-n.true
 
 overflow_add-col_len : tie.Need-overflow_add-col_len
 overflow_add-col_len c = omega (arith, column-in c.before.before)
@@ -62,7 +62,7 @@ bounds-col_ptr-j-2 : tie.Need-bounds-col_ptr-j-2
 bounds-col_ptr-j-2 c = omega (arith, column-in c.before.before.before.before)
 
 overflow_sub-col_len : tie.Need-overflow_sub-col_len
-overflow_sub-col_len c = rw add-one (c.requires.fact_1.rises _ (column-in c.before.before.before.before))
+overflow_sub-col_len c = rw add-one (c.requires.0.rises _ (column-in c.before.before.before.before))
 
 overflow_cast-col_len : tie.Need-overflow_cast-col_len
 overflow_cast-col_len c =
@@ -75,7 +75,7 @@ shape_of-work-then-col_len-n c = simp length-set
 returns-then-col_len-n : tie.Need-returns-then-col_len-n
 returns-then-col_len-n c =
     let pre = c.requires in
-    claimed_dense pre.fact_1 pre.fact_2 c.if-column.false _ c.if-work-n.false c.if-col_len-n.true
+    claimed_dense pre.0 pre.1.0 c.if-column.false _ c.if-work-n.false c.if-col_len-n.true
 
 offset_bounds-work-i-3 : tie.Need-offset_bounds-work-i-3
 offset_bounds-work-i-3 c = omega arith
@@ -113,7 +113,7 @@ shape_of-work c = simp length-set
 returns : tie.Need-returns
 returns c =
     let pre = c.requires in
-    claimed_taken pre.fact_1 pre.fact_2 c.if-column.false _ c.if-work-n.false c.if-col_len-n.false
+    claimed_taken pre.0 pre.1.0 c.if-column.false _ c.if-work-n.false c.if-col_len-n.false
 
 pub claim_spec : {M : Type 1} → statement M
 claim_spec =

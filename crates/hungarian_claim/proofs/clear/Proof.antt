@@ -16,7 +16,7 @@ overflow_mul-least : tie.Need-overflow_mul-least invariant-loop-i decreases-loop
 overflow_mul-least c = omega arith
 
 loop-i-init : tie.Need-loop-i-init invariant-loop-i decreases-loop-i
-loop-i-init c = clearing_start _ _ _ c.requires.fact_2 c.requires.fact_1.words
+loop-i-init c = clearing_start _ _ _ c.requires.1 c.requires.0.words
 
 offset_bounds-u-i : tie.Need-offset_bounds-u-i invariant-loop-i decreases-loop-i
 offset_bounds-u-i c = omega arith

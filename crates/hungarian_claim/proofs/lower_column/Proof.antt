@@ -15,11 +15,11 @@ invariant-loop-k n col_ptr rows cost u₀ work₀ j least start end k₀ u work 
 abbrev decreases-loop-k : tie.decreases-loop-k
 decreases-loop-k n col_ptr rows cost u₀ work₀ j least start end k₀ u work k = end - k
 
-inside : (c : tie.In-loop-k invariant-loop-k decreases-loop-k) → (c.loop-k.k < length c.args.row-idx.now)
-    × (get_or c.args.row-idx.now c.loop-k.k 0 < c.args.n)
+inside : (c : tie.In-loop-k invariant-loop-k decreases-loop-k) → (c.loop-k.k < length c.args.row_idx.now)
+    × (get_or c.args.row_idx.now c.loop-k.k 0 < c.args.n)
 inside c =
     let pre = c.requires in
-    entry_in _ _ _ pre.fact_1.sound pre.fact_2 c.loop-k-test.true
+    entry_in _ _ _ pre.0.sound pre.1 c.loop-k-test.true
 
 overflow_mul-least : tie.Need-overflow_mul-least invariant-loop-k decreases-loop-k
 overflow_mul-least c = omega arith
@@ -46,7 +46,7 @@ overflow_cast-end : tie.Need-overflow_cast-end invariant-loop-k decreases-loop-k
 overflow_cast-end c = omega (arith, c.shared_slice_known-5-1.given (c.args.j + 1))
 
 loop-k-init : tie.Need-loop-k-init invariant-loop-k decreases-loop-k
-loop-k-init c = let pre = c.requires in lowering_start pre.fact_1 pre.fact_2
+loop-k-init c = let pre = c.requires in lowering_start pre.0 pre.1
 
 offset_bounds-row_idx-k : tie.Need-offset_bounds-row_idx-k invariant-loop-k decreases-loop-k
 offset_bounds-row_idx-k c = omega (arith, inside (c))
@@ -135,7 +135,7 @@ loop-k-smaller c = omega arith
 loop-k-preserved : tie.Need-loop-k-preserved invariant-loop-k decreases-loop-k
 loop-k-preserved c =
     let pre = c.requires in
-    lowering_turn pre.fact_1 pre.fact_2 c.loop-k.inv c.loop-k-test.taken _ _ _ c.lower-lowest.ensures
+    lowering_turn pre.0 pre.1 c.loop-k.invariant c.loop-k-test.true _ _ _ c.lower-lowest.ensures
     c.picked.ensures c.picked-in-loop-k.ensures
 
 shape_of-u : tie.Need-shape_of-u invariant-loop-k decreases-loop-k
@@ -147,7 +147,7 @@ shape_of-work c = omega arith
 returns : tie.Need-returns invariant-loop-k decreases-loop-k
 returns c =
     let pre = c.requires in
-    lowering_end pre.fact_1 pre.fact_2 c.loop-k.invariant c.loop-k-test.false
+    lowering_end pre.0 pre.1 c.loop-k.invariant c.loop-k-test.false
 
 pub lower_column_spec : {M : Type 1} → statement M
 lower_column_spec =

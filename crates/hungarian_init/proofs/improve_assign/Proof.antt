@@ -42,28 +42,28 @@ best-in c = let args = c.args in (
   omega (
     arith,
     small_stop c.requires.sound
-        c.improve_assign-test.taken,
-    stop_is (graph_of args.n args.col-ptr.now args.row-idx.now args.cost.now)
+        c.improve_assign-test.true,
+    stop_is (graph_of args.n args.col_ptr.now args.row_idx.now args.cost.now)
         c.improve_assign.j,
     c.best_of-best.ensures.below,
   ),
   c.best_of-best.ensures.row,
 )
 
-place_in : (c : tie.In-loop-k invariant-loop-kk decreases-loop-kk invariant-loop-k decreases-loop-k invariant-improve_assign decreases-improve_assign) → c.loop-k.k < get_or c.args.col-ptr.now (c.loop-k.j + 1) 0
+place_in : (c : tie.In-loop-k invariant-loop-kk decreases-loop-kk invariant-loop-k decreases-loop-k invariant-improve_assign decreases-improve_assign) → c.loop-k.k < get_or c.args.col_ptr.now (c.loop-k.j + 1) 0
 place_in c = rw c.loop-k.invariant.0 c.loop-k-test.true
 
 inside : (c : tie.In-loop-k invariant-loop-kk decreases-loop-kk invariant-loop-k decreases-loop-k invariant-improve_assign decreases-improve_assign) → let a = c.args in
-    Readable (graph_of a.n a.col-ptr.now a.row-idx.now a.cost.now) a.u.now c.loop-k.k
+    Readable (graph_of a.n a.col_ptr.now a.row_idx.now a.cost.now) a.u.now c.loop-k.k
 inside c = let pre = c.requires in readable _ _ _ _ pre.sound pre.dual_count c.loop-k.invariant.1.column (place_in c)
 
 other-in : (c : tie.Else-work-i invariant-loop-kk decreases-loop-kk invariant-loop-k decreases-loop-k invariant-improve_assign decreases-improve_assign) → let a = c.args in let l = c.loop-k in
-    get_or l.work (get_or a.row-idx.now l.k 0) 0 < a.n
+    get_or l.work (get_or a.row_idx.now l.k 0) 0 < a.n
 other-in c = other_range c.requires.sound c.loop-k.invariant.1 (place_in c.before.before.before.before.before.before)
     c.if-cost-k.false (eqb-false _ _ c.if-work-i.false)
 
 inside_other : (c : tie.In-loop-kk invariant-loop-kk decreases-loop-kk invariant-loop-k decreases-loop-k invariant-improve_assign decreases-improve_assign) → let a = c.args in
-    Readable (graph_of a.n a.col-ptr.now a.row-idx.now a.cost.now) a.u.now c.loop-kk.kk
+    Readable (graph_of a.n a.col_ptr.now a.row_idx.now a.cost.now) a.u.now c.loop-kk.kk
 inside_other c = let pre = c.requires in readable _ _ _ _ pre.sound pre.dual_count c.loop-kk.invariant.1.other c.loop-kk-test.true
 
 improve_assign-init : tie.Need-improve_assign-init invariant-loop-kk decreases-loop-kk invariant-loop-k decreases-loop-k invariant-improve_assign decreases-improve_assign
@@ -123,7 +123,7 @@ overflow_cast-search_from c = omega (
   arith,
   c.slice_known-in-loop-k-2-1.given
       (3 * c.args.n + get_or c.loop-k.work
-      (get_or c.args.row-idx.now c.loop-k.k 0) 0),
+      (get_or c.args.row_idx.now c.loop-k.k 0) 0),
 )
 
 loop-kk-init : tie.Need-loop-kk-init invariant-loop-kk decreases-loop-kk invariant-loop-k decreases-loop-k invariant-improve_assign decreases-improve_assign
@@ -139,14 +139,13 @@ inner_step-stats-requires c κs =
 
 bounds-fwork-n-then-work-ii : tie.Need-bounds-fwork-n-then-work-ii invariant-loop-kk decreases-loop-kk invariant-loop-k decreases-loop-k invariant-improve_assign decreases-improve_assign
 bounds-fwork-n-then-work-ii c = omega
-    (arith, c.loop-kk.inv.1.other, c.loop-kk.inv.1.memory.values)
+    (arith, c.loop-kk.invariant.1.other, c.loop-kk.invariant.1.memory.values)
 
 overflow_add-num-then-cost-kk : tie.Need-overflow_add-num-then-cost-kk invariant-loop-kk decreases-loop-kk invariant-loop-k decreases-loop-k invariant-improve_assign decreases-improve_assign
 overflow_add-num-then-cost-kk c = omega (
   arith,
-  c.loop-kk.inv.1.few,
-  (loop2-of-shared-slice-known14
-      c.before.before).loop2.invariant.1.column,
+  c.loop-kk.invariant.1.few,
+  c.loop-kk.invariant.1.column,
   c.requires.sound.few_columns,
 )
 
@@ -202,7 +201,7 @@ loop-kk-preserved c = (
 
 loop-k-preserved : tie.Need-loop-k-preserved invariant-loop-kk decreases-loop-kk invariant-loop-k decreases-loop-k invariant-improve_assign decreases-improve_assign
 loop-k-preserved c = (
-  c.loop-kk.invariant.0 ∙ c.loop-k.inv.0,
+  c.loop-kk.invariant.0 ∙ c.loop-k.invariant.0,
   inner_misses c.requires.sound c.loop-kk.invariant.1 c.loop-kk-test.false,
 )
 

@@ -15,7 +15,7 @@ overflow_mul-from : tie.Need-overflow_mul-from invariant-loop-j decreases-loop-j
 overflow_mul-from c = omega arith
 
 loop-j-init : tie.Need-loop-j-init invariant-loop-j decreases-loop-j
-loop-j-init c = preparing_start _ _ _ _ c.requires.fact_1.words c.requires.fact_2 c.requires.fact_3
+loop-j-init c = preparing_start _ _ _ _ c.requires.0.words c.requires.1.0 c.requires.1.1
 
 offset_bounds-col_ptr-j : tie.Need-offset_bounds-col_ptr-j invariant-loop-j decreases-loop-j
 offset_bounds-col_ptr-j c = omega arith

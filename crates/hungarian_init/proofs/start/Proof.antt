@@ -10,8 +10,8 @@ use Rattle.hungarian_init.proofs.start.Statement.{statement}
 use Rattle.hungarian_init.proofs.start.Tie as tie
 
 sound-here : (c : tie.After-slice_known-3-1) → Sound (graph_of c.args.n
-    c.args.col-ptr.now
-    c.args.row-idx.now
+    c.args.col_ptr.now
+    c.args.row_idx.now
     c.args.cost.now)
 sound-here c = sound _ c.requires.accepted (λ k h. c.shared_slice_known-3-1.given k)
 
@@ -67,9 +67,9 @@ improve_assign-started-requires : tie.Need-improve_assign-started-requires
 improve_assign-started-requires c κs =
     let pre = c.requires in
     improvable c.row_minima.ensures c.claim_columns-num.ensures
-    (sound-here c.before.before.before.before.before.before.before.before.before.before.before.before.before.before.before.before.before.before.before.before.before.before) (c.row_minima.kept.1.1.1.1.0 ∙ pre.duals)
-    (c.prepare.kept.1.1.0 ∙ c.claim_columns-num.kept.1.1.0 ∙
-    c.row_minima.kept.1.1.1.1.1.0 ∙ pre.words) (c.prepare.kept.1.1.1.0 ∙ pre.values)
+    (sound-here c.before.before.before.before.before.before.before.before.before.before.before.before.before.before.before.before.before.before.before.before.before.before) (c.row_minima.auto.u ∙ pre.duals)
+    (c.prepare.auto.work ∙ c.claim_columns-num.auto.work ∙
+    c.row_minima.auto.work ∙ pre.words) (c.prepare.auto.fwork ∙ pre.values)
     c.new-stats.ensures c.prepare.ensures
 
 zero_empty_rows-requires-2 : tie.Need-zero_empty_rows-requires-2

@@ -42,8 +42,7 @@ returns-then-fault-ne-ACCEPTED c =
     }
 
 solve-found-requires : tie.Need-solve-found-requires
-solve-found-requires c κs = accepted_lengths _ _ (sym (fault_is _ _ (graph-fault-of-Else1
-    c.before.before.before.before.before).graph-fault.ensures
+solve-found-requires c κs = accepted_lengths _ _ (sym (fault_is _ _ c.graph_fault-fault.ensures
     c.lengths_fit-lengths.ensures) ∙
     c.if-fault-ne-ACCEPTED.false)
 
@@ -65,7 +64,7 @@ shape_of-fwork c = search rules
 returns : tie.Need-returns
 returns c =
     let e = sym (fault_is _ _ c.graph_fault-fault.ensures c.lengths_fit-lengths.ensures)
-    ∙ c.if-fault-ne-ACCEPTED.left in
+    ∙ c.if-fault-ne-ACCEPTED.false in
     let d = c.shared_slice_known-3-1.given in
     let S = c.solve-found.ensures in
     record {

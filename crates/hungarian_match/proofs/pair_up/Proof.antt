@@ -5,7 +5,7 @@ use Rattle.hungarian_match.proofs.pair_up.Tie as tie
 use Rattle.hungarian_match.proofs.Calls.{searchable, paired_early, paired_late}
 
 start-started-requires : tie.Need-start-started-requires
-start-started-requires c κs = c.requires.fact_1
+start-started-requires c κs = c.requires.0
 
 shape_of-u-then-num-n : tie.Need-shape_of-u-then-num-n
 shape_of-u-then-num-n c = c.start-started.auto.u
@@ -21,11 +21,11 @@ returns-then-num-n c = paired_early c.start-started.ensures c.if-num-n.true
 
 run-requires : tie.Need-run-requires
 run-requires c κs = (
-  searchable c.requires.fact_1.accepted
-      (c.start-started.auto.work ∙ c.requires.fact_1.words) c.start-started.ensures,
+  searchable c.requires.0.accepted
+      (c.start-started.auto.work ∙ c.requires.0.words) c.start-started.ensures,
   (
-    c.requires.fact_2,
-    (c.requires.fact_3, c.start-started.auto.fwork ∙ c.requires.fact_1.values),
+    c.requires.1.0,
+    (c.requires.1.1, c.start-started.auto.fwork ∙ c.requires.0.values),
   ),
 )
 

@@ -29,7 +29,7 @@ overflow_cast-result-2 : tie.Need-overflow_cast-result-2
 overflow_cast-result-2 c = omega (arith, c.shared_slice_known-2-1.given c.args.j)
 
 overflow_sub-result : tie.Need-overflow_sub-result
-overflow_sub-result c = omega (arith, ap (λ (m : ℕ). get_or c.args.col-ptr.now m 0) (add-one c.args.j))
+overflow_sub-result c = omega (arith, ap (λ (m : ℕ). get_or c.args.col_ptr.now m 0) (add-one c.args.j))
 
 returns : tie.Need-returns
 returns c = rw (add-one c.args.j)

@@ -12,7 +12,7 @@ abbrev decreases-loop-p : tie.decreases-loop-p
 decreases-loop-p w₀ from to value p₀ w p = to - p
 
 loop-p-init : tie.Need-loop-p-init invariant-loop-p decreases-loop-p
-loop-p-init c = (fill_start _ _ _ _, c.requires.fact_1)
+loop-p-init c = (fill_start _ _ _ _, c.requires.0)
 
 offset_bounds-w-p : tie.Need-offset_bounds-w-p invariant-loop-p decreases-loop-p
 offset_bounds-w-p c = omega (arith, c.loop-p.invariant.0.long)

@@ -15,7 +15,7 @@ abbrev decreases-loop-work : tie.decreases-loop-work
 decreases-loop-work n col_ptr rows cost u work₀ pos₀ keys₀ d₀ search₀ work pos keys d search = n - search.frontier.popped
 
 loop-work-init : tie.Need-loop-work-init invariant-loop-work decreases-loop-work
-loop-work-init c = grow_start _ _ _ _ _ _ _ _ c.requires.fact_1 c.requires.fact_2
+loop-work-init c = grow_start _ _ _ _ _ _ _ _ c.requires.0 c.requires.1
 
 has_nearer_row-requires : tie.Need-has_nearer_row-requires invariant-loop-work decreases-loop-work
 has_nearer_row-requires c κs = test_asks _ _ _ _ _ _ _ _ c.loop-work.invariant.growing

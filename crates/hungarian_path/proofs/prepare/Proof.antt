@@ -36,7 +36,7 @@ fill-requires-3 : tie.Need-fill-requires-3
 fill-requires-3 c κs = tt
 
 shape_of-work : tie.Need-shape_of-work
-shape_of-work c = c.fill-2.kept.0 ∙ c.fill.kept.0
+shape_of-work c = c.fill-2.auto.w ∙ c.fill.auto.w
 
 shape_of-pos : tie.Need-shape_of-pos
 shape_of-pos c = c.clear.auto.list
@@ -46,10 +46,10 @@ shape_of-d c = c.fill-3.auto.w
 
 returns : tie.Need-returns
 returns c = let pre = c.requires in
-    prepared _ _ _ _ (c.fill-2.kept.0 ∙ c.fill.kept.0 ∙ pre.fact_1) pre.fact_1
+    prepared _ _ _ _ (c.fill-2.auto.w ∙ c.fill.auto.w ∙ pre.0) pre.0
     c.fill.ensures c.fill-2.ensures _
-    (c.clear.ensures ∙ ap (λ (m : ℕ). replicate m 0) pre.fact_2) _
-    (c.fill-3.ensures ∙ ap (λ (m : ℕ). replicate m rinf) pre.fact_3)
+    (c.clear.ensures ∙ ap (λ (m : ℕ). replicate m 0) pre.1.0) _
+    (c.fill-3.ensures ∙ ap (λ (m : ℕ). replicate m rinf) pre.1.1.0)
 
 pub prepare_spec : {M : Type 1} → statement M
 prepare_spec =

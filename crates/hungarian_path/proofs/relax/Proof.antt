@@ -11,11 +11,11 @@ use Rattle.hungarian_path.proofs.relax.Tie as tie
 
 -- the row's column, read after the row is noted
 column : (c : tie.After-slice_known-7-1) →
-    (get_or c.touch_row-next.last.1.0 c.args.i 0 < c.args.n)
-    × (length c.touch_row-next.last.1.0 ≡ 12 * c.args.n + 1)
+    (get_or c.touch_row-next.new.work c.args.i 0 < c.args.n)
+    × (length c.touch_row-next.new.work ≡ 12 * c.args.n + 1)
 column c =
     code_column _ _ _ _ _ _ _ c.args.x _ _ c.requires _ _ c.touch_row-next.ensures.words
-    c.touch_row-next.ensures.places c.touch_row-next.kept.1.0
+    c.touch_row-next.ensures.places c.touch_row-next.auto.work
 
 touch_row-next-requires : tie.Need-touch_row-next-requires
 touch_row-next-requires c κs = c.requires.touching
@@ -83,7 +83,7 @@ slice_bounds-update-end c = search rules
 update-requires : tie.Need-update-requires
 update-requires c κs = let r =
     code_ready _ _ _ _ _ _ _ c.args.x _ _ c.requires _ _ c.touch_row-next.ensures.words
-    c.touch_row-next.ensures.places c.touch_row-next.kept.1.0 in (r.0, (r.1, (r.2, r.3)))
+    c.touch_row-next.ensures.places c.touch_row-next.auto.work in (r.0, (r.1, (r.2, r.3)))
 
 shape_of-work : tie.Need-shape_of-work
 shape_of-work c = c.work-2-1.given.1 ∙ simp length-set c.touch_row-next.auto.work
@@ -99,7 +99,7 @@ shape_of-d c = simp length-set
 
 returns : tie.Need-returns
 returns c = code_done _ _ _ _ _ _ _ _ _ _ c.requires _ _ c.touch_row-next.ensures.words
-    c.touch_row-next.ensures.places c.touch_row-next.kept.1.0 _ _ _ _ c.touch_row-next.ensures.answer c.update.ensures
+    c.touch_row-next.ensures.places c.touch_row-next.auto.work _ _ _ _ c.touch_row-next.ensures.answer c.update.ensures
 
 pub relax_spec : {M : Type 1} → statement M
 relax_spec =

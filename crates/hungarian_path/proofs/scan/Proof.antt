@@ -17,15 +17,15 @@ abbrev decreases-loop-k : tie.decreases-loop-k
 decreases-loop-k n col_ptr rows cost u work₀ pos₀ keys₀ d₀ root v j end k₀ t₀ work pos keys d k t = end - k
 
 -- a turn's entry stands in the column
-below : (c : tie.In-loop-k invariant-loop-k decreases-loop-k) → c.loop-k.k < get_or c.args.col-ptr.now (suc c.args.j) 0
+below : (c : tie.In-loop-k invariant-loop-k decreases-loop-k) → c.loop-k.k < get_or c.args.col_ptr.now (suc c.args.j) 0
 below c =
     let args = c.args in
-    subst (λ (m : ℕ). c.loop-k.k < get_or args.col-ptr.now m 0) (add-one args.j) c.loop-k-test.true
+    subst (λ (m : ℕ). c.loop-k.k < get_or args.col_ptr.now m 0) (add-one args.j) c.loop-k-test.true
 
 entry : (c : tie.In-loop-k invariant-loop-k decreases-loop-k) →
     let args = c.args in
-    (c.loop-k.k < length args.row-idx.now) × (get_or args.row-idx.now c.loop-k.k 0 < args.n)
-    × (length args.cost.now ≡ length args.row-idx.now) × (length args.u.now ≡ args.n)
+    (c.loop-k.k < length args.row_idx.now) × (get_or args.row_idx.now c.loop-k.k 0 < args.n)
+    × (length args.cost.now ≡ length args.row_idx.now) × (length args.u.now ≡ args.n)
 entry c = entry_in _ _ _ _ _ _ _ _ _ _ c.requires _ _ _ _ _ _ c.loop-k.invariant (below c)
 
 overflow_add-end : tie.Need-overflow_add-end invariant-loop-k decreases-loop-k
@@ -108,7 +108,7 @@ shape_of-d c = c.loop-k.invariant.d_count
 returns : tie.Need-returns invariant-loop-k decreases-loop-k
 returns c = let args = c.args in
     scan_end _ _ _ _ _ _ _ _ _ _ c.requires _ _ _ _ _ _ c.loop-k.invariant
-    (subst (λ (m : ℕ). get_or args.col-ptr.now m 0 ≤ c.loop-k.k) (add-one args.j) c.loop-k-test.false)
+    (subst (λ (m : ℕ). get_or args.col_ptr.now m 0 ≤ c.loop-k.k) (add-one args.j) c.loop-k-test.false)
 
 pub scan_spec : {M : Type 1} → statement M
 scan_spec =

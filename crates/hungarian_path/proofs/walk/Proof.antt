@@ -32,150 +32,150 @@ bounds-work-n c = omega (arith, here _ _ _ _ _ c.loop-left.invariant.0 _ _ _ c.l
 
 overflow_mul-before : tie.Need-overflow_mul-before invariant-loop-left decreases-loop-left
 overflow_mul-before c =
-    omega (arith, here _ _ _ _ _ c.loop-left.inv.0 _ _ _ c.loop-left.inv.1)
+    omega (arith, here _ _ _ _ _ c.loop-left.invariant.0 _ _ _ c.loop-left.invariant.1)
 
 overflow_add-before : tie.Need-overflow_add-before invariant-loop-left decreases-loop-left
 overflow_add-before c =
-    omega (arith, here _ _ _ _ _ c.loop-left.inv.0 _ _ _ c.loop-left.inv.1)
+    omega (arith, here _ _ _ _ _ c.loop-left.invariant.0 _ _ _ c.loop-left.invariant.1)
 
 offset_bounds-work-n-in-loop-left : tie.Need-offset_bounds-work-n-in-loop-left invariant-loop-left decreases-loop-left
 offset_bounds-work-n-in-loop-left c =
-    omega (arith, here _ _ _ _ _ c.loop-left.inv.0 _ _ _ c.loop-left.inv.1)
+    omega (arith, here _ _ _ _ _ c.loop-left.invariant.0 _ _ _ c.loop-left.invariant.1)
 
 bounds-work-n-in-loop-left : tie.Need-bounds-work-n-in-loop-left invariant-loop-left decreases-loop-left
 bounds-work-n-in-loop-left c =
-    omega (arith, here _ _ _ _ _ c.loop-left.inv.0 _ _ _ c.loop-left.inv.1)
+    omega (arith, here _ _ _ _ _ c.loop-left.invariant.0 _ _ _ c.loop-left.invariant.1)
 
 overflow_cast-before : tie.Need-overflow_cast-before invariant-loop-left decreases-loop-left
 overflow_cast-before c =
     omega (
       arith,
-      there _ _ _ _ _ c.loop-left.inv.0 _ _ _ c.loop-left.inv.1 c.loop-left-test.true c.if-work-n.false,
-      here _ _ _ _ _ c.loop-left.inv.0 _ _ _ c.loop-left.inv.1,
+      there _ _ _ _ _ c.loop-left.invariant.0 _ _ _ c.loop-left.invariant.1 c.loop-left-test.true c.if-work-n.false,
+      here _ _ _ _ _ c.loop-left.invariant.0 _ _ _ c.loop-left.invariant.1,
     )
 
 overflow_mul-entry : tie.Need-overflow_mul-entry invariant-loop-left decreases-loop-left
 overflow_mul-entry c =
-    omega (arith, here _ _ _ _ _ c.loop-left.inv.0 _ _ _ c.loop-left.inv.1)
+    omega (arith, here _ _ _ _ _ c.loop-left.invariant.0 _ _ _ c.loop-left.invariant.1)
 
 overflow_add-entry : tie.Need-overflow_add-entry invariant-loop-left decreases-loop-left
 overflow_add-entry c =
-    omega (arith, here _ _ _ _ _ c.loop-left.inv.0 _ _ _ c.loop-left.inv.1)
+    omega (arith, here _ _ _ _ _ c.loop-left.invariant.0 _ _ _ c.loop-left.invariant.1)
 
 offset_bounds-work-n-in-loop-left-2 : tie.Need-offset_bounds-work-n-in-loop-left-2 invariant-loop-left decreases-loop-left
 offset_bounds-work-n-in-loop-left-2 c =
-    omega (arith, here _ _ _ _ _ c.loop-left.inv.0 _ _ _ c.loop-left.inv.1)
+    omega (arith, here _ _ _ _ _ c.loop-left.invariant.0 _ _ _ c.loop-left.invariant.1)
 
 bounds-work-n-in-loop-left-2 : tie.Need-bounds-work-n-in-loop-left-2 invariant-loop-left decreases-loop-left
 bounds-work-n-in-loop-left-2 c =
-    omega (arith, here _ _ _ _ _ c.loop-left.inv.0 _ _ _ c.loop-left.inv.1)
+    omega (arith, here _ _ _ _ _ c.loop-left.invariant.0 _ _ _ c.loop-left.invariant.1)
 
 overflow_cast-entry : tie.Need-overflow_cast-entry invariant-loop-left decreases-loop-left
 overflow_cast-entry c =
     omega (
       arith,
-      there _ _ _ _ _ c.loop-left.inv.0 _ _ _ c.loop-left.inv.1 c.loop-left-test.true
+      there _ _ _ _ _ c.loop-left.invariant.0 _ _ _ c.loop-left.invariant.1 c.loop-left-test.true
           c.if-work-n.false,
-      here _ _ _ _ _ c.loop-left.inv.0 _ _ _ c.loop-left.inv.1,
+      here _ _ _ _ _ c.loop-left.invariant.0 _ _ _ c.loop-left.invariant.1,
     )
 
 offset_bounds-row_idx-entry : tie.Need-offset_bounds-row_idx-entry invariant-loop-left decreases-loop-left
 offset_bounds-row_idx-entry c =
     omega (
       arith,
-      there _ _ _ _ _ c.loop-left.inv.0 _ _ _ c.loop-left.inv.1 c.loop-left-test.true
+      there _ _ _ _ _ c.loop-left.invariant.0 _ _ _ c.loop-left.invariant.1 c.loop-left-test.true
           c.if-work-n.false,
-      here _ _ _ _ _ c.loop-left.inv.0 _ _ _ c.loop-left.inv.1,
+      here _ _ _ _ _ c.loop-left.invariant.0 _ _ _ c.loop-left.invariant.1,
     )
 
 bounds-row_idx-entry : tie.Need-bounds-row_idx-entry invariant-loop-left decreases-loop-left
 bounds-row_idx-entry c =
     omega (
       arith,
-      there _ _ _ _ _ c.loop-left.inv.0 _ _ _ c.loop-left.inv.1
+      there _ _ _ _ _ c.loop-left.invariant.0 _ _ _ c.loop-left.invariant.1
           c.loop-left-test.true c.if-work-n.false,
       here _ _ _ _ _
-          c.loop-left.inv.0 _ _ _ c.loop-left.inv.1,
+          c.loop-left.invariant.0 _ _ _ c.loop-left.invariant.1,
     )
 
 overflow_cast-row : tie.Need-overflow_cast-row invariant-loop-left decreases-loop-left
 overflow_cast-row c =
     omega (
       arith,
-      there _ _ _ _ _ c.loop-left.inv.0 _ _ _ c.loop-left.inv.1
+      there _ _ _ _ _ c.loop-left.invariant.0 _ _ _ c.loop-left.invariant.1
           c.loop-left-test.true c.if-work-n.false,
       here _ _ _ _ _
-          c.loop-left.inv.0 _ _ _ c.loop-left.inv.1,
+          c.loop-left.invariant.0 _ _ _ c.loop-left.invariant.1,
     )
 
 overflow_cast-work : tie.Need-overflow_cast-work invariant-loop-left decreases-loop-left
 overflow_cast-work c =
     omega (
       arith,
-      there _ _ _ _ _ c.loop-left.inv.0 _ _ _ c.loop-left.inv.1
+      there _ _ _ _ _ c.loop-left.invariant.0 _ _ _ c.loop-left.invariant.1
           c.loop-left-test.true c.if-work-n.false,
       here _ _ _ _ _
-          c.loop-left.inv.0 _ _ _ c.loop-left.inv.1,
+          c.loop-left.invariant.0 _ _ _ c.loop-left.invariant.1,
     )
 
 offset_bounds-work-row : tie.Need-offset_bounds-work-row invariant-loop-left decreases-loop-left
 offset_bounds-work-row c =
     omega (
       arith,
-      there _ _ _ _ _ c.loop-left.inv.0 _ _ _ c.loop-left.inv.1
+      there _ _ _ _ _ c.loop-left.invariant.0 _ _ _ c.loop-left.invariant.1
           c.loop-left-test.true c.if-work-n.false,
       here _ _ _ _ _
-          c.loop-left.inv.0 _ _ _ c.loop-left.inv.1,
+          c.loop-left.invariant.0 _ _ _ c.loop-left.invariant.1,
     )
 
 bounds-work-row : tie.Need-bounds-work-row invariant-loop-left decreases-loop-left
 bounds-work-row c =
     omega (
       arith,
-      there _ _ _ _ _ c.loop-left.inv.0 _ _ _ c.loop-left.inv.1
+      there _ _ _ _ _ c.loop-left.invariant.0 _ _ _ c.loop-left.invariant.1
           c.loop-left-test.true c.if-work-n.false,
       here _ _ _ _ _
-          c.loop-left.inv.0 _ _ _ c.loop-left.inv.1,
+          c.loop-left.invariant.0 _ _ _ c.loop-left.invariant.1,
     )
 
 overflow_cast-work-in-loop-left : tie.Need-overflow_cast-work-in-loop-left invariant-loop-left decreases-loop-left
 overflow_cast-work-in-loop-left c =
     omega (
       arith,
-      there _ _ _ _ _ c.loop-left.inv.0 _ _ _ c.loop-left.inv.1
+      there _ _ _ _ _ c.loop-left.invariant.0 _ _ _ c.loop-left.invariant.1
           c.loop-left-test.true c.if-work-n.false,
       here _ _ _ _ _
-          c.loop-left.inv.0 _ _ _ c.loop-left.inv.1,
+          c.loop-left.invariant.0 _ _ _ c.loop-left.invariant.1,
     )
 
 overflow_add-work : tie.Need-overflow_add-work invariant-loop-left decreases-loop-left
 overflow_add-work c =
     omega (
       arith,
-      there _ _ _ _ _ c.loop-left.inv.0 _ _ _ c.loop-left.inv.1
+      there _ _ _ _ _ c.loop-left.invariant.0 _ _ _ c.loop-left.invariant.1
           c.loop-left-test.true c.if-work-n.false,
       here _ _ _ _ _
-          c.loop-left.inv.0 _ _ _ c.loop-left.inv.1,
+          c.loop-left.invariant.0 _ _ _ c.loop-left.invariant.1,
     )
 
 offset_bounds-work-n-in-loop-left-3 : tie.Need-offset_bounds-work-n-in-loop-left-3 invariant-loop-left decreases-loop-left
 offset_bounds-work-n-in-loop-left-3 c =
     omega (
       arith,
-      there _ _ _ _ _ c.loop-left.inv.0 _ _ _ c.loop-left.inv.1
+      there _ _ _ _ _ c.loop-left.invariant.0 _ _ _ c.loop-left.invariant.1
           c.loop-left-test.true c.if-work-n.false,
       here _ _ _ _ _
-          c.loop-left.inv.0 _ _ _ c.loop-left.inv.1,
+          c.loop-left.invariant.0 _ _ _ c.loop-left.invariant.1,
     )
 
 bounds-work-n-in-loop-left-3 : tie.Need-bounds-work-n-in-loop-left-3 invariant-loop-left decreases-loop-left
 bounds-work-n-in-loop-left-3 c =
     simp length-set (omega (
       arith,
-      there _ _ _ _ _ c.loop-left.inv.0 _ _ _ c.loop-left.inv.1
+      there _ _ _ _ _ c.loop-left.invariant.0 _ _ _ c.loop-left.invariant.1
           c.loop-left-test.true c.if-work-n.false,
       here _ _ _ _ _
-          c.loop-left.inv.0 _ _ _ c.loop-left.inv.1,
+          c.loop-left.invariant.0 _ _ _ c.loop-left.invariant.1,
     ))
 
 overflow_sub-left : tie.Need-overflow_sub-left invariant-loop-left decreases-loop-left
@@ -187,8 +187,8 @@ loop-left-smaller c = omega arith
 loop-left-preserved : tie.Need-loop-left-preserved invariant-loop-left decreases-loop-left
 loop-left-preserved c =
     (
-      c.loop-left.inv.0,
-      walk_turn _ _ _ _ _ c.loop-left.inv.0 _ _ _ c.loop-left.inv.1 c.loop-left-test.true
+      c.loop-left.invariant.0,
+      walk_turn _ _ _ _ _ c.loop-left.invariant.0 _ _ _ c.loop-left.invariant.1 c.loop-left-test.true
           c.if-work-n.false,
     )
 

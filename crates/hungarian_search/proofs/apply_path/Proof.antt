@@ -13,12 +13,12 @@ enum_told-1 : tie.Need-enum_told-1
 enum_told-1 c = c.in_default.keys2
 
 returns-in_default : tie.Need-returns-in_default
-returns-in_default c = rw c.enum_told-1.given.1 (apply_none _ _ _ _ _ _ _)
+returns-in_default c = rw c.in_default.is (apply_none _ _ _ _ _ _ _)
 
 flip-requires : tie.Need-flip-requires
 flip-requires c κs =
     let pre = c.requires in
-    (let y = pre.way _ _ _ (ap found_of c.end-1.given.1) in (y.0, (y.1, pre.few)))
+    (let y = pre.way _ _ _ (ap found_of c.in-Path.is) in (y.0, (y.1, pre.few)))
 
 raise-requires : tie.Need-raise-requires
 raise-requires c κs =
@@ -27,7 +27,7 @@ raise-requires c κs =
       (
         pre.room,
         raise_asks _ _ _ _ _ _ _ _ (pre) _ _ _ (ap found_of
-            c.end-1.given.1) _ c.flip.ensures,
+            c.in-Path.is) _ c.flip.ensures,
       ),
     )
 
@@ -41,7 +41,7 @@ shape_of-work : tie.Need-shape_of-work
 shape_of-work c = c.flip.auto.work
 
 returns : tie.Need-returns
-returns c = apply_along _ _ _ _ _ _ _ _ c.requires _ _ _ (ap found_of c.end-1.given.1) _
+returns c = apply_along _ _ _ _ _ _ _ _ c.requires _ _ _ (ap found_of c.in-Path.is) _
     c.flip.ensures _ c.raise.ensures
 
 pub apply_path_spec : {M : Type 1} → statement M

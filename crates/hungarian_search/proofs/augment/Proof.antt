@@ -6,31 +6,31 @@ use Rattle.hungarian_search.proofs.augment.Statement.{statement}
 use Rattle.hungarian_search.proofs.augment.Tie as tie
 
 search-done-requires : tie.Need-search-done-requires
-search-done-requires c κs = c.requires.fact_1
+search-done-requires c κs = c.requires.0
 
 apply_path-num-requires : tie.Need-apply_path-num-requires
-apply_path-num-requires c κs = apply_asks _ _ _ _ _ _ _ _ c.requires.fact_1 _ _ _ _ c.search-done.ensures _
-    c.requires.fact_2
-    (rw c.requires.fact_2
-    (ended_room _ _ _ _ _ _ _ _ c.requires.fact_1 _ _ _ _ c.search-done.ensures).3)
+apply_path-num-requires c κs = apply_asks _ _ _ _ _ _ _ _ c.requires.0 _ _ _ _ c.search-done.ensures _
+    c.requires.1
+    (rw c.requires.1
+    (ended_room _ _ _ _ _ _ _ _ c.requires.0 _ _ _ _ c.search-done.ensures).3)
 
 reset-requires : tie.Need-reset-requires
-reset-requires c κs = reset_asks _ _ _ _ _ _ _ _ c.requires.fact_1 _ _ _ _ c.search-done.ensures _
-    c.requires.fact_2 _ _ _ c.apply_path-num.ensures c.apply_path-num.auto.work
+reset-requires c κs = reset_asks _ _ _ _ _ _ _ _ c.requires.0 _ _ _ _ c.search-done.ensures _
+    c.requires.1 _ _ _ c.apply_path-num.ensures c.apply_path-num.auto.work
     c.search-done.auto.pos
 
 search_ended-requires : tie.Need-search_ended-requires
 search_ended-requires c κs = (
-  (ended_room _ _ _ _ _ _ _ _ c.requires.fact_1 _ _ _ _ c.search-done.ensures).0,
+  (ended_room _ _ _ _ _ _ _ _ c.requires.0 _ _ _ _ c.search-done.ensures).0,
   (ended_room _ _ _ _ _ _ _ _
-      c.requires.fact_1 _ _ _ _ c.search-done.ensures).1,
+      c.requires.0 _ _ _ _ c.search-done.ensures).1,
 )
 
 rows_popped-popped-requires : tie.Need-rows_popped-popped-requires
 unfolding search_ended
 rows_popped-popped-requires c κs =
     rw c.search_ended.ensures
-    (ended_room _ _ _ _ _ _ _ _ c.requires.fact_1 _ _ _ _ c.search-done.ensures).4
+    (ended_room _ _ _ _ _ _ _ _ c.requires.0 _ _ _ _ c.search-done.ensures).4
 
 heap_seen-requires : tie.Need-heap_seen-requires
 heap_seen-requires c κs = tt
@@ -52,8 +52,8 @@ shape_of-d c = c.reset.auto.d ∙ c.search-done.auto.d
 
 returns : tie.Need-returns
 returns c = rw (c.heap_seen.ensures, c.rows_popped-popped.ensures, c.search_ended.ensures)
-    (augment_done _ _ _ _ _ _ _ _ c.requires.fact_1 _ _ _ _ c.search-done.ensures _
-    c.requires.fact_2 _ _ _ c.apply_path-num.ensures _ _
+    (augment_done _ _ _ _ _ _ _ _ c.requires.0 _ _ _ _ c.search-done.ensures _
+    c.requires.1 _ _ _ c.apply_path-num.ensures _ _
     c.search-done.auto.pos c.reset.ensures)
 
 pub augment_spec : {M : Type 1} → statement M

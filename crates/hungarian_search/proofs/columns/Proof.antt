@@ -29,15 +29,15 @@ offset_bounds-work-n : tie.Need-offset_bounds-work-n invariant-loop-j decreases-
 offset_bounds-work-n c = omega (arith, c.loop-j.invariant.0.setting.few_columns)
 
 bounds-work-n : tie.Need-bounds-work-n invariant-loop-j decreases-loop-j
-bounds-work-n c = omega (arith, c.loop-j-test.true, c.loop-j.inv.0.size)
+bounds-work-n c = omega (arith, c.loop-j-test.true, c.loop-j.invariant.0.size)
 
 augment-s-requires : tie.Need-augment-s-requires invariant-loop-j decreases-loop-j
 augment-s-requires c κs =
-    let stands = c.loop-j.inv.0 in
-    (search_asks _ _ _ _ _ _ _ _ stands c.loop-j-test.taken c.if-work-n.taken, stands.number)
+    let stands = c.loop-j.invariant.0 in
+    (search_asks _ _ _ _ _ _ _ _ stands c.loop-j-test.true c.if-work-n.true, stands.number)
 
 overflow_step-j : tie.Need-overflow_step-j invariant-loop-j decreases-loop-j
-overflow_step-j c = omega (arith, c.loop-j.inv.0.setting.few_columns)
+overflow_step-j c = omega (arith, c.loop-j.invariant.0.setting.few_columns)
 
 loop-j-smaller : tie.Need-loop-j-smaller invariant-loop-j decreases-loop-j
 loop-j-smaller c = omega arith
@@ -45,7 +45,7 @@ loop-j-smaller c = omega arith
 -- after a search x .6 is what `augment` leaves; the last six of x, in either case, say which slices and counts go on
 loop-j-preserved : tie.Need-loop-j-preserved invariant-loop-j decreases-loop-j
 loop-j-preserved c =
-    let I = c.loop-j.inv in
+    let I = c.loop-j.invariant in
     let below = c.loop-j-test.true in
     ⊎_elim (λ x. rw (x.17, x.18, x.19, x.20, x.21, x.22) (
       column_searched _ _ _ _ _ _ _ _ I.0 below x.0.taken _ _ _ _ _ _ x.6.kept.1.1.1.1.1.0 x.6.kept.1.1.1.1.1.1.0

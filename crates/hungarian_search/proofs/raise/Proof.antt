@@ -12,7 +12,7 @@ abbrev decreases-loop-p : tie.decreases-loop-p
 decreases-loop-p n u₀ work d popped csp p₀ u p = popped - p
 
 loop-p-init : tie.Need-loop-p-init invariant-loop-p decreases-loop-p
-loop-p-init c = raise_start _ _ _ _ _ _ c.requires.fact_1 c.requires.fact_2
+loop-p-init c = raise_start _ _ _ _ _ _ c.requires.0 c.requires.1.0
 
 overflow_mul-i : tie.Need-overflow_mul-i invariant-loop-p decreases-loop-p
 overflow_mul-i c = omega arith
@@ -27,30 +27,30 @@ bounds-work-n : tie.Need-bounds-work-n invariant-loop-p decreases-loop-p
 bounds-work-n c = omega arith
 
 overflow_cast-i : tie.Need-overflow_cast-i invariant-loop-p decreases-loop-p
-overflow_cast-i c = omega (arith, c.requires.fact_3 c.loop-p.p c.loop-p-test.true, c.loop-p.invariant.long)
+overflow_cast-i c = omega (arith, c.requires.1.1 c.loop-p.p c.loop-p-test.true, c.loop-p.invariant.long)
 
 offset_bounds-u-i : tie.Need-offset_bounds-u-i invariant-loop-p decreases-loop-p
-offset_bounds-u-i c = omega (arith, c.requires.fact_3 c.loop-p.p c.loop-p-test.true, c.loop-p.invariant.long)
+offset_bounds-u-i c = omega (arith, c.requires.1.1 c.loop-p.p c.loop-p-test.true, c.loop-p.invariant.long)
 
 bounds-u-i : tie.Need-bounds-u-i invariant-loop-p decreases-loop-p
 bounds-u-i c =
-    omega (arith, c.requires.fact_3 c.loop-p.p c.loop-p-test.true, c.loop-p.inv.long)
+    omega (arith, c.requires.1.1 c.loop-p.p c.loop-p-test.true, c.loop-p.invariant.long)
 
 offset_bounds-d-i : tie.Need-offset_bounds-d-i invariant-loop-p decreases-loop-p
 offset_bounds-d-i c =
-    omega (arith, c.requires.fact_3 c.loop-p.p c.loop-p-test.true, c.loop-p.inv.long)
+    omega (arith, c.requires.1.1 c.loop-p.p c.loop-p-test.true, c.loop-p.invariant.long)
 
 bounds-d-i : tie.Need-bounds-d-i invariant-loop-p decreases-loop-p
 bounds-d-i c =
-    omega (arith, c.requires.fact_3 c.loop-p.p c.loop-p-test.true, c.loop-p.inv.long)
+    omega (arith, c.requires.1.1 c.loop-p.p c.loop-p-test.true, c.loop-p.invariant.long)
 
 offset_bounds-u-i-in-loop-p : tie.Need-offset_bounds-u-i-in-loop-p invariant-loop-p decreases-loop-p
 offset_bounds-u-i-in-loop-p c =
-    omega (arith, c.requires.fact_3 c.loop-p.p c.loop-p-test.true, c.loop-p.inv.long)
+    omega (arith, c.requires.1.1 c.loop-p.p c.loop-p-test.true, c.loop-p.invariant.long)
 
 bounds-u-i-in-loop-p : tie.Need-bounds-u-i-in-loop-p invariant-loop-p decreases-loop-p
 bounds-u-i-in-loop-p c =
-    omega (arith, c.requires.fact_3 c.loop-p.p c.loop-p-test.true, c.loop-p.inv.long)
+    omega (arith, c.requires.1.1 c.loop-p.p c.loop-p-test.true, c.loop-p.invariant.long)
 
 overflow_add-p : tie.Need-overflow_add-p invariant-loop-p decreases-loop-p
 overflow_add-p c = omega arith
@@ -61,13 +61,13 @@ loop-p-smaller c = omega arith
 loop-p-preserved : tie.Need-loop-p-preserved invariant-loop-p decreases-loop-p
 loop-p-preserved c =
     let pre = c.requires in
-    raise_turn _ _ _ _ _ _ pre.fact_1 pre.fact_2 _ _ c.loop-p.invariant c.loop-p-test.true
+    raise_turn _ _ _ _ _ _ pre.0 pre.1.0 _ _ c.loop-p.invariant c.loop-p-test.true
 
 shape_of-u : tie.Need-shape_of-u invariant-loop-p decreases-loop-p
 shape_of-u c = c.loop-p.invariant.long
 
 returns : tie.Need-returns invariant-loop-p decreases-loop-p
-returns c = raise_end _ _ _ _ _ _ c.requires.fact_1 c.requires.fact_2 _ _ c.loop-p.invariant c.loop-p-test.false
+returns c = raise_end _ _ _ _ _ _ c.requires.0 c.requires.1.0 _ _ c.loop-p.invariant c.loop-p-test.false
 
 pub raise_spec : {M : Type 1} → statement M
 raise_spec =

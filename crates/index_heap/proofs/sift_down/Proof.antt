@@ -20,16 +20,16 @@ ranges : (c : tie.At-loop-p invariant-loop-p decreases-loop-p) →
     let n = length c.args.pos.now in
     (1 ≤ c.loop-p.p) × (c.loop-p.p ≤ c.args.len) × (length c.loop-p.heap ≡ n + 1) × (length c.loop-p.pos ≡ n)
     × (length c.loop-p.keys ≡ n) × (n < 2 ^ 32)
-ranges c = sinking_ranges _ _ _ _ _ _ _ c.requires.fact_4 _ _ _ _ c.loop-p.invariant
+ranges c = sinking_ranges _ _ _ _ _ _ _ c.requires.1.1.1 _ _ _ _ c.loop-p.invariant
 
 child : (c : tie.After-chosen-child invariant-loop-p decreases-loop-p) →
     (2 * c.loop-p.p ≤ c.chosen-child.result) × (c.chosen-child.result ≤ c.args.len)
     × (get_or c.loop-p.heap c.chosen-child.result 0 < length c.args.pos.now)
 child c =
-    child_row _ _ _ _ _ _ _ c.requires.fact_4 _ _ _ _ c.loop-p.inv _ c.chosen-child.ensures c.loop-p-test.true
+    child_row _ _ _ _ _ _ _ c.requires.1.1.1 _ _ _ _ c.loop-p.invariant _ c.chosen-child.ensures c.loop-p-test.true
 
 loop-p-init : tie.Need-loop-p-init invariant-loop-p decreases-loop-p
-loop-p-init c = sinking_start _ _ _ _ _ _ _ c.requires.fact_4 c.requires.fact_1 c.requires.fact_3
+loop-p-init c = sinking_start _ _ _ _ _ _ _ c.requires.1.1.1 c.requires.0 c.requires.1.1.0
 
 overflow_mul-p : tie.Need-overflow_mul-p invariant-loop-p decreases-loop-p
 overflow_mul-p c = omega (arith, ranges c, c.requires)
@@ -104,7 +104,7 @@ loop-p-smaller : tie.Need-loop-p-smaller invariant-loop-p decreases-loop-p
 loop-p-smaller c = omega (arith, ranges c.before.before.before.before.before.before.before, child c.before.before.before)
 
 loop-p-preserved : tie.Need-loop-p-preserved invariant-loop-p decreases-loop-p
-loop-p-preserved c = sinking_turn _ _ _ _ _ _ _ c.requires.fact_4 _ _ _ _ c.loop-p.invariant _
+loop-p-preserved c = sinking_turn _ _ _ _ _ _ _ c.requires.1.1.1 _ _ _ _ c.loop-p.invariant _
     c.chosen-child.ensures c.loop-p-test.true c.if-x-below.false
 
 overflow_cast-heap-2 : tie.Need-overflow_cast-heap-2 invariant-loop-p decreases-loop-p
@@ -135,16 +135,16 @@ bounds-keys-p-2 : tie.Need-bounds-keys-p-2 invariant-loop-p decreases-loop-p
 bounds-keys-p-2 c = omega (arith, ranges c.before, c.requires)
 
 shape_of-heap : tie.Need-shape_of-heap invariant-loop-p decreases-loop-p
-shape_of-heap c = simp length-set (c.loop-p.invariant.ready.places ∙ sym c.requires.fact_1.places)
+shape_of-heap c = simp length-set (c.loop-p.invariant.ready.places ∙ sym c.requires.0.places)
 
 shape_of-pos : tie.Need-shape_of-pos invariant-loop-p decreases-loop-p
 shape_of-pos c = simp length-set c.loop-p.invariant.ready.room
 
 shape_of-keys : tie.Need-shape_of-keys invariant-loop-p decreases-loop-p
-shape_of-keys c = simp length-set (c.loop-p.invariant.ready.keyed ∙ sym c.requires.fact_1.keyed)
+shape_of-keys c = simp length-set (c.loop-p.invariant.ready.keyed ∙ sym c.requires.0.keyed)
 
 returns : tie.Need-returns invariant-loop-p decreases-loop-p
-returns c = (let short = c.requires.fact_4 in ⊎_elim (λ t. sinking_end _ _ _ _ _ _ _ short _ _ _ _ c.loop-p.invariant t.left)
+returns c = (let short = c.requires.1.1.1 in ⊎_elim (λ t. sinking_end _ _ _ _ _ _ _ short _ _ _ _ c.loop-p.invariant t.left)
     (λ t. sinking_stop _ _ _ _ _ _ _ short _ _ _ _ c.loop-p.invariant _ t.3.ensures t.0.taken t.5.taken) c.loop-p-test.branch)
 
 pub sift_down_spec : {M : Type 1} → statement M

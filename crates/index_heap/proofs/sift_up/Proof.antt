@@ -19,13 +19,13 @@ decreases-loop-p heap₀ pos₀ keys₀ i x place p₀ heap pos keys p = p
 ranges : (c : tie.At-loop-p invariant-loop-p decreases-loop-p) →
     let n = length c.args.pos.now in
     (c.loop-p.p ≤ n) × (length c.loop-p.heap ≡ n + 1) × (length c.loop-p.pos ≡ n) × (length c.loop-p.keys ≡ n) × (n < 2 ^ 32)
-ranges c = rising_ranges _ _ _ _ _ _ _ c.requires.fact_4 _ _ _ _ c.loop-p.invariant
+ranges c = rising_ranges _ _ _ _ _ _ _ c.requires.1.1.1 _ _ _ _ c.loop-p.invariant
 
 parent_in : (c : tie.In-loop-p invariant-loop-p decreases-loop-p) → get_or c.loop-p.heap (c.loop-p.p / 2) 0 < length c.args.pos.now
-parent_in c = parent_row _ _ _ _ _ _ _ c.requires.fact_4 _ _ _ _ c.loop-p.invariant c.loop-p-test.true
+parent_in c = parent_row _ _ _ _ _ _ _ c.requires.1.1.1 _ _ _ _ c.loop-p.invariant c.loop-p-test.true
 
 loop-p-init : tie.Need-loop-p-init invariant-loop-p decreases-loop-p
-loop-p-init c = rising_start _ _ _ _ _ _ _ c.requires.fact_4 c.requires.fact_1 c.requires.fact_3
+loop-p-init c = rising_start _ _ _ _ _ _ _ c.requires.1.1.1 c.requires.0 c.requires.1.1.0
 
 overflow_sub-above : tie.Need-overflow_sub-above invariant-loop-p decreases-loop-p
 overflow_sub-above c = omega arith
@@ -76,7 +76,7 @@ loop-p-smaller : tie.Need-loop-p-smaller invariant-loop-p decreases-loop-p
 loop-p-smaller c = omega arith
 
 loop-p-preserved : tie.Need-loop-p-preserved invariant-loop-p decreases-loop-p
-loop-p-preserved c = rising_turn _ _ _ _ _ _ _ c.requires.fact_4 _ _ _ _ c.loop-p.invariant
+loop-p-preserved c = rising_turn _ _ _ _ _ _ _ c.requires.1.1.1 _ _ _ _ c.loop-p.invariant
     c.loop-p-test.true c.if-x-above.false
 
 overflow_cast-heap-2 : tie.Need-overflow_cast-heap-2 invariant-loop-p decreases-loop-p
@@ -107,16 +107,16 @@ bounds-keys-p-2 : tie.Need-bounds-keys-p-2 invariant-loop-p decreases-loop-p
 bounds-keys-p-2 c = omega (arith, ranges c.before, c.loop-p.invariant.positive)
 
 shape_of-heap : tie.Need-shape_of-heap invariant-loop-p decreases-loop-p
-shape_of-heap c = simp length-set (c.loop-p.invariant.ready.places ∙ sym c.requires.fact_1.places)
+shape_of-heap c = simp length-set (c.loop-p.invariant.ready.places ∙ sym c.requires.0.places)
 
 shape_of-pos : tie.Need-shape_of-pos invariant-loop-p decreases-loop-p
 shape_of-pos c = simp length-set c.loop-p.invariant.ready.room
 
 shape_of-keys : tie.Need-shape_of-keys invariant-loop-p decreases-loop-p
-shape_of-keys c = simp length-set (c.loop-p.invariant.ready.keyed ∙ sym c.requires.fact_1.keyed)
+shape_of-keys c = simp length-set (c.loop-p.invariant.ready.keyed ∙ sym c.requires.0.keyed)
 
 returns : tie.Need-returns invariant-loop-p decreases-loop-p
-returns c = rising_end _ _ _ _ _ _ _ c.requires.fact_4 _ _ _ _ c.loop-p.invariant
+returns c = rising_end _ _ _ _ _ _ _ c.requires.1.1.1 _ _ _ _ c.loop-p.invariant
     (⊎_elim (λ t. inl t.left) (λ t. inr t.2.taken) c.loop-p-test.branch)
 
 pub sift_up_spec : {M : Type 1} → statement M

@@ -21,10 +21,10 @@ shape_of-factors-then-fault-ne-ACCEPTED c = search rules
 returns-then-fault-ne-ACCEPTED : tie.Need-returns-then-fault-ne-ACCEPTED
 returns-then-fault-ne-ACCEPTED c =
     let args = c.args in
-    infnorm_promised (matrix args.n args.col-ptr.now args.row-idx.now args.values.now) args.factors.now args.work.now
+    infnorm_promised (matrix args.n args.col_ptr.now args.row_idx.now args.values.now) args.factors.now args.work.now
     (refused_is c.if-fault-ne-ACCEPTED.true)
-    (infnorm_refused (matrix args.n args.col-ptr.now args.row-idx.now args.values.now) args.factors.now
-    args.work.now (infnorm_fault_lem (matrix args.n args.col-ptr.now args.row-idx.now args.values.now)
+    (infnorm_refused (matrix args.n args.col_ptr.now args.row_idx.now args.values.now) args.factors.now
+    args.work.now (infnorm_fault_lem (matrix args.n args.col_ptr.now args.row_idx.now args.values.now)
     args.factors.now args.work.now c.input_fault-fault.ensures c.lengths_fit-lengths.ensures)
     c.if-fault-ne-ACCEPTED.true)
 
@@ -35,20 +35,20 @@ iterate-requires : tie.Need-iterate-requires
 iterate-requires c κs =
     let args = c.args in
     (
-      matrix_accepted (matrix args.n args.col-ptr.now args.row-idx.now args.values.now)
-          (infnorm_lengths (matrix args.n args.col-ptr.now args.row-idx.now args.values.now) args.factors.now
-          args.work.now) (sym (infnorm_fault_lem (matrix args.n args.col-ptr.now args.row-idx.now args.values.now)
+      matrix_accepted (matrix args.n args.col_ptr.now args.row_idx.now args.values.now)
+          (infnorm_lengths (matrix args.n args.col_ptr.now args.row_idx.now args.values.now) args.factors.now
+          args.work.now) (sym (infnorm_fault_lem (matrix args.n args.col_ptr.now args.row_idx.now args.values.now)
           args.factors.now args.work.now c.input_fault-fault.ensures c.lengths_fit-lengths.ensures) ∙
-          c.if-fault-ne-ACCEPTED.left),
+          c.if-fault-ne-ACCEPTED.false),
       (
         c.fill.auto.list ∙ (infnorm_room
-            (matrix args.n args.col-ptr.now args.row-idx.now args.values.now) args.factors.now args.work.now
-            (sym (infnorm_fault_lem (matrix args.n args.col-ptr.now args.row-idx.now args.values.now) args.factors.now
-            args.work.now c.input_fault-fault.ensures c.lengths_fit-lengths.ensures) ∙ c.if-fault-ne-ACCEPTED.left)).0,
-        (infnorm_room (matrix args.n args.col-ptr.now args.row-idx.now args.values.now) args.factors.now
-            args.work.now (sym (infnorm_fault_lem (matrix args.n args.col-ptr.now args.row-idx.now args.values.now)
+            (matrix args.n args.col_ptr.now args.row_idx.now args.values.now) args.factors.now args.work.now
+            (sym (infnorm_fault_lem (matrix args.n args.col_ptr.now args.row_idx.now args.values.now) args.factors.now
+            args.work.now c.input_fault-fault.ensures c.lengths_fit-lengths.ensures) ∙ c.if-fault-ne-ACCEPTED.false)).0,
+        (infnorm_room (matrix args.n args.col_ptr.now args.row_idx.now args.values.now) args.factors.now
+            args.work.now (sym (infnorm_fault_lem (matrix args.n args.col_ptr.now args.row_idx.now args.values.now)
             args.factors.now args.work.now c.input_fault-fault.ensures c.lengths_fit-lengths.ensures) ∙
-            c.if-fault-ne-ACCEPTED.left)).1,
+            c.if-fault-ne-ACCEPTED.false)).1,
       ),
     )
 
@@ -64,12 +64,12 @@ shape_of-work c = search rules
 returns : tie.Need-returns
 returns c =
     let args = c.args in
-    infnorm_promised (matrix args.n args.col-ptr.now args.row-idx.now args.values.now) args.factors.now args.work.now (accepted_is refl)
-    (infnorm_done (matrix args.n args.col-ptr.now args.row-idx.now args.values.now) args.factors.now
-    args.work.now (sym (infnorm_fault_lem (matrix args.n args.col-ptr.now args.row-idx.now args.values.now)
+    infnorm_promised (matrix args.n args.col_ptr.now args.row_idx.now args.values.now) args.factors.now args.work.now (accepted_is refl)
+    (infnorm_done (matrix args.n args.col_ptr.now args.row_idx.now args.values.now) args.factors.now
+    args.work.now (sym (infnorm_fault_lem (matrix args.n args.col_ptr.now args.row_idx.now args.values.now)
     args.factors.now args.work.now c.input_fault-fault.ensures
-    c.lengths_fit-lengths.ensures) ∙ c.if-fault-ne-ACCEPTED.left)
-    c.fill.ensures c.iterate.ensures c.iterate.kept.1.1.1.1.1.0
+    c.lengths_fit-lengths.ensures) ∙ c.if-fault-ne-ACCEPTED.false)
+    c.fill.ensures c.iterate.ensures c.iterate.auto.work
     c.fill-2.ensures)
 
 pub compute_infnorm_spec : {M : Type 1} → statement M

@@ -22,22 +22,22 @@ shape_of-factors-then-fault-ne-ACCEPTED c = search rules
 returns-then-fault-ne-ACCEPTED : tie.Need-returns-then-fault-ne-ACCEPTED
 returns-then-fault-ne-ACCEPTED c =
     let args = c.args in
-    onepass_promised (matrix args.n args.col-ptr.now args.row-idx.now args.values.now) args.factors.now (refused_is c.if-fault-ne-ACCEPTED.true)
-    (onepass_refused (matrix args.n args.col-ptr.now args.row-idx.now args.values.now) args.factors.now
-    (onepass_fault_lem (matrix args.n args.col-ptr.now args.row-idx.now args.values.now) args.factors.now
+    onepass_promised (matrix args.n args.col_ptr.now args.row_idx.now args.values.now) args.factors.now (refused_is c.if-fault-ne-ACCEPTED.true)
+    (onepass_refused (matrix args.n args.col_ptr.now args.row_idx.now args.values.now) args.factors.now
+    (onepass_fault_lem (matrix args.n args.col_ptr.now args.row_idx.now args.values.now) args.factors.now
     c.input_fault-fault.ensures c.lengths_fit-lengths.ensures) c.if-fault-ne-ACCEPTED.true)
 
 value_maxima-requires : tie.Need-value_maxima-requires
 value_maxima-requires c κs =
     let args = c.args in
     (
-      matrix_accepted (matrix args.n args.col-ptr.now args.row-idx.now args.values.now)
-          (lengths_fit (matrix args.n args.col-ptr.now args.row-idx.now args.values.now) args.factors.now)
-          (sym (onepass_fault_lem (matrix args.n args.col-ptr.now args.row-idx.now args.values.now) args.factors.now
+      matrix_accepted (matrix args.n args.col_ptr.now args.row_idx.now args.values.now)
+          (lengths_fit (matrix args.n args.col_ptr.now args.row_idx.now args.values.now) args.factors.now)
+          (sym (onepass_fault_lem (matrix args.n args.col_ptr.now args.row_idx.now args.values.now) args.factors.now
           c.input_fault-fault.ensures c.lengths_fit-lengths.ensures) ∙ c.if-fault-ne-ACCEPTED.false),
       onepass_room
-          (matrix args.n args.col-ptr.now args.row-idx.now args.values.now) args.factors.now
-          (sym (onepass_fault_lem (matrix args.n args.col-ptr.now args.row-idx.now args.values.now) args.factors.now
+          (matrix args.n args.col_ptr.now args.row_idx.now args.values.now) args.factors.now
+          (sym (onepass_fault_lem (matrix args.n args.col_ptr.now args.row_idx.now args.values.now) args.factors.now
           c.input_fault-fault.ensures c.lengths_fit-lengths.ensures) ∙ c.if-fault-ne-ACCEPTED.false),
     )
 
@@ -50,9 +50,9 @@ shape_of-factors c = search rules
 returns : tie.Need-returns
 returns c =
     let args = c.args in
-    onepass_promised (matrix args.n args.col-ptr.now args.row-idx.now args.values.now) args.factors.now (accepted_is refl)
-    (onepass_done (matrix args.n args.col-ptr.now args.row-idx.now args.values.now) args.factors.now
-    (sym (onepass_fault_lem (matrix args.n args.col-ptr.now args.row-idx.now args.values.now) args.factors.now
+    onepass_promised (matrix args.n args.col_ptr.now args.row_idx.now args.values.now) args.factors.now (accepted_is refl)
+    (onepass_done (matrix args.n args.col_ptr.now args.row_idx.now args.values.now) args.factors.now
+    (sym (onepass_fault_lem (matrix args.n args.col_ptr.now args.row_idx.now args.values.now) args.factors.now
     c.input_fault-fault.ensures
     c.lengths_fit-lengths.ensures) ∙
     c.if-fault-ne-ACCEPTED.false)

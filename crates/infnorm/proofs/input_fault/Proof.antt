@@ -23,7 +23,7 @@ number_of-requires c κs = search rules
 returns : tie.Need-returns
 unfolding input_fault
 returns c = answer_second c.size_fault-sizes.ensures c.if-sizes-ne-ACCEPTED.false
-    (number_told c.number_of.ensures c.validate.ensures.answer)
+    (number_told c.number_of.ensures c.validate.ensures.0)
 
 pub input_fault_spec : {M : Type 1} → statement M
 input_fault_spec =

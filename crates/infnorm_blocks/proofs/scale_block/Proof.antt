@@ -25,7 +25,7 @@ loop-i-init c = (
   omega arith,
   omega arith,
   refl,
-  c.requires.roots,
+  c.requires.1,
   λ j h. refl,
   rows_to (record { come = λ d u. u }) (omega arith),
 )
@@ -68,10 +68,10 @@ loop-i-preserved c =
       omega arith,
       omega arith,
       omega arith,
-      simp length-set loop.inv.3,
-      loop.inv.4,
-      λ j h. get_or-set_other loop.maxima _ j _ nan (λ e. let z : ⊥ = omega arith in z) ∙ loop.inv.5 j (omega arith),
-      rows_to (rows_next loop.inv.6 (omega arith) c.inv_sqrt_scale_guarded.ensures) (omega arith),
+      simp length-set loop.invariant.3,
+      loop.invariant.4,
+      λ j h. get_or-set_other loop.maxima _ j _ nan (λ e. let z : ⊥ = omega arith in z) ∙ loop.invariant.5 j (omega arith),
+      rows_to (rows_next loop.invariant.6 (omega arith) c.inv_sqrt_scale_guarded.ensures) (omega arith),
     )
 
 shape_of-maxima : tie.Need-shape_of-maxima invariant-loop-i decreases-loop-i

@@ -48,8 +48,8 @@ loop-i-preserved c =
     let loop = c.loop-i in (
       omega arith,
       omega arith,
-      simp length-set loop.inv.2,
-      rows_next loop.inv.3 (omega arith) c.inv_sqrt_scale_guarded.ensures,
+      simp length-set loop.invariant.2,
+      rows_next loop.invariant.3 (omega arith) c.inv_sqrt_scale_guarded.ensures,
     )
 
 shape_of-maxima : tie.Need-shape_of-maxima invariant-loop-i decreases-loop-i

@@ -36,24 +36,24 @@ slice_bounds-scale_block-end c =
 scale_block-requires : tie.Need-scale_block-requires invariant-loop-maxima decreases-loop-maxima
 scale_block-requires c κs =
     let loop = c.loop-maxima in (
-      (omega (arith, c.loop-maxima-test.true, loop.inv.2.same), c.roots_of.auto.roots ∙ loop.inv.1),
+      (omega (arith, c.loop-maxima-test.true, loop.invariant.2.same), c.roots_of.auto.roots ∙ loop.invariant.1),
       c.roots_of.ensures,
     )
 
 overflow_add-from : tie.Need-overflow_add-from invariant-loop-maxima decreases-loop-maxima
 overflow_add-from c =
-    omega (arith, c.loop-maxima-test.taken, c.loop-maxima.inv.2.same)
+    omega (arith, c.loop-maxima-test.true, c.loop-maxima.invariant.2.same)
 
 loop-maxima-smaller : tie.Need-loop-maxima-smaller invariant-loop-maxima decreases-loop-maxima
 loop-maxima-smaller c =
-    omega (arith, c.loop-maxima-test.taken, c.loop-maxima.inv.2.same)
+    omega (arith, c.loop-maxima-test.true, c.loop-maxima.invariant.2.same)
 
 loop-maxima-preserved : tie.Need-loop-maxima-preserved invariant-loop-maxima decreases-loop-maxima
 loop-maxima-preserved c =
     let loop = c.loop-maxima in (
-      omega (arith, c.loop-maxima-test.taken, loop.inv.2.same),
-      c.roots_of.kept.1.1.0 ∙ loop.inv.1,
-      c.scale_block.ensures.come _ loop.inv.2,
+      omega (arith, c.loop-maxima-test.true, loop.invariant.2.same),
+      c.roots_of.auto.roots ∙ loop.invariant.1,
+      c.scale_block.ensures.come _ loop.invariant.2,
     )
 
 scale_rest-requires : tie.Need-scale_rest-requires invariant-loop-maxima decreases-loop-maxima
@@ -66,7 +66,7 @@ shape_of-maxima c =
 returns : tie.Need-returns invariant-loop-maxima decreases-loop-maxima
 returns c =
     let loop = c.loop-maxima in
-    front_end (c.scale_rest.ensures.come _ loop.inv.2) (omega (arith, loop.inv.2.same))
+    front_end (c.scale_rest.ensures.come _ loop.invariant.2) (omega (arith, loop.invariant.2.same))
 
 pub scale_rows_spec : {M : Type 1} → statement M
 scale_rows_spec =

@@ -27,11 +27,11 @@ loop-j-init c =
     let args = c.args in
     let pre = c.requires in (
       omega arith,
-      c.fill.auto.list ∙ pre.factors_len.1,
+      c.fill.auto.list ∙ pre.1.1,
       maxima_start
-          (scaled_sizes args.row-idx.now args.values.now args.factors.now)
-          (matrix args.n args.col-ptr.now args.row-idx.now args.values.now)
-          (c.fill.ensures ∙ ap (λ (k : ℕ). replicate k Constants.zero) pre.factors_len.1),
+          (scaled_sizes args.row_idx.now args.values.now args.factors.now)
+          (matrix args.n args.col_ptr.now args.row_idx.now args.values.now)
+          (c.fill.ensures ∙ ap (λ (k : ℕ). replicate k Constants.zero) pre.1.1),
     )
 
 offset_bounds-col_ptr-j : tie.Need-offset_bounds-col_ptr-j invariant-loop-j decreases-loop-j
@@ -39,8 +39,8 @@ offset_bounds-col_ptr-j c =
     let args = c.args in
     omega (
       arith,
-      pointers_fit c.loop-j.j (matrix args.n args.col-ptr.now args.row-idx.now args.values.now)
-          c.requires.accepted c.loop-j-test.true,
+      pointers_fit c.loop-j.j (matrix args.n args.col_ptr.now args.row_idx.now args.values.now)
+          c.requires.0 c.loop-j-test.true,
     )
 
 bounds-col_ptr-j : tie.Need-bounds-col_ptr-j invariant-loop-j decreases-loop-j
@@ -48,8 +48,8 @@ bounds-col_ptr-j c =
     let args = c.args in
     omega (
       arith,
-      pointers_fit c.loop-j.j (matrix args.n args.col-ptr.now args.row-idx.now args.values.now)
-          c.requires.accepted c.loop-j-test.true,
+      pointers_fit c.loop-j.j (matrix args.n args.col_ptr.now args.row_idx.now args.values.now)
+          c.requires.0 c.loop-j-test.true,
     )
 
 overflow_cast-from : tie.Need-overflow_cast-from invariant-loop-j decreases-loop-j
@@ -57,8 +57,8 @@ overflow_cast-from c =
     let args = c.args in
     omega (
       arith,
-      pointers_fit c.loop-j.j (matrix args.n args.col-ptr.now args.row-idx.now args.values.now)
-          c.requires.accepted c.loop-j-test.true,
+      pointers_fit c.loop-j.j (matrix args.n args.col_ptr.now args.row_idx.now args.values.now)
+          c.requires.0 c.loop-j-test.true,
     )
 
 overflow_add-to : tie.Need-overflow_add-to invariant-loop-j decreases-loop-j
@@ -66,8 +66,8 @@ overflow_add-to c =
     let args = c.args in
     omega (
       arith,
-      pointers_fit c.loop-j.j (matrix args.n args.col-ptr.now args.row-idx.now args.values.now)
-          c.requires.accepted c.loop-j-test.true,
+      pointers_fit c.loop-j.j (matrix args.n args.col_ptr.now args.row_idx.now args.values.now)
+          c.requires.0 c.loop-j-test.true,
     )
 
 offset_bounds-col_ptr-j-in-loop-j : tie.Need-offset_bounds-col_ptr-j-in-loop-j invariant-loop-j decreases-loop-j
@@ -75,8 +75,8 @@ offset_bounds-col_ptr-j-in-loop-j c =
     let args = c.args in
     omega (
       arith,
-      pointers_fit c.loop-j.j (matrix args.n args.col-ptr.now args.row-idx.now args.values.now)
-          c.requires.accepted c.loop-j-test.true,
+      pointers_fit c.loop-j.j (matrix args.n args.col_ptr.now args.row_idx.now args.values.now)
+          c.requires.0 c.loop-j-test.true,
     )
 
 bounds-col_ptr-j-in-loop-j : tie.Need-bounds-col_ptr-j-in-loop-j invariant-loop-j decreases-loop-j
@@ -85,7 +85,7 @@ bounds-col_ptr-j-in-loop-j c =
     omega (
       arith,
       pointers_fit c.loop-j.j
-          (matrix args.n args.col-ptr.now args.row-idx.now args.values.now) c.requires.accepted
+          (matrix args.n args.col_ptr.now args.row_idx.now args.values.now) c.requires.0
           c.loop-j-test.true,
     )
 
@@ -95,7 +95,7 @@ overflow_cast-to c =
     omega (
       arith,
       pointers_fit c.loop-j.j
-          (matrix args.n args.col-ptr.now args.row-idx.now args.values.now) c.requires.accepted
+          (matrix args.n args.col_ptr.now args.row_idx.now args.values.now) c.requires.0
           c.loop-j-test.true,
     )
 
@@ -105,9 +105,9 @@ scan_column-requires c κs =
     let pre = c.requires in
     (
       column_stretch c.loop-j.j (length c.loop-j.work)
-          (matrix args.n args.col-ptr.now args.row-idx.now args.values.now) pre.accepted c.loop-j.inv.1
+          (matrix args.n args.col_ptr.now args.row_idx.now args.values.now) pre.0 c.loop-j.invariant.1
           c.loop-j-test.true,
-      omega (arith, pre.factors_len.0, c.loop-j.inv.1),
+      omega (arith, pre.1.0, c.loop-j.invariant.1),
     )
 
 overflow_step-j : tie.Need-overflow_step-j invariant-loop-j decreases-loop-j
@@ -121,22 +121,22 @@ loop-j-preserved c =
     let args = c.args in
     (
       omega (arith, c.loop-j-test.true),
-      c.scan_column.auto.work ∙ c.loop-j.inv.1,
+      c.scan_column.auto.work ∙ c.loop-j.invariant.1,
       walk_next
-          (scaled_sizes args.row-idx.now args.values.now args.factors.now)
-          (matrix args.n args.col-ptr.now args.row-idx.now args.values.now) args.n c.loop-j.j c.loop-j.work
-          c.loop-j.inv.2 c.loop-j-test.true
+          (scaled_sizes args.row_idx.now args.values.now args.factors.now)
+          (matrix args.n args.col_ptr.now args.row_idx.now args.values.now) args.n c.loop-j.j c.loop-j.work
+          c.loop-j.invariant.2 c.loop-j-test.true
           c.scan_column.ensures,
     )
 
 shape_of-work : tie.Need-shape_of-work invariant-loop-j decreases-loop-j
-shape_of-work c = omega (arith, c.loop-j.invariant.1, c.requires.factors_len.1)
+shape_of-work c = omega (arith, c.loop-j.invariant.1, c.requires.1.1)
 
 returns : tie.Need-returns invariant-loop-j decreases-loop-j
 returns c =
     let args = c.args in
-    walk_end (scaled_sizes args.row-idx.now args.values.now args.factors.now)
-    (matrix args.n args.col-ptr.now args.row-idx.now args.values.now) args.n c.loop-j.j
+    walk_end (scaled_sizes args.row_idx.now args.values.now args.factors.now)
+    (matrix args.n args.col_ptr.now args.row_idx.now args.values.now) args.n c.loop-j.j
     c.loop-j.work c.loop-j.invariant.2 (omega arith)
 
 pub row_maxima_spec : {M : Type 1} → statement M

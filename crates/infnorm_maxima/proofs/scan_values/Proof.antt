@@ -20,12 +20,12 @@ decreases-loop-k j from to rows values maxima₀ top₀ k₀ maxima top k = to -
 
 -- place k is stored, and its row has a maximum
 facts : (c : tie.In-loop-k invariant-loop-k decreases-loop-k) → (c.loop-k.k < length
-    c.args.row-idx.now) ×
-    (get_or c.args.row-idx.now c.loop-k.k 0 < length
+    c.args.row_idx.now) ×
+    (get_or c.args.row_idx.now c.loop-k.k 0 < length
     c.loop-k.maxima)
 facts c =
     let s = c.requires in
-    let h : c.loop-k.k < length c.args.row-idx.now = le_trans c.loop-k-test.true s.within in
+    let h : c.loop-k.k < length c.args.row_idx.now = le_trans c.loop-k-test.true s.within in
     (h, rw c.loop-k.invariant.2 (s.inside c.loop-k.k h))
 
 offset_bounds-maxima-j : tie.Need-offset_bounds-maxima-j invariant-loop-k decreases-loop-k
@@ -41,7 +41,7 @@ loop-k-init c = (
   refl,
   scan_start
       (own_sizes c.args.values.now c.args.j)
-      c.args.row-idx.now c.args.j
+      c.args.row_idx.now c.args.j
       c.args.from c.args.to
       c.args.maxima.now,
 )
@@ -72,7 +72,7 @@ bounds-maxima-i c = omega (
   arith,
   facts c.before.before.before.before,
   c.requires.stored,
-  c.loop-k.inv.2,
+  c.loop-k.invariant.2,
 )
 
 larger-requires : tie.Need-larger-requires invariant-loop-k decreases-loop-k
@@ -89,7 +89,7 @@ larger-top-requires c κs = tt
 
 overflow_step-k : tie.Need-overflow_step-k invariant-loop-k decreases-loop-k
 overflow_step-k c =
-    omega (arith, c.loop-k-test.taken, facts (c.before.before.before.before.before.before))
+    omega (arith, c.loop-k-test.true, facts (c.before.before.before.before.before.before))
 
 loop-k-smaller : tie.Need-loop-k-smaller invariant-loop-k decreases-loop-k
 loop-k-smaller c = omega (arith, c.loop-k-test.true)
@@ -99,12 +99,12 @@ loop-k-preserved c =
     let args = c.args in
     (
       omega arith,
-      omega (arith, c.loop-k-test.taken),
-      simp length-set c.loop-k.inv.2,
+      omega (arith, c.loop-k-test.true),
+      simp length-set c.loop-k.invariant.2,
       scan_next
-          (own_sizes args.values.now args.j) args.row-idx.now args.j args.to c.loop-k.k c.loop-k.maxima
-          c.loop-k.top c.loop-k.inv.3 c.loop-k-test.taken (facts (c.before.before.before.before.before.before)).1
-          (omega (arith, c.loop-k.inv.2, c.requires.column))
+          (own_sizes args.values.now args.j) args.row_idx.now args.j args.to c.loop-k.k c.loop-k.maxima
+          c.loop-k.top c.loop-k.invariant.3 c.loop-k-test.true (facts (c.before.before.before.before.before.before)).1
+          (omega (arith, c.loop-k.invariant.2, c.requires.column))
           c.size_of-size.ensures c.larger.ensures c.larger-top.ensures,
     )
 
@@ -120,7 +120,7 @@ shape_of-maxima c = simp length-set c.loop-k.invariant.2
 returns : tie.Need-returns invariant-loop-k decreases-loop-k
 returns c =
     let args = c.args in
-    scan_end (own_sizes args.values.now args.j) args.row-idx.now args.j args.to c.loop-k.k c.loop-k.maxima
+    scan_end (own_sizes args.values.now args.j) args.row_idx.now args.j args.to c.loop-k.k c.loop-k.maxima
     c.loop-k.top c.loop-k.invariant.3 (omega arith)
 
 pub scan_values_spec : {M : Type 1} → statement M

@@ -26,10 +26,10 @@ loop-j-init c =
     let args = c.args in
     let pre = c.requires in (
       omega arith,
-      c.fill.auto.list ∙ pre.maxima_len,
+      c.fill.auto.list ∙ pre.1,
       maxima_start (own_sizes args.values.now)
-          (matrix args.n args.col-ptr.now args.row-idx.now args.values.now)
-          (c.fill.ensures ∙ ap (λ (k : ℕ). replicate k Constants.zero) pre.maxima_len),
+          (matrix args.n args.col_ptr.now args.row_idx.now args.values.now)
+          (c.fill.ensures ∙ ap (λ (k : ℕ). replicate k Constants.zero) pre.1),
     )
 
 offset_bounds-col_ptr-j : tie.Need-offset_bounds-col_ptr-j invariant-loop-j decreases-loop-j
@@ -37,8 +37,8 @@ offset_bounds-col_ptr-j c =
     let args = c.args in
     omega (
       arith,
-      pointers_fit c.loop-j.j (matrix args.n args.col-ptr.now args.row-idx.now args.values.now)
-          c.requires.accepted c.loop-j-test.true,
+      pointers_fit c.loop-j.j (matrix args.n args.col_ptr.now args.row_idx.now args.values.now)
+          c.requires.0 c.loop-j-test.true,
     )
 
 bounds-col_ptr-j : tie.Need-bounds-col_ptr-j invariant-loop-j decreases-loop-j
@@ -46,8 +46,8 @@ bounds-col_ptr-j c =
     let args = c.args in
     omega (
       arith,
-      pointers_fit c.loop-j.j (matrix args.n args.col-ptr.now args.row-idx.now args.values.now)
-          c.requires.accepted c.loop-j-test.true,
+      pointers_fit c.loop-j.j (matrix args.n args.col_ptr.now args.row_idx.now args.values.now)
+          c.requires.0 c.loop-j-test.true,
     )
 
 overflow_cast-from : tie.Need-overflow_cast-from invariant-loop-j decreases-loop-j
@@ -55,8 +55,8 @@ overflow_cast-from c =
     let args = c.args in
     omega (
       arith,
-      pointers_fit c.loop-j.j (matrix args.n args.col-ptr.now args.row-idx.now args.values.now)
-          c.requires.accepted c.loop-j-test.true,
+      pointers_fit c.loop-j.j (matrix args.n args.col_ptr.now args.row_idx.now args.values.now)
+          c.requires.0 c.loop-j-test.true,
     )
 
 overflow_add-to : tie.Need-overflow_add-to invariant-loop-j decreases-loop-j
@@ -64,8 +64,8 @@ overflow_add-to c =
     let args = c.args in
     omega (
       arith,
-      pointers_fit c.loop-j.j (matrix args.n args.col-ptr.now args.row-idx.now args.values.now)
-          c.requires.accepted c.loop-j-test.true,
+      pointers_fit c.loop-j.j (matrix args.n args.col_ptr.now args.row_idx.now args.values.now)
+          c.requires.0 c.loop-j-test.true,
     )
 
 offset_bounds-col_ptr-j-in-loop-j : tie.Need-offset_bounds-col_ptr-j-in-loop-j invariant-loop-j decreases-loop-j
@@ -73,8 +73,8 @@ offset_bounds-col_ptr-j-in-loop-j c =
     let args = c.args in
     omega (
       arith,
-      pointers_fit c.loop-j.j (matrix args.n args.col-ptr.now args.row-idx.now args.values.now)
-          c.requires.accepted c.loop-j-test.true,
+      pointers_fit c.loop-j.j (matrix args.n args.col_ptr.now args.row_idx.now args.values.now)
+          c.requires.0 c.loop-j-test.true,
     )
 
 bounds-col_ptr-j-in-loop-j : tie.Need-bounds-col_ptr-j-in-loop-j invariant-loop-j decreases-loop-j
@@ -83,7 +83,7 @@ bounds-col_ptr-j-in-loop-j c =
     omega (
       arith,
       pointers_fit c.loop-j.j
-          (matrix args.n args.col-ptr.now args.row-idx.now args.values.now) c.requires.accepted
+          (matrix args.n args.col_ptr.now args.row_idx.now args.values.now) c.requires.0
           c.loop-j-test.true,
     )
 
@@ -93,7 +93,7 @@ overflow_cast-to c =
     omega (
       arith,
       pointers_fit c.loop-j.j
-          (matrix args.n args.col-ptr.now args.row-idx.now args.values.now) c.requires.accepted
+          (matrix args.n args.col_ptr.now args.row_idx.now args.values.now) c.requires.0
           c.loop-j-test.true,
     )
 
@@ -101,8 +101,8 @@ scan_values-requires : tie.Need-scan_values-requires invariant-loop-j decreases-
 scan_values-requires c κs =
     let args = c.args in
     column_stretch c.loop-j.j (length c.loop-j.maxima)
-    (matrix args.n args.col-ptr.now args.row-idx.now args.values.now)
-    c.requires.accepted c.loop-j.inv.1 c.loop-j-test.true
+    (matrix args.n args.col_ptr.now args.row_idx.now args.values.now)
+    c.requires.0 c.loop-j.invariant.1 c.loop-j-test.true
 
 overflow_step-j : tie.Need-overflow_step-j invariant-loop-j decreases-loop-j
 overflow_step-j c = omega (arith, c.loop-j-test.true)
@@ -115,20 +115,20 @@ loop-j-preserved c =
     let args = c.args in
     (
       omega (arith, c.loop-j-test.true),
-      c.scan_values.auto.maxima ∙ c.loop-j.inv.1,
+      c.scan_values.auto.maxima ∙ c.loop-j.invariant.1,
       walk_next (own_sizes args.values.now)
-          (matrix args.n args.col-ptr.now args.row-idx.now args.values.now) args.n c.loop-j.j c.loop-j.maxima
-          c.loop-j.inv.2 c.loop-j-test.true
+          (matrix args.n args.col_ptr.now args.row_idx.now args.values.now) args.n c.loop-j.j c.loop-j.maxima
+          c.loop-j.invariant.2 c.loop-j-test.true
           c.scan_values.ensures,
     )
 
 shape_of-maxima : tie.Need-shape_of-maxima invariant-loop-j decreases-loop-j
-shape_of-maxima c = omega (arith, c.loop-j.invariant.1, c.requires.maxima_len)
+shape_of-maxima c = omega (arith, c.loop-j.invariant.1, c.requires.1)
 
 returns : tie.Need-returns invariant-loop-j decreases-loop-j
 returns c =
     let args = c.args in
-    walk_end (own_sizes args.values.now) (matrix args.n args.col-ptr.now args.row-idx.now args.values.now) args.n c.loop-j.j
+    walk_end (own_sizes args.values.now) (matrix args.n args.col_ptr.now args.row_idx.now args.values.now) args.n c.loop-j.j
     c.loop-j.maxima c.loop-j.invariant.2 (omega arith)
 
 pub value_maxima_spec : {M : Type 1} → statement M

@@ -1,4 +1,6 @@
 -- `iterate` meets its contract. The loop's invariant: all rounds are the rounds from here on.
+use mathlib.Core.Path.{ap}
+use mathlib.Core.Bool.{not}
 use mathlib.Core.Path.{◌≡◌, refl, sym, ◌∙◌}
 use Prim.Native.Nat.{◌≤◌, ◌-◌}
 use native.Mathlib.Omega.{arith}
@@ -18,28 +20,28 @@ abbrev decreases-loop-done : tie.decreases-loop-done
 decreases-loop-done n col_ptr rows values factors₀ work₀ done₀ factors work done = 10 - done
 
 loop-done-init : tie.Need-loop-done-init invariant-loop-done decreases-loop-done
-loop-done-init c = (omega arith, c.requires.factors_len.0, c.requires.factors_len.1, refl)
+loop-done-init c = (omega arith, c.requires.1.0, c.requires.1.1, refl)
 
 one_round-far-requires : tie.Need-one_round-far-requires invariant-loop-done decreases-loop-done
 one_round-far-requires c κs =
-    (c.requires.accepted, (c.loop-done.invariant.1, c.loop-done.invariant.2))
+    (c.requires.0, (c.loop-done.invariant.1, c.loop-done.invariant.2))
 
 shape_of-factors-then-not-far : tie.Need-shape_of-factors-then-not-far invariant-loop-done decreases-loop-done
 shape_of-factors-then-not-far c = c.one_round-far.auto.factors ∙
     c.loop-done.invariant.1 ∙ sym
-    c.requires.factors_len.0
+    c.requires.1.0
 
 shape_of-work-then-not-far : tie.Need-shape_of-work-then-not-far invariant-loop-done decreases-loop-done
 shape_of-work-then-not-far c = c.one_round-far.auto.work ∙
     c.loop-done.invariant.2 ∙ sym
-    c.requires.factors_len.1
+    c.requires.1.1
 
 returns-then-not-far : tie.Need-returns-then-not-far invariant-loop-done decreases-loop-done
 returns-then-not-far c =
     let args = c.args in
-    round_last (matrix args.n args.col-ptr.now args.row-idx.now args.values.now) 10 c.loop-done.done c.loop-done.factors
-    c.loop-done.inv.3 c.loop-done-test.true
-    c.one_round-far.ensures.0 c.one_round-far.ensures.1 c.if-not-far.true
+    round_last (matrix args.n args.col_ptr.now args.row_idx.now args.values.now) 10 c.loop-done.done c.loop-done.factors
+    c.loop-done.invariant.3 c.loop-done-test.true
+    c.one_round-far.ensures.0 c.one_round-far.ensures.1 c.if-not-far.true  
 
 overflow_add-done : tie.Need-overflow_add-done invariant-loop-done decreases-loop-done
 overflow_add-done c = omega (arith, c.loop-done-test.true)
@@ -51,25 +53,25 @@ loop-done-preserved : tie.Need-loop-done-preserved invariant-loop-done decreases
 loop-done-preserved c =
     let args = c.args in
     (
-      omega (arith, c.loop-done-test.taken),
+      omega (arith, c.loop-done-test.true),
       c.one_round-far.auto.factors ∙
-          c.loop-done.inv.1,
-      c.one_round-far.auto.work ∙ c.loop-done.inv.2,
-      round_next (matrix args.n args.col-ptr.now args.row-idx.now args.values.now) 10 c.loop-done.done
-          c.loop-done.factors c.loop-done.inv.3 c.loop-done-test.taken
-          c.one_round-far.ensures.0 c.one_round-far.ensures.1 c.if-not-far.false,
+          c.loop-done.invariant.1,
+      c.one_round-far.auto.work ∙ c.loop-done.invariant.2,
+      round_next (matrix args.n args.col_ptr.now args.row_idx.now args.values.now) 10 c.loop-done.done
+          c.loop-done.factors c.loop-done.invariant.3 c.loop-done-test.true
+          c.one_round-far.ensures.0 c.one_round-far.ensures.1 c.if-not-far.false  ,
     )
 
 shape_of-factors : tie.Need-shape_of-factors invariant-loop-done decreases-loop-done
-shape_of-factors c = c.loop-done.invariant.1 ∙ sym c.requires.factors_len.0
+shape_of-factors c = c.loop-done.invariant.1 ∙ sym c.requires.1.0
 
 shape_of-work : tie.Need-shape_of-work invariant-loop-done decreases-loop-done
-shape_of-work c = c.loop-done.invariant.2 ∙ sym c.requires.factors_len.1
+shape_of-work c = c.loop-done.invariant.2 ∙ sym c.requires.1.1
 
 returns : tie.Need-returns invariant-loop-done decreases-loop-done
 returns c =
     let args = c.args in
-    rounds_end (matrix args.n args.col-ptr.now args.row-idx.now args.values.now) 10 c.loop-done.done c.loop-done.factors
+    rounds_end (matrix args.n args.col_ptr.now args.row_idx.now args.values.now) 10 c.loop-done.done c.loop-done.factors
     c.loop-done.invariant.3 (omega arith)
 
 pub iterate_spec : {M : Type 1} → statement M

@@ -10,7 +10,7 @@ row_maxima-requires c κs = c.requires
 update_factors-requires : tie.Need-update_factors-requires
 update_factors-requires c κs =
     let pre = c.requires in
-    pre.factors_len.0 ∙ sym (c.row_maxima.auto.work ∙ pre.factors_len.1)
+    pre.1.0 ∙ sym (c.row_maxima.auto.work ∙ pre.1.1)
 
 shape_of-factors : tie.Need-shape_of-factors
 shape_of-factors c = c.update_factors.auto.factors

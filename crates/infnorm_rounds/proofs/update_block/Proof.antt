@@ -18,7 +18,7 @@ abbrev decreases-loop-i : tie.decreases-loop-i
 decreases-loop-i factors₀ work from roots i₀ factors i = 16 - i
 
 loop-i-init : tie.Need-loop-i-init invariant-loop-i decreases-loop-i
-loop-i-init c = (omega arith, omega arith, omega arith, omega arith, refl, c.requires.roots_len.1, updated_to not_yet (omega arith))
+loop-i-init c = (omega arith, omega arith, omega arith, omega arith, refl, c.requires.1.1, updated_to not_yet (omega arith))
 
 overflow_add-at : tie.Need-overflow_add-at invariant-loop-i decreases-loop-i
 overflow_add-at c = omega arith
@@ -64,9 +64,9 @@ loop-i-preserved c =
       omega arith,
       omega arith,
       omega arith,
-      simp length-set loop.inv.4,
-      loop.inv.5,
-      updated_to (updated_next loop.inv.6 (loop.inv.4 ∙ loop.inv.1) (omega arith) c.new_factor.ensures) (omega arith),
+      simp length-set loop.invariant.4,
+      loop.invariant.5,
+      updated_to (updated_next loop.invariant.6 (loop.invariant.4 ∙ loop.invariant.1) (omega arith) c.new_factor.ensures) (omega arith),
     )
 
 shape_of-factors : tie.Need-shape_of-factors invariant-loop-i decreases-loop-i

@@ -39,24 +39,24 @@ slice_bounds-update_block-end c =
 update_block-requires : tie.Need-update_block-requires invariant-loop-factors decreases-loop-factors
 update_block-requires c κs =
     let loop = c.loop-factors in (
-      (loop.inv.3.same ∙ loop.inv.1, omega (arith, c.loop-factors-test.true, loop.inv.3.same)),
-      (c.roots_of.auto.roots ∙ loop.inv.2, c.roots_of.ensures),
+      (loop.invariant.3.same ∙ loop.invariant.1, omega (arith, c.loop-factors-test.true, loop.invariant.3.same)),
+      (c.roots_of.auto.roots ∙ loop.invariant.2, c.roots_of.ensures),
     )
 
 overflow_add-from : tie.Need-overflow_add-from invariant-loop-factors decreases-loop-factors
 overflow_add-from c =
-    omega (arith, c.loop-factors-test.taken, c.loop-factors.inv.3.same)
+    omega (arith, c.loop-factors-test.true, c.loop-factors.invariant.3.same)
 
 loop-factors-smaller : tie.Need-loop-factors-smaller invariant-loop-factors decreases-loop-factors
 loop-factors-smaller c =
-    omega (arith, c.loop-factors-test.taken, c.loop-factors.inv.3.same)
+    omega (arith, c.loop-factors-test.true, c.loop-factors.invariant.3.same)
 
 loop-factors-preserved : tie.Need-loop-factors-preserved invariant-loop-factors decreases-loop-factors
 loop-factors-preserved c =
     let loop = c.loop-factors in (
-      omega (arith, c.loop-factors-test.taken, loop.inv.3.same),
+      omega (arith, c.loop-factors-test.true, loop.inv.3.same),
       loop.inv.1,
-      c.roots_of.kept.1.1.0 ∙ loop.inv.2,
+      c.roots_of.auto.roots ∙ loop.inv.2,
       c.update_block.ensures.come _ loop.inv.3,
     )
 
@@ -75,7 +75,7 @@ shape_of-factors c =
 returns : tie.Need-returns invariant-loop-factors decreases-loop-factors
 returns c =
     let loop = c.loop-factors in
-    (front_end (c.update_rest.ensures.come _ loop.inv.3) (omega arith), c.one_is_far.ensures)
+    (front_end (c.update_rest.ensures.come _ loop.invariant.3) (omega arith), c.one_is_far.ensures)
 
 pub update_factors_spec : {M : Type 1} → statement M
 update_factors_spec =

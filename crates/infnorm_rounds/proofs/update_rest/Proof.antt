@@ -56,8 +56,8 @@ loop-i-preserved c =
       omega arith,
       omega arith,
       omega arith,
-      simp length-set loop.inv.3,
-      updated_next loop.inv.4 (loop.inv.3 ∙ loop.inv.2) (omega arith) c.new_factor.ensures,
+      simp length-set loop.invariant.3,
+      updated_next loop.invariant.4 (loop.invariant.3 ∙ loop.invariant.2) (omega arith) c.new_factor.ensures,
     )
 
 shape_of-factors : tie.Need-shape_of-factors invariant-loop-i decreases-loop-i

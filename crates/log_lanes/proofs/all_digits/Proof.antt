@@ -17,7 +17,7 @@ abbrev decreases-loop-left : tie.decreases-loop-left
 decreases-loop-left leading₀ known₀ left₀ leading known left = left
 
 loop-left-init : tie.Need-loop-left-init invariant-loop-left decreases-loop-left
-loop-left-init c = (c.requires.wide, λ j h. lane_start _ _ (c.requires.every j h))
+loop-left-init c = (c.requires.0, λ j h. lane_start _ _ (c.requires.1 j h))
 
 next_digits-requires : tie.Need-next_digits-requires invariant-loop-left decreases-loop-left
 next_digits-requires c κs =
@@ -32,17 +32,17 @@ loop-left-smaller c = omega (arith, c.loop-left-test.true)
 
 loop-left-preserved : tie.Need-loop-left-preserved invariant-loop-left decreases-loop-left
 loop-left-preserved c =
-    let inv = c.loop-left.inv in
+    let inv = c.loop-left.invariant in
     let call = c.next_digits in (
       record { leadings = call.kept.0 ∙ inv.0.leadings; knowns = call.kept.1.0 ∙ inv.0.knowns },
-      λ j h. lane_turn _ _ _ _ _ _ _ (inv.1 j h) c.loop-left-test.taken (call.ensures j h).0 (call.ensures j h).1,
+      λ j h. lane_turn _ _ _ _ _ _ _ (inv.1 j h) c.loop-left-test.true (call.ensures j h).0 (call.ensures j h).1,
     )
 
 shape_of-leading : tie.Need-shape_of-leading invariant-loop-left decreases-loop-left
-shape_of-leading c = c.loop-left.invariant.0.leadings ∙ sym c.requires.wide.leadings
+shape_of-leading c = c.loop-left.invariant.0.leadings ∙ sym c.requires.0.leadings
 
 shape_of-known : tie.Need-shape_of-known invariant-loop-left decreases-loop-left
-shape_of-known c = c.loop-left.invariant.0.knowns ∙ sym c.requires.wide.knowns
+shape_of-known c = c.loop-left.invariant.0.knowns ∙ sym c.requires.0.knowns
 
 returns : tie.Need-returns invariant-loop-left decreases-loop-left
 returns c = λ j h. (stop 2099 _ _ _ _ _ (c.loop-left.invariant.1 j h) c.loop-left-test.false).0

@@ -29,21 +29,21 @@ inside : (c : tie.In-loop-i invariant-loop-i decreases-loop-i) → let l = c.loo
     let a = c.args in
     Inside (length a.values.now) a.from a.to (length l.leading) (length l.known) l.i
 inside c =
-    let pre = c.requires.block in
+    let pre = c.requires.0 in
     let inv = c.loop-i.invariant in
     record {
       low = inv.0;
       high = c.loop-i-test.true;
-      within = pre.block.within;
-      lane = omega (arith, inv.0, inv.1, c.loop-i-test.true, pre.block.lanes);
-      leadings = inv.2 ∙ pre.every.leadings;
-      knowns = inv.3 ∙ pre.every.knowns;
+      within = pre.0.within;
+      lane = omega (arith, inv.0, inv.1, c.loop-i-test.true, pre.0.lanes);
+      leadings = inv.2 ∙ pre.1.leadings;
+      knowns = inv.3 ∙ pre.1.knowns;
     }
 
 loop-i-init : tie.Need-loop-i-init invariant-loop-i decreases-loop-i
 loop-i-init c =
     let pre = c.requires in
-    (le_refl _, pre.block.0.up, refl, refl, λ j h. (pre.every j h, λ l. absurd (let z : ⊥ = omega arith in z)))
+    (le_refl _, pre.0.0.up, refl, refl, λ j h. (pre.1 j h, λ l. absurd (let z : ⊥ = omega arith in z)))
 
 offset_bounds-values-i : tie.Need-offset_bounds-values-i invariant-loop-i decreases-loop-i
 offset_bounds-values-i c = omega (arith, inside c)
@@ -82,7 +82,7 @@ loop-i-preserved : tie.Need-loop-i-preserved invariant-loop-i decreases-loop-i
 loop-i-preserved c =
     let a = c.args in
     let l = c.loop-i in
-    let inv = l.inv in
+    let inv = l.invariant in
     let lane = inside c.before.before in (
       omega (arith, lane),
       omega (arith, lane),

@@ -22,15 +22,15 @@ block_end-to-requires c κs = c.loop-from-test.true
 
 log_block-requires : tie.Need-log_block-requires invariant-loop-from decreases-loop-from
 log_block-requires c κs =
-    (c.block_end-to.ensures.1, omega (arith, c.loop-from.inv.1.same, c.requires))
+    (c.block_end-to.ensures.1, omega (arith, c.loop-from.invariant.1.same, c.requires))
 
 loop-from-smaller : tie.Need-loop-from-smaller invariant-loop-from decreases-loop-from
 loop-from-smaller c =
-    omega (arith, c.block_end-to.ensures.0, c.block_end-to.ensures.1.within, c.loop-from-test.taken)
+    omega (arith, c.block_end-to.ensures.0, c.block_end-to.ensures.1.within, c.loop-from-test.true)
 
 loop-from-preserved : tie.Need-loop-from-preserved invariant-loop-from decreases-loop-from
 loop-from-preserved c =
-    (c.block_end-to.ensures.1.within, c.log_block.ensures _ c.loop-from.inv.1)
+    (c.block_end-to.ensures.1.within, c.log_block.ensures _ c.loop-from.invariant.1)
 
 shape_of-words : tie.Need-shape_of-words invariant-loop-from decreases-loop-from
 shape_of-words c = c.loop-from.invariant.1.same

@@ -23,7 +23,7 @@ record Inside (leading known i : ℕ) : Type 0 where
 
 inside : (c : tie.In-loop-i invariant-loop-i decreases-loop-i) → let l = c.loop-i in Inside (length l.leading) (length l.known) l.i
 inside c =
-    let wide = c.requires.wide in record {
+    let wide = c.requires.0 in record {
       below = c.loop-i-test.true;
       leadings = c.loop-i.invariant.1 ∙ wide.leadings;
       knowns = c.loop-i.invariant.2 ∙ wide.knowns;
@@ -49,7 +49,7 @@ next_digit-lane-requires c κs =
     let a = c.args in
     let l = c.loop-i in
     pass_here a.leading.now a.known.now l.leading l.known l.i
-    c.loop-i-test.true c.loop-i.invariant.3 c.requires.every
+    c.loop-i-test.true c.loop-i.invariant.3 c.requires.1
 
 offset_bounds-leading-i-in-loop-i : tie.Need-offset_bounds-leading-i-in-loop-i invariant-loop-i decreases-loop-i
 offset_bounds-leading-i-in-loop-i c = omega (arith, inside c.before.before.before)
@@ -73,7 +73,7 @@ loop-i-preserved : tie.Need-loop-i-preserved invariant-loop-i decreases-loop-i
 loop-i-preserved c =
     let a = c.args in
     let l = c.loop-i in
-    let inv = l.inv in
+    let inv = l.invariant in
     let lane = inside c.before.before.before in (
       omega (arith, lane),
       simp length-set inv.1,

@@ -23,8 +23,8 @@ loop-k-init c = let a = c.args in let p = c.requires in (
   omega (arith, p.rises),
   p.within,
   p.costs,
-  every_begins (λ i. not (eqb (get_or a.row-idx.now i 0) a.row) || le (get_or a.cost.now i nan)
-      (add binary64 (get_or a.u.now (get_or a.row-idx.now i 0) nan) a.dual)) a.from a.to,
+  every_begins (λ i. not (eqb (get_or a.row_idx.now i 0) a.row) || le (get_or a.cost.now i nan)
+      (add binary64 (get_or a.u.now (get_or a.row_idx.now i 0) nan) a.dual)) a.from a.to,
 )
 
 offset_bounds-row_idx-k : tie.Need-offset_bounds-row_idx-k invariant-loop-k decreases-loop-k
@@ -67,15 +67,15 @@ loop-k-preserved c =
       omega arith,
       omega arith,
       omega arith,
-      l.inv.3,
-      every_goes_on (λ i. not (eqb (get_or a.row-idx.now i 0) a.row) || le (get_or a.cost.now i nan)
-          (add binary64 (get_or a.u.now (get_or a.row-idx.now i 0) nan) a.dual)) a.from a.to l.fine l.k (omega arith) l.inv.4,
+      l.invariant.3,
+      every_goes_on (λ i. not (eqb (get_or a.row_idx.now i 0) a.row) || le (get_or a.cost.now i nan)
+          (add binary64 (get_or a.u.now (get_or a.row_idx.now i 0) nan) a.dual)) a.from a.to l.fine l.k (omega arith) l.invariant.4,
     )
 
 returns : tie.Need-returns invariant-loop-k decreases-loop-k
 returns c = let a = c.args in let l = c.loop-k in
-    every_ends (λ i. not (eqb (get_or a.row-idx.now i 0) a.row) || le (get_or a.cost.now i nan)
-    (add binary64 (get_or a.u.now (get_or a.row-idx.now i 0) nan) a.dual)) a.from a.to l.fine l.k (omega arith) l.invariant.4
+    every_ends (λ i. not (eqb (get_or a.row_idx.now i 0) a.row) || le (get_or a.cost.now i nan)
+    (add binary64 (get_or a.u.now (get_or a.row_idx.now i 0) nan) a.dual)) a.from a.to l.fine l.k (omega arith) l.invariant.4
 
 pub column_reached_spec : {M : Type 1} → statement M
 column_reached_spec =

@@ -15,7 +15,7 @@ decreases-loop-k row row-idx from to found₀ k₀ found k = to - k
 
 loop-k-init : tie.Need-loop-k-init invariant-loop-k decreases-loop-k
 loop-k-init c = let a = c.args in let p = c.requires in
-    (omega arith, omega (arith, p), omega (arith, p), some_begins (λ i. eqb (get_or a.row-idx.now i 0) a.row) a.from a.to)
+    (omega arith, omega (arith, p), omega (arith, p), some_begins (λ i. eqb (get_or a.row_idx.now i 0) a.row) a.from a.to)
 
 offset_bounds-row_idx-k : tie.Need-offset_bounds-row_idx-k invariant-loop-k decreases-loop-k
 offset_bounds-row_idx-k c = omega arith
@@ -34,13 +34,13 @@ loop-k-preserved c = let a = c.args in let l = c.loop-k in (
   omega arith,
   omega arith,
   omega arith,
-  some_goes_on (λ i. eqb (get_or a.row-idx.now i 0) a.row) a.from a.to l.found l.k
+  some_goes_on (λ i. eqb (get_or a.row_idx.now i 0) a.row) a.from a.to l.found l.k
       (omega arith) l.invariant.3,
 )
 
 returns : tie.Need-returns invariant-loop-k decreases-loop-k
 returns c = let a = c.args in let l = c.loop-k in
-    some_ends (λ i. eqb (get_or a.row-idx.now i 0) a.row) a.from a.to l.found l.k (omega arith) l.invariant.3
+    some_ends (λ i. eqb (get_or a.row_idx.now i 0) a.row) a.from a.to l.found l.k (omega arith) l.invariant.3
 
 pub has_row_spec : {M : Type 1} → statement M
 has_row_spec =

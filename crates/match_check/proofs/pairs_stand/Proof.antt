@@ -20,43 +20,43 @@ decreases-loop-j n col-ptr row-idx perm fine₀ j₀ fine j = n - j
 
 loop-j-init : tie.Need-loop-j-init invariant-loop-j decreases-loop-j
 loop-j-init c = let a = c.args in
-    (omega arith, every_begins (pair_stands (pattern a.n a.col-ptr.now a.row-idx.now) a.perm.now) 0 a.n)
+    (omega arith, every_begins (pair_stands (pattern a.n a.col_ptr.now a.row_idx.now) a.perm.now) 0 a.n)
 
 offset_bounds-perm-j : tie.Need-offset_bounds-perm-j invariant-loop-j decreases-loop-j
 offset_bounds-perm-j c =
     let p = c.requires in
-    omega (arith, p.fact_1.few, p.fact_1.pointers, p.fact_2)
+    omega (arith, p.0.few, p.0.pointers, p.1)
 
 bounds-perm-j : tie.Need-bounds-perm-j invariant-loop-j decreases-loop-j
 bounds-perm-j c =
     let p = c.requires in
-    omega (arith, p.fact_1.few, p.fact_1.pointers, p.fact_2)
+    omega (arith, p.0.few, p.0.pointers, p.1)
 
 offset_bounds-col_ptr-j : tie.Need-offset_bounds-col_ptr-j invariant-loop-j decreases-loop-j
 offset_bounds-col_ptr-j c =
     let p = c.requires in
-    omega (arith, p.fact_1.few, p.fact_1.pointers, p.fact_2)
+    omega (arith, p.0.few, p.0.pointers, p.1)
 
 bounds-col_ptr-j : tie.Need-bounds-col_ptr-j invariant-loop-j decreases-loop-j
 bounds-col_ptr-j c =
     let p = c.requires in
-    omega (arith, p.fact_1.few, p.fact_1.pointers, p.fact_2)
+    omega (arith, p.0.few, p.0.pointers, p.1)
 
 overflow_cast-col_ptr : tie.Need-overflow_cast-col_ptr invariant-loop-j decreases-loop-j
 overflow_cast-col_ptr c = omega (arith, c.shared_slice_known-in-loop-j-2-1.given c.loop-j.j)
 
 overflow_add-j : tie.Need-overflow_add-j invariant-loop-j decreases-loop-j
-overflow_add-j c = omega (arith, c.requires.fact_1.few)
+overflow_add-j c = omega (arith, c.requires.0.few)
 
 offset_bounds-col_ptr-j-in-loop-j : tie.Need-offset_bounds-col_ptr-j-in-loop-j invariant-loop-j decreases-loop-j
 offset_bounds-col_ptr-j-in-loop-j c =
     let p = c.requires in
-    omega (arith, p.fact_1.few, p.fact_1.pointers, p.fact_2)
+    omega (arith, p.0.few, p.0.pointers, p.1)
 
 bounds-col_ptr-j-in-loop-j : tie.Need-bounds-col_ptr-j-in-loop-j invariant-loop-j decreases-loop-j
 bounds-col_ptr-j-in-loop-j c =
     let p = c.requires in
-    omega (arith, p.fact_1.few, p.fact_1.pointers, p.fact_2)
+    omega (arith, p.0.few, p.0.pointers, p.1)
 
 overflow_cast-col_ptr-in-loop-j : tie.Need-overflow_cast-col_ptr-in-loop-j invariant-loop-j decreases-loop-j
 overflow_cast-col_ptr-in-loop-j c = omega (arith, c.shared_slice_known-in-loop-j-3-1.given (c.loop-j.j + 1))
@@ -64,10 +64,10 @@ overflow_cast-col_ptr-in-loop-j c = omega (arith, c.shared_slice_known-in-loop-j
 has_row-fine-requires : tie.Need-has_row-fine-requires invariant-loop-j decreases-loop-j
 has_row-fine-requires c κs =
     let p = c.requires in
-    (rises p.fact_1 c.loop-j.j (omega arith), within p.fact_1 c.loop-j.j (omega arith))
+    (rises p.0 c.loop-j.j (omega arith), within p.0 c.loop-j.j (omega arith))
 
 overflow_step-j : tie.Need-overflow_step-j invariant-loop-j decreases-loop-j
-overflow_step-j c = omega (arith, c.requires.fact_1.few)
+overflow_step-j c = omega (arith, c.requires.0.few)
 
 loop-j-smaller : tie.Need-loop-j-smaller invariant-loop-j decreases-loop-j
 loop-j-smaller c = omega arith
@@ -76,17 +76,17 @@ loop-j-preserved : tie.Need-loop-j-preserved invariant-loop-j decreases-loop-j
 loop-j-preserved c =
     let a = c.args in
     let l = c.loop-j in
-    let test = pair_stands (pattern a.n a.col-ptr.now a.row-idx.now) a.perm.now in
-    let column = some_column a.col-ptr.now (λ k. eqb (get_or a.row-idx.now k 0) (get_or a.perm.now l.j 0)) l.j c.has_row-fine.ensures in (
+    let test = pair_stands (pattern a.n a.col_ptr.now a.row_idx.now) a.perm.now in
+    let column = some_column a.col_ptr.now (λ k. eqb (get_or a.row_idx.now k 0) (get_or a.perm.now l.j 0)) l.j c.has_row-fine.ensures in (
       omega arith,
       subst (λ (t : Bool). Every test 0 a.n (l.fine && t) (l.j + 1)) column
-          (every_goes_on test 0 a.n l.fine l.j (omega arith) l.inv.1),
+          (every_goes_on test 0 a.n l.fine l.j (omega arith) l.invariant.1),
     )
 
 returns : tie.Need-returns invariant-loop-j decreases-loop-j
 unfolding pairs_stand
 returns c = let a = c.args in let l = c.loop-j in
-    every_all (pair_stands (pattern a.n a.col-ptr.now a.row-idx.now) a.perm.now) a.n l.fine l.j (omega arith) l.invariant.1
+    every_all (pair_stands (pattern a.n a.col_ptr.now a.row_idx.now) a.perm.now) a.n l.fine l.j (omega arith) l.invariant.1
 
 pub pairs_stand_spec : {M : Type 1} → statement M
 pairs_stand_spec =

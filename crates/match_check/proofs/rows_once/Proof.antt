@@ -20,8 +20,8 @@ decreases-loop-j perm seen₀ fine₀ j₀ j-end seen fine j = length perm - j
 loop-j-init : tie.Need-loop-j-init invariant-loop-j decreases-loop-j
 loop-j-init c = let a = c.args in let p = c.requires in (
   omega arith,
-  ap length p.perm_len_bound.1 ∙ length-replicate {A = ℕ} 4096 0,
-  subst (Marked a.perm.now 0) (sym p.perm_len_bound.1)
+  ap length p.1.1 ∙ length-replicate {A = ℕ} 4096 0,
+  subst (Marked a.perm.now 0) (sym p.1.1)
       (marks_begin a.perm.now 4096),
   every_begins (row_fresh a.perm.now) 0 (length a.perm.now),
 )
@@ -38,12 +38,12 @@ overflow_cast-row c = omega (arith, c.shared_slice_known-1.given c.loop-j.j)
 bounds-seen-row : tie.Need-bounds-seen-row invariant-loop-j decreases-loop-j
 bounds-seen-row c =
     let p = c.requires in
-    omega (arith, row_in c.args.perm.now p.t p.perm_len_bound.0 c.loop-j.j (omega arith))
+    omega (arith, row_in c.args.perm.now p.0 p.1.0 c.loop-j.j (omega arith))
 
 bounds-seen-row-in-loop-j : tie.Need-bounds-seen-row-in-loop-j invariant-loop-j decreases-loop-j
 bounds-seen-row-in-loop-j c =
     let p = c.requires in
-    omega (arith, row_in c.args.perm.now p.t p.perm_len_bound.0 c.loop-j.j (omega arith))
+    omega (arith, row_in c.args.perm.now p.0 p.1.0 c.loop-j.j (omega arith))
 
 overflow_step-j : tie.Need-overflow_step-j invariant-loop-j decreases-loop-j
 overflow_step-j c = omega arith
@@ -56,18 +56,18 @@ loop-j-preserved c =
     let p = c.requires in
     let a = c.args in
     let l = c.loop-j in
-    let b : get_or a.perm.now l.j 0 < length l.seen = omega (arith, row_in a.perm.now p.t p.perm_len_bound.0 l.j (omega arith)) in
+    let b : get_or a.perm.now l.j 0 < length l.seen = omega (arith, row_in a.perm.now p.0 p.1.0 l.j (omega arith)) in
     let test = row_fresh a.perm.now in
-    let clear = clear_is a.perm.now l.j l.seen l.inv.2 (get_or a.perm.now l.j 0) b in (
+    let clear = clear_is a.perm.now l.j l.seen l.invariant.2 (get_or a.perm.now l.j 0) b in (
       omega arith,
-      length-set l.seen (get_or a.perm.now l.j 0) 1 ∙ l.inv.1,
-      marks_go_on a.perm.now l.j l.seen b l.inv.2,
+      length-set l.seen (get_or a.perm.now l.j 0) 1 ∙ l.invariant.1,
+      marks_go_on a.perm.now l.j l.seen b l.invariant.2,
       subst (λ (t : Bool). Every test 0 (length a.perm.now) (l.fine && t) (l.j + 1)) (sym clear)
-          (every_goes_on test 0 (length a.perm.now) l.fine l.j (omega arith) l.inv.3),
+          (every_goes_on test 0 (length a.perm.now) l.fine l.j (omega arith) l.invariant.3),
     )
 
 shape_of-seen : tie.Need-shape_of-seen invariant-loop-j decreases-loop-j
-shape_of-seen c = let p = c.requires in c.loop-j.invariant.1 ∙ sym (ap length p.perm_len_bound.1 ∙ length-replicate {A = ℕ} 4096 0)
+shape_of-seen c = let p = c.requires in c.loop-j.invariant.1 ∙ sym (ap length p.1.1 ∙ length-replicate {A = ℕ} 4096 0)
 
 returns : tie.Need-returns invariant-loop-j decreases-loop-j
 unfolding rows_once

@@ -17,7 +17,7 @@ abbrev decreases-loop-j : tie.decreases-loop-j
 decreases-loop-j n col-ptr row-idx cost perm u v fine₀ j₀ fine j = n - j
 
 loop-j-init : tie.Need-loop-j-init invariant-loop-j decreases-loop-j
-loop-j-init c = let a = c.args in let g = graph_of a.n a.col-ptr.now a.row-idx.now a.cost.now in let s =
+loop-j-init c = let a = c.args in let g = graph_of a.n a.col_ptr.now a.row_idx.now a.cost.now in let s =
     claim a.perm.now a.u.now a.v.now in
     (omega arith, every_begins (column_reached g s) 0 a.n)
 
@@ -85,18 +85,18 @@ loop-j-smaller c = omega arith
 
 loop-j-preserved : tie.Need-loop-j-preserved invariant-loop-j decreases-loop-j
 loop-j-preserved c = let a = c.args in let g =
-    graph_of a.n a.col-ptr.now a.row-idx.now a.cost.now in let s = claim a.perm.now a.u.now a.v.now in
+    graph_of a.n a.col_ptr.now a.row_idx.now a.cost.now in let s = claim a.perm.now a.u.now a.v.now in
     let l = c.loop-j in (
       omega arith,
       subst (λ (t : Bool). Every (column_reached g s) 0 a.n (l.fine && t) (l.j + 1))
-          (every_column a.col-ptr.now (sum_reached g s l.j) l.j c.column_reached-fine.ensures)
-          (every_goes_on (column_reached g s) 0 a.n l.fine l.j (omega arith) l.inv.1),
+          (every_column a.col_ptr.now (sum_reached g s l.j) l.j c.column_reached-fine.ensures)
+          (every_goes_on (column_reached g s) 0 a.n l.fine l.j (omega arith) l.invariant.1),
     )
 
 returns : tie.Need-returns invariant-loop-j decreases-loop-j
 unfolding sums_reached
 returns c = let a = c.args in let g =
-    graph_of a.n a.col-ptr.now a.row-idx.now a.cost.now in let s = claim a.perm.now a.u.now a.v.now in
+    graph_of a.n a.col_ptr.now a.row_idx.now a.cost.now in let s = claim a.perm.now a.u.now a.v.now in
     let l = c.loop-j in every_all (column_reached g s) a.n l.fine l.j (omega arith) l.invariant.1
 
 pub sums_reached_spec : {M : Type 1} → statement M

@@ -11,16 +11,16 @@ use Rattle.match_gap.proofs.lower_place.Statement.{statement}
 use Rattle.match_gap.proofs.lower_place.Tie as tie
 
 float_to_bits-bits : tie.Need-float_to_bits-bits
-float_to_bits-bits c = finite_no_nan c.args.x c.requires.fact_1.number.is_finite
+float_to_bits-bits c = finite_no_nan c.args.x c.requires.0.number.is_finite
 
 floor_steps-requires : tie.Need-floor_steps-requires
-floor_steps-requires c κs = measured_clear c.args.unit c.args.x c.requires.fact_1 c.requires.fact_2 c.if-bits-lt-SIGN.true
+floor_steps-requires c κs = measured_clear c.args.unit c.args.x c.requires.0 c.requires.1 c.if-bits-lt-SIGN.true
 
 overflow_add-result : tie.Need-overflow_add-result
 overflow_add-result c = search rules
 
 ceiling_steps-requires : tie.Need-ceiling_steps-requires
-ceiling_steps-requires c κs = measured_raised c.args.unit c.args.x c.requires.fact_1 c.requires.fact_2 c.if-bits-lt-SIGN.false
+ceiling_steps-requires c κs = measured_raised c.args.unit c.args.x c.requires.0 c.requires.1 c.if-bits-lt-SIGN.false
 
 overflow_sub-result : tie.Need-overflow_sub-result
 overflow_sub-result c = search rules
@@ -28,7 +28,7 @@ overflow_sub-result c = search rules
 returns-then-bits-lt-SIGN : tie.Need-returns-then-bits-lt-SIGN
 returns-then-bits-lt-SIGN c =
     (
-      ap (λ (r : ℕ). zero_step + r) c.floor_steps.ensures.0 ∙ lower_clear c.args.unit c.args.x c.requires.fact_1 c.requires.fact_2
+      ap (λ (r : ℕ). zero_step + r) c.floor_steps.ensures.0 ∙ lower_clear c.args.unit c.args.x c.requires.0 c.requires.1
           c.if-bits-lt-SIGN.true,
       omega (arith, c.floor_steps.ensures.1),
     )
@@ -36,7 +36,7 @@ returns-then-bits-lt-SIGN c =
 returns-else-bits-lt-SIGN : tie.Need-returns-else-bits-lt-SIGN
 returns-else-bits-lt-SIGN c =
     (
-      ap (λ (r : ℕ). zero_step - r) c.ceiling_steps.ensures.0 ∙ lower_raised c.args.unit c.args.x c.requires.fact_1 c.requires.fact_2
+      ap (λ (r : ℕ). zero_step - r) c.ceiling_steps.ensures.0 ∙ lower_raised c.args.unit c.args.x c.requires.0 c.requires.1
           c.if-bits-lt-SIGN.false,
       omega arith,
     )

@@ -14,14 +14,14 @@ decreases-loop-k row row-idx cost u dual unit from to high low excess₀ lack₀
 -- ---- places
 
 upper_place-high-requires : tie.Need-upper_place-high-requires invariant-loop-k decreases-loop-k
-upper_place-high-requires c κs = (c.requires.fact_2, c.requires.fact_1.units)
+upper_place-high-requires c κs = (c.requires.1, c.requires.0.units)
 
 lower_place-low-requires : tie.Need-lower_place-low-requires invariant-loop-k decreases-loop-k
-lower_place-low-requires c κs = (c.requires.fact_2, c.requires.fact_1.units)
+lower_place-low-requires c κs = (c.requires.1, c.requires.0.units)
 
 loop-k-init : tie.Need-loop-k-init invariant-loop-k decreases-loop-k
 loop-k-init c = let a = c.args in
-    scan_begins a.unit a.row a.row-idx.now a.cost.now a.u.now a.dual a.from a.to c.requires.fact_1.stretch.rises
+    scan_begins a.unit a.row a.row_idx.now a.cost.now a.u.now a.dual a.from a.to c.requires.0.stretch.rises
 
 offset_bounds-row_idx-k : tie.Need-offset_bounds-row_idx-k invariant-loop-k decreases-loop-k
 offset_bounds-row_idx-k c = omega arith
@@ -36,7 +36,7 @@ offset_bounds-u-i : tie.Need-offset_bounds-u-i invariant-loop-k decreases-loop-k
 offset_bounds-u-i c = omega (arith, c.shared_slice_known-in-loop-k-1.given c.loop-k.k)
 
 bounds-u-i : tie.Need-bounds-u-i invariant-loop-k decreases-loop-k
-bounds-u-i c = row_in c.requires.fact_1 c.loop-k.k c.loop-k-test.true
+bounds-u-i c = row_in c.requires.0 c.loop-k.k c.loop-k-test.true
 
 offset_bounds-cost-k : tie.Need-offset_bounds-cost-k invariant-loop-k decreases-loop-k
 offset_bounds-cost-k c = omega arith
@@ -46,8 +46,8 @@ bounds-cost-k c = omega arith
 
 excess_of-requires : tie.Need-excess_of-requires invariant-loop-k decreases-loop-k
 excess_of-requires c κs = (
-  dual_in c.requires.fact_1 c.loop-k.k c.loop-k-test.true,
-  (cost_in c.requires.fact_1 c.loop-k.k c.loop-k-test.true, (c.requires.fact_1.units, c.upper_place-high.ensures.1)),
+  dual_in c.requires.0 c.loop-k.k c.loop-k-test.true,
+  (cost_in c.requires.0 c.loop-k.k c.loop-k-test.true, (c.requires.0.units, c.upper_place-high.ensures.1)),
 )
 
 larger-excess-requires : tie.Need-larger-excess-requires invariant-loop-k decreases-loop-k
@@ -64,7 +64,7 @@ offset_bounds-u-i-in-loop-k c = omega (arith, c.shared_slice_known-in-loop-k-1.g
 
 bounds-u-i-in-loop-k : tie.Need-bounds-u-i-in-loop-k invariant-loop-k decreases-loop-k
 bounds-u-i-in-loop-k c = 
-    row_in c.requires.fact_1 c.loop-k.k c.loop-k-test.true
+    row_in c.requires.0 c.loop-k.k c.loop-k-test.true
 
 offset_bounds-cost-k-in-loop-k : tie.Need-offset_bounds-cost-k-in-loop-k invariant-loop-k decreases-loop-k
 offset_bounds-cost-k-in-loop-k c = omega arith
@@ -74,8 +74,8 @@ bounds-cost-k-in-loop-k c = omega arith
 
 pair_lack-requires : tie.Need-pair_lack-requires invariant-loop-k decreases-loop-k
 pair_lack-requires c κs = let t =
-    c.loop-k-test.taken in
-    (dual_in c.requires.fact_1 c.loop-k.k t, (cost_in c.requires.fact_1 c.loop-k.k t, (c.requires.fact_1.units, c.lower_place-low.ensures.1)))
+    c.loop-k-test.true in
+    (dual_in c.requires.0 c.loop-k.k t, (cost_in c.requires.0 c.loop-k.k t, (c.requires.0.units, c.lower_place-low.ensures.1)))
 
 larger-lack-requires : tie.Need-larger-lack-requires invariant-loop-k decreases-loop-k
 larger-lack-requires c κs = tt
@@ -89,12 +89,12 @@ loop-k-smaller c = omega arith
 loop-k-preserved : tie.Need-loop-k-preserved invariant-loop-k decreases-loop-k
 loop-k-preserved c =
     let a = c.args in
-    scan_goes_on a.unit a.row a.row-idx.now a.cost.now a.u.now a.dual a.from a.to c.loop-k.inv
-    c.loop-k-test.taken c.upper_place-high.ensures.0 c.lower_place-low.ensures.0
+    scan_goes_on a.unit a.row a.row_idx.now a.cost.now a.u.now a.dual a.from a.to c.loop-k.invariant
+    c.loop-k-test.true c.upper_place-high.ensures.0 c.lower_place-low.ensures.0
     c.excess_of.ensures c.pair_lack.ensures c.larger-excess.ensures c.larger-lack.ensures
 
 returns : tie.Need-returns invariant-loop-k decreases-loop-k
-returns c = let a = c.args in scan_ends a.unit a.row a.row-idx.now a.cost.now a.u.now a.dual
+returns c = let a = c.args in scan_ends a.unit a.row a.row_idx.now a.cost.now a.u.now a.dual
     a.from a.to c.loop-k-test.false c.loop-k.invariant
 
 pub scan_column_spec : {M : Type 1} → statement M

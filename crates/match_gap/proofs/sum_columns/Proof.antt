@@ -16,7 +16,7 @@ decreases-loop-j n col-ptr row-idx cost perm u v unit gap₀ j₀ gap j = n - j
 
 loop-j-init : tie.Need-loop-j-init invariant-loop-j decreases-loop-j
 loop-j-init c = let a = c.args in
-    sum_begins a.unit a.n a.col-ptr.now a.row-idx.now a.cost.now a.perm.now a.u.now a.v.now
+    sum_begins a.unit a.n a.col_ptr.now a.row_idx.now a.cost.now a.perm.now a.u.now a.v.now
 
 overflow_add-to : tie.Need-overflow_add-to invariant-loop-j decreases-loop-j
 overflow_add-to c = omega arith
@@ -60,7 +60,7 @@ overflow_add-gap c = record { fits = omega (arith, c.scan_column-column.ensures.
 
 overflow_add-gap-in-loop-j : tie.Need-overflow_add-gap-in-loop-j invariant-loop-j decreases-loop-j
 overflow_add-gap-in-loop-j c = 
-    record { fits = omega (arith, c.scan_column-column.ensures.few, c.loop-j.inv.few, c.loop-j.inv.below, c.requires.lists.pattern.few) }
+    record { fits = omega (arith, c.scan_column-column.ensures.few, c.loop-j.invariant.few, c.loop-j.invariant.below, c.requires.lists.pattern.few) }
 
 overflow_step-j : tie.Need-overflow_step-j invariant-loop-j decreases-loop-j
 overflow_step-j c = omega arith
@@ -70,12 +70,12 @@ loop-j-smaller c = omega arith
 
 loop-j-preserved : tie.Need-loop-j-preserved invariant-loop-j decreases-loop-j
 loop-j-preserved c = let a = c.args in
-    sum_goes_on a.unit a.n a.col-ptr.now a.row-idx.now a.cost.now a.perm.now a.u.now a.v.now c.loop-j.inv (omega arith)
+    sum_goes_on a.unit a.n a.col_ptr.now a.row_idx.now a.cost.now a.perm.now a.u.now a.v.now c.loop-j.invariant (omega arith)
     c.scan_column-column.ensures
 
 returns : tie.Need-returns invariant-loop-j decreases-loop-j
 returns c = let a = c.args in
-    sum_ends a.unit a.n a.col-ptr.now a.row-idx.now a.cost.now a.perm.now a.u.now a.v.now c.loop-j-test.false c.loop-j.invariant
+    sum_ends a.unit a.n a.col_ptr.now a.row_idx.now a.cost.now a.perm.now a.u.now a.v.now c.loop-j-test.false c.loop-j.invariant
 
 pub sum_columns_spec : {M : Type 1} → statement M
 sum_columns_spec =

@@ -39,7 +39,7 @@ loop-i-preserved : tie.Need-loop-i-preserved invariant-loop-i decreases-loop-i
 loop-i-preserved c = let a = c.args in let l = c.loop-i in (
   omega arith,
   every_goes_on (λ r. not (eqb (get_or a.met.now r 0) 1) || ltb (get_or a.inverse.now r 0) a.n) 0 a.n l.fine l.i
-      (omega arith) l.inv.1,
+      (omega arith) l.invariant.1,
 )
 
 returns : tie.Need-returns invariant-loop-i decreases-loop-i

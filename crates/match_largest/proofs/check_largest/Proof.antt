@@ -16,7 +16,7 @@ lengths_fit-lengths-requires c κs = search rules
 
 pattern_fault-shape-requires : tie.Need-pattern_fault-shape-requires
 pattern_fault-shape-requires c κs = let a = c.args in
-    pointers_fit a.n a.col-ptr.now a.row-idx.now a.perm.now (slices a.columns.now a.rows.now a.matched.now) c.lengths_fit-lengths.ensures
+    pointers_fit a.n a.col_ptr.now a.row_idx.now a.perm.now (slices a.columns.now a.rows.now a.matched.now) c.lengths_fit-lengths.ensures
 
 shape_of-columns-then-shape-ne-ACCEPTED : tie.Need-shape_of-columns-then-shape-ne-ACCEPTED
 shape_of-columns-then-shape-ne-ACCEPTED c = search rules
@@ -40,7 +40,7 @@ pairing_fault-fault-requires c κs =
       shape_is _ _ _ a.perm.now s c.lengths_fit-lengths.ensures c.pattern_fault-shape.ensures
           c.if-shape-ne-ACCEPTED.false,
       (
-        (fit _ _ a.row-idx.now _ s c.lengths_fit-lengths.ensures
+        (fit _ _ a.row_idx.now _ s c.lengths_fit-lengths.ensures
             c.pattern_fault-shape.ensures c.if-shape-ne-ACCEPTED.false).places,
         refl,
       ),
@@ -59,7 +59,7 @@ returns-then-fault-ne-ACCEPTED : tie.Need-returns-then-fault-ne-ACCEPTED
 returns-then-fault-ne-ACCEPTED c = all_promised _ _ _
     (by_pairing _ _ _ _ _ c.lengths_fit-lengths.ensures
     c.pattern_fault-shape.ensures c.if-shape-ne-ACCEPTED.false
-    c.pairing_fault-fault.ensures.result_value c.if-fault-ne-ACCEPTED.true)
+    c.pairing_fault-fault.ensures.0 c.if-fault-ne-ACCEPTED.true)
 
 slice_bounds-write_columns-end : tie.Need-slice_bounds-write_columns-end
 slice_bounds-write_columns-end c = search rules
@@ -68,12 +68,12 @@ write_columns-requires : tie.Need-write_columns-requires
 write_columns-requires c κs =
     let a = c.args in
     let s = slices a.columns.now a.rows.now a.matched.now in
-    let f = fit _ _ a.row-idx.now a.perm.now s c.lengths_fit-lengths.ensures
+    let f = fit _ _ a.row_idx.now a.perm.now s c.lengths_fit-lengths.ensures
     c.pattern_fault-shape.ensures c.if-shape-ne-ACCEPTED.false in (
-      (f.room.columns ∙ sym f.places, (c.pairing_fault-fault.ensures.fact c.if-fault-ne-ACCEPTED.false).marks),
+      (f.room.columns ∙ sym f.places, (c.pairing_fault-fault.ensures.1 c.if-fault-ne-ACCEPTED.false).marks),
       rows_below_lem _ _ _ _ s c.lengths_fit-lengths.ensures
           c.pattern_fault-shape.ensures
-          c.if-shape-ne-ACCEPTED.false c.pairing_fault-fault.ensures.result_value
+          c.if-shape-ne-ACCEPTED.false c.pairing_fault-fault.ensures.0
           c.if-fault-ne-ACCEPTED.false,
     )
 
@@ -84,7 +84,7 @@ write_rows-requires : tie.Need-write_rows-requires
 write_rows-requires c κs =
     let a = c.args in
     let s = slices a.columns.now a.rows.now a.matched.now in
-    let f = fit _ _ a.row-idx.now a.perm.now s
+    let f = fit _ _ a.row_idx.now a.perm.now s
     c.lengths_fit-lengths.ensures
     c.pattern_fault-shape.ensures
     c.if-shape-ne-ACCEPTED.false in
@@ -93,7 +93,7 @@ write_rows-requires c κs =
     c.pattern_fault-shape.ensures
     c.if-shape-ne-ACCEPTED.false in (
       omega (arith, f.room.rows, x.few),
-      (c.pairing_fault-fault.ensures.fact
+      (c.pairing_fault-fault.ensures.1
           c.if-fault-ne-ACCEPTED.false).marks,
     )
 
@@ -101,7 +101,7 @@ count_pairs-requires : tie.Need-count_pairs-requires
 count_pairs-requires c κs =
     let a = c.args in
     let s = slices a.columns.now a.rows.now a.matched.now in
-    let f = fit _ _ a.row-idx.now a.perm.now s
+    let f = fit _ _ a.row_idx.now a.perm.now s
     c.lengths_fit-lengths.ensures c.pattern_fault-shape.ensures c.if-shape-ne-ACCEPTED.false in
     let x = shape_is _ _ _ a.perm.now s
     c.lengths_fit-lengths.ensures c.pattern_fault-shape.ensures c.if-shape-ne-ACCEPTED.false in
@@ -111,7 +111,7 @@ bounds-matched-0 : tie.Need-bounds-matched-0
 bounds-matched-0 c =
     let a = c.args in
     let s = slices a.columns.now a.rows.now a.matched.now in
-    let f = fit _ _ a.row-idx.now a.perm.now s
+    let f = fit _ _ a.row_idx.now a.perm.now s
     c.lengths_fit-lengths.ensures c.pattern_fault-shape.ensures c.if-shape-ne-ACCEPTED.false in
     omega (arith, f.room.matched)
 
@@ -128,12 +128,12 @@ returns : tie.Need-returns
 returns c =
     let a = c.args in
     let s = slices a.columns.now a.rows.now a.matched.now in
-    let f = fit _ _ a.row-idx.now a.perm.now s
+    let f = fit _ _ a.row_idx.now a.perm.now s
     c.lengths_fit-lengths.ensures c.pattern_fault-shape.ensures c.if-shape-ne-ACCEPTED.false in
     all_promised _ _ s (found _ _ _ _ s
     c.lengths_fit-lengths.ensures c.pattern_fault-shape.ensures c.if-shape-ne-ACCEPTED.false
-    c.pairing_fault-fault.ensures.result_value c.if-fault-ne-ACCEPTED.false
-    (c.pairing_fault-fault.ensures.fact c.if-fault-ne-ACCEPTED.false)
+    c.pairing_fault-fault.ensures.0 c.if-fault-ne-ACCEPTED.false
+    (c.pairing_fault-fault.ensures.1 c.if-fault-ne-ACCEPTED.false)
     c.write_columns.ensures c.write_rows.ensures
     (only a.matched.now c.count_pairs.result f.room.matched ∙ ap (λ (m : ℕ). m ∷ []) c.count_pairs.ensures))
 

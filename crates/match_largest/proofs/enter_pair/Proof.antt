@@ -17,7 +17,7 @@ bounds-perm-j c = search rules
 
 returns-then-perm-j : tie.Need-returns-then-perm-j
 returns-then-perm-j c = let p = c.requires in let a = c.args in
-    enters_none p.j_lt_n_2 p.accepted_pattern_1.few p.j_lt_n_1 a.col-ptr.now a.row-idx.now c.if-perm-j.true
+    enters_none p.1.1.1 p.0.few p.1.1.0 a.col_ptr.now a.row_idx.now c.if-perm-j.true
 
 offset_bounds-perm-j-2 : tie.Need-offset_bounds-perm-j-2
 offset_bounds-perm-j-2 c = search rules
@@ -31,7 +31,7 @@ overflow_cast-row c = record { fits = omega (arith, c.shared_slice_known-5-1.giv
 returns-then-row-n : tie.Need-returns-then-row-n
 returns-then-row-n c = let p = c.requires in let a =
     c.args in
-    enters_beyond p.j_lt_n_2 p.accepted_pattern_1.few p.j_lt_n_1 a.col-ptr.now a.row-idx.now c.if-perm-j.false c.if-row-n.true
+    enters_beyond p.1.1.1 p.0.few p.1.1.0 a.col_ptr.now a.row_idx.now c.if-perm-j.false c.if-row-n.true
 
 offset_bounds-inverse-row : tie.Need-offset_bounds-inverse-row
 offset_bounds-inverse-row c = search rules
@@ -39,8 +39,8 @@ offset_bounds-inverse-row c = search rules
 bounds-inverse-row : tie.Need-bounds-inverse-row
 bounds-inverse-row c = omega (
   arith,
-  c.requires.accepted_pattern_1.few,
-  c.requires.j_lt_n_2.places,
+  c.requires.0.few,
+  c.requires.1.1.1.places,
 )
 
 overflow_cast-inverse : tie.Need-overflow_cast-inverse
@@ -57,7 +57,7 @@ overflow_cast-inverse c = record {
 returns-then-inverse-row : tie.Need-returns-then-inverse-row
 returns-then-inverse-row c = let p = c.requires in let a =
     c.args in
-    enters_twice p.j_lt_n_2 p.accepted_pattern_1.few p.j_lt_n_1 a.col-ptr.now a.row-idx.now c.if-perm-j.false
+    enters_twice p.1.1.1 p.0.few p.1.1.0 a.col_ptr.now a.row_idx.now c.if-perm-j.false
     c.if-row-n.false c.if-inverse-row.true
 
 overflow_cast-inverse-2 : tie.Need-overflow_cast-inverse-2
@@ -69,8 +69,8 @@ offset_bounds-inverse-row-2 c = search rules
 bounds-inverse-row-2 : tie.Need-bounds-inverse-row-2
 bounds-inverse-row-2 c = omega (
   arith,
-  c.requires.accepted_pattern_1.few,
-  c.requires.j_lt_n_2.places,
+  c.requires.0.few,
+  c.requires.1.1.1.places,
 )
 
 offset_bounds-perm-j-3 : tie.Need-offset_bounds-perm-j-3
@@ -112,8 +112,8 @@ overflow_cast-col_ptr-2 c = record {
 
 has_row-requires : tie.Need-has_row-requires
 has_row-requires c κs = let p = c.requires in (
-  rises p.accepted_pattern_1 c.args.j p.j_lt_n_1,
-  within p.accepted_pattern_1 c.args.j p.j_lt_n_1,
+  rises p.0 c.args.j p.1.1.0,
+  within p.0 c.args.j p.1.1.0,
 )
 
 shape_of-inverse : tie.Need-shape_of-inverse
@@ -122,7 +122,7 @@ shape_of-inverse c = search rules
 returns : tie.Need-returns
 returns c = let p = c.requires in let a =
     c.args in
-    enters_pair p.j_lt_n_2 p.accepted_pattern_1.few p.j_lt_n_1 a.col-ptr.now a.row-idx.now
+    enters_pair p.1.1.1 p.0.few p.1.1.0 a.col_ptr.now a.row_idx.now
     c.if-perm-j.false
     c.if-row-n.false c.if-inverse-row.false c.has_row.ensures
 

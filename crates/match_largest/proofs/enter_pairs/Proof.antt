@@ -23,16 +23,16 @@ decreases-loop-j n col-ptr row-idx perm inverse₀ fine₀ j₀ inverse fine j =
 loop-j-init : tie.Need-loop-j-init invariant-loop-j decreases-loop-j
 loop-j-init c = let a = c.args in let p = c.requires in (
   omega arith,
-  enter_begins a.n a.perm.now p.accepted_pattern_1.few p.inverse_value,
-  every_begins (pair_fits (pattern a.n a.col-ptr.now a.row-idx.now) a.perm.now) 0 a.n,
+  enter_begins a.n a.perm.now p.0.few p.1.1,
+  every_begins (pair_fits (pattern a.n a.col_ptr.now a.row_idx.now) a.perm.now) 0 a.n,
 )
 
 enter_pair-fine-requires : tie.Need-enter_pair-fine-requires invariant-loop-j decreases-loop-j
 enter_pair-fine-requires c κs = let p = c.requires in
-    (p.accepted_pattern_1, (p.accepted_pattern_2, (c.loop-j-test.true, c.loop-j.invariant.1)))
+    (p.0, (p.1.0, (c.loop-j-test.true, c.loop-j.invariant.1)))
 
 overflow_step-j : tie.Need-overflow_step-j invariant-loop-j decreases-loop-j
-overflow_step-j c = omega (arith, c.requires.accepted_pattern_1.few)
+overflow_step-j c = omega (arith, c.requires.0.few)
 
 loop-j-smaller : tie.Need-loop-j-smaller invariant-loop-j decreases-loop-j
 loop-j-smaller c = omega arith
@@ -41,16 +41,16 @@ loop-j-preserved : tie.Need-loop-j-preserved invariant-loop-j decreases-loop-j
 loop-j-preserved c =
     let a = c.args in
     let l = c.loop-j in
-    let test = pair_fits (pattern a.n a.col-ptr.now a.row-idx.now) a.perm.now in (
+    let test = pair_fits (pattern a.n a.col_ptr.now a.row_idx.now) a.perm.now in (
       omega arith,
-      c.enter_pair-fine.ensures.entered,
+      c.enter_pair-fine.ensures.1,
       subst (λ (t : Bool). Every test 0 a.n (l.fine && t) (l.j + 1))
-          (sym c.enter_pair-fine.ensures.result_value) (every_goes_on test 0 a.n l.fine l.j (omega arith) l.invariant.2),
+          (sym c.enter_pair-fine.ensures.0) (every_goes_on test 0 a.n l.fine l.j (omega arith) l.invariant.2),
     )
 
 shape_of-inverse : tie.Need-shape_of-inverse invariant-loop-j decreases-loop-j
 shape_of-inverse c = c.loop-j.invariant.1.places
-    ∙ sym (ap length c.requires.inverse_value ∙ length-replicate {A = ℕ} 4096 4096)
+    ∙ sym (ap length c.requires.1.1 ∙ length-replicate {A = ℕ} 4096 4096)
 
 returns : tie.Need-returns invariant-loop-j decreases-loop-j
 unfolding pairs_fit
@@ -58,7 +58,7 @@ returns c =
     let a = c.args in
     let l = c.loop-j in
     let e : l.j ≡ a.n = omega arith in (
-      every_all (pair_fits (pattern a.n a.col-ptr.now a.row-idx.now) a.perm.now) a.n l.fine l.j (omega arith) l.invariant.2,
+      every_all (pair_fits (pattern a.n a.col_ptr.now a.row_idx.now) a.perm.now) a.n l.fine l.j (omega arith) l.invariant.2,
       subst (λ (m : ℕ). Entered a.n a.perm.now m l.inverse) e l.invariant.1,
     )
 

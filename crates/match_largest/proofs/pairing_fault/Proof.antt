@@ -1,4 +1,6 @@
 -- `pairing_fault` meets its contract: each return is the first fault of the chain.
+use mathlib.Core.Path.{ap}
+use mathlib.Core.Bool.{not}
 use Rattle.std.proofs.Common.{rules}
 use mathlib.Core.Path.{refl, sym, ◌∙◌}
 use borrow.Author.Rules.{rules}
@@ -11,25 +13,25 @@ slice_bounds-enter_pairs-end : tie.Need-slice_bounds-enter_pairs-end
 slice_bounds-enter_pairs-end c = search rules
 
 enter_pairs-requires : tie.Need-enter_pairs-requires
-enter_pairs-requires c κs = let p = c.requires in (p.accepted_pattern_1, (p.accepted_pattern_2, refl))
+enter_pairs-requires c κs = let p = c.requires in (p.0, (p.1.0, refl))
 
 returns-then-not-enter_pairs : tie.Need-returns-then-not-enter_pairs
-returns-then-not-enter_pairs c = by_pairs _ _ c.enter_pairs.ensures.result_value (not-true _ c.if-not-enter_pairs.true)
+returns-then-not-enter_pairs c = by_pairs _ _ c.enter_pairs.ensures.0 (not-true _ c.if-not-enter_pairs.true  )
 
 slice_bounds-search-end : tie.Need-slice_bounds-search-end
 slice_bounds-search-end c = search rules
 
 search-requires : tie.Need-search-requires
 search-requires c κs = let p = c.requires in (
-  p.accepted_pattern_1,
+  p.0,
   (
-    p.accepted_pattern_2,
+    p.1.0,
     (
       (
-        sym c.enter_pairs.ensures.result_value ∙ not-false _ c.if-not-enter_pairs.false,
-        c.enter_pairs.ensures.entered,
+        sym c.enter_pairs.ensures.0 ∙ not-false _ c.if-not-enter_pairs.false  ,
+        c.enter_pairs.ensures.1,
       ),
-      p.met_value,
+      p.1.1,
     ),
   ),
 )
@@ -39,9 +41,9 @@ slice_bounds-all_held-end c = search rules
 
 all_held-requires : tie.Need-all_held-requires
 all_held-requires c κs = (
-  c.requires.accepted_pattern_1.few,
+  c.requires.0.few,
   (
-    c.enter_pairs.ensures.entered.places,
+    c.enter_pairs.ensures.1.places,
     c.search.ensures.marks,
   ),
 )
@@ -50,10 +52,10 @@ shape_of-met-then-all_held : tie.Need-shape_of-met-then-all_held
 shape_of-met-then-all_held c = search rules
 
 returns-then-all_held : tie.Need-returns-then-all_held
-returns-then-all_held c = by_nothing _ _ c.enter_pairs.ensures.result_value
-    (not-false _ c.if-not-enter_pairs.false)
+returns-then-all_held c = by_nothing _ _ c.enter_pairs.ensures.0
+    (not-false _ c.if-not-enter_pairs.false  )
     (c.all_held.ensures
-    ∙ held_is c.enter_pairs.ensures.entered
+    ∙ held_is c.enter_pairs.ensures.1
     c.search.ensures)
     c.search.ensures c.if-all_held.true
 
@@ -61,10 +63,10 @@ shape_of-met-else-all_held : tie.Need-shape_of-met-else-all_held
 shape_of-met-else-all_held c = search rules
 
 returns-else-all_held : tie.Need-returns-else-all_held
-returns-else-all_held c = by_rows _ _ c.enter_pairs.ensures.result_value
-    (not-false _ c.if-not-enter_pairs.false)
+returns-else-all_held c = by_rows _ _ c.enter_pairs.ensures.0
+    (not-false _ c.if-not-enter_pairs.false  )
     (c.all_held.ensures
-    ∙ held_is c.enter_pairs.ensures.entered
+    ∙ held_is c.enter_pairs.ensures.1
     c.search.ensures) c.if-all_held.false
 
 pub pairing_fault_spec : {M : Type 1} → statement M

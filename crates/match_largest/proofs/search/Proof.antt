@@ -13,21 +13,21 @@ slice_bounds-queue_free-end c = search rules
 
 queue_free-free-requires : tie.Need-queue_free-free-requires
 queue_free-free-requires c κs = let p = c.requires in
-    (omega (arith, p.accepted_pattern_1.few, p.accepted_pattern_2), length-replicate {A = ℕ} 4097 0)
+    (omega (arith, p.0.few, p.1.0), length-replicate {A = ℕ} 4097 0)
 
 slice_bounds-sweep-end : tie.Need-slice_bounds-sweep-end
 slice_bounds-sweep-end c = search rules
 
 sweep-requires : tie.Need-sweep-requires
 sweep-requires c κs = let p = c.requires in
-    (p.accepted_pattern_1, (p.fact.1.places, starts p.accepted_pattern_1 p.fact.0 p.fact.1 p.accepted_pattern_2 p.met_value c.queue_free-free.ensures))
+    (p.0, (p.1.1.0.1.places, starts p.0 p.1.1.0.0 p.1.1.0.1 p.1.0 p.1.1.1 c.queue_free-free.ensures))
 
 shape_of-met : tie.Need-shape_of-met
 shape_of-met c = search rules
 
 returns : tie.Need-returns
 returns c = let p = c.requires in
-    ends p.accepted_pattern_1 p.fact.0 p.fact.1 c.sweep.ensures
+    ends p.0 p.1.1.0.0 p.1.1.0.1 c.sweep.ensures
 
 pub search_spec : {M : Type 1} → statement M
 search_spec =

@@ -15,16 +15,16 @@ abbrev decreases-loop-head : tie.decreases-loop-head
 decreases-loop-head free n col-ptr row-idx inverse met₀ queue₀ head₀ end₀ met queue head end = n - head
 
 loop-head-init : tie.Need-loop-head-init invariant-loop-head decreases-loop-head
-loop-head-init c = c.requires.fact
+loop-head-init c = c.requires.1.1
 
 scan-end-requires : tie.Need-scan-end-requires invariant-loop-head decreases-loop-head
 scan-end-requires c κs = let p = c.requires in
-    (p.accepted_pattern_1, ((p.accepted_pattern_2, c.loop-head-test.true), c.loop-head.invariant))
+    (p.0, ((p.1.0, c.loop-head-test.true), c.loop-head.invariant))
 
 overflow_add-head : tie.Need-overflow_add-head invariant-loop-head decreases-loop-head
 overflow_add-head c = omega (
   arith,
-  c.requires.accepted_pattern_1.few,
+  c.requires.0.few,
   last_few c.loop-head.invariant,
 )
 
@@ -35,13 +35,13 @@ loop-head-preserved : tie.Need-loop-head-preserved invariant-loop-head decreases
 loop-head-preserved c = c.scan-end.ensures
 
 shape_of-met : tie.Need-shape_of-met invariant-loop-head decreases-loop-head
-shape_of-met c = c.loop-head.invariant.marks ∙ sym c.requires.fact.marks
+shape_of-met c = c.loop-head.invariant.marks ∙ sym c.requires.1.1.marks
 
 shape_of-queue : tie.Need-shape_of-queue invariant-loop-head decreases-loop-head
-shape_of-queue c = c.loop-head.invariant.places ∙ sym c.requires.fact.places
+shape_of-queue c = c.loop-head.invariant.places ∙ sym c.requires.1.1.places
 
 returns : tie.Need-returns invariant-loop-head decreases-loop-head
-returns c = sweep_ends c.requires.accepted_pattern_1.columns c.loop-head.invariant c.loop-head-test.false
+returns c = sweep_ends c.requires.0.columns c.loop-head.invariant c.loop-head-test.false
 
 pub sweep_spec : {M : Type 1} → statement M
 sweep_spec =

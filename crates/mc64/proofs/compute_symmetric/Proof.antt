@@ -1,4 +1,6 @@
 -- `compute_symmetric` meets its contract: a refusal changes nothing, and what the building leaves is matched and scaled.
+use mathlib.Core.Path.{ap}
+use mathlib.Core.Bool.{not}
 use Rattle.std.proofs.Common.{rules}
 use mathlib.Core.Path.{refl, sym}
 use borrow.Author.Rules.{rules}
@@ -37,7 +39,7 @@ shape_of-factor_work-then-not-fit c = refl
 
 returns-then-not-fit : tie.Need-returns-then-not-fit
 returns-then-not-fit c = promised _ _ _ (λ k h. c.shared_slice_known-4-1.given k)
-    (lengths_refused _ _ _ _ _ c.rest_fits-fit.ensures (not-true _ c.if-not-fit.true) c.size_fault-fault.ensures)
+    (lengths_refused _ _ _ _ _ c.rest_fits-fit.ensures (not-true _ c.if-not-fit.true  ) c.size_fault-fault.ensures)
 
 build_cost_graph-built-requires : tie.Need-build_cost_graph-built-requires
 build_cost_graph-built-requires c κs = search rules
@@ -49,96 +51,91 @@ overflow_cast-kept : tie.Need-overflow_cast-kept
 overflow_cast-kept c = search rules
 
 slice_bounds-match_and_scale-end : tie.Need-slice_bounds-match_and_scale-end
-slice_bounds-match_and_scale-end c = rows_room _ _ _ (build-cost-graph-of-built
-    c.before.before).build-cost-graph.ensures.outcome c.built-1.given.1
+slice_bounds-match_and_scale-end c = rows_room _ _ _ c.build_cost_graph-built.ensures.outcome c.in-Kept.is
     (λ k h. c.shared_slice_known-4-1.given k)
 
 slice_bounds-match_and_scale-end-in-Kept : tie.Need-slice_bounds-match_and_scale-end-in-Kept
 slice_bounds-match_and_scale-end-in-Kept c = sym (length-take-le _ _ (rows_room _ _ _
     c.build_cost_graph-built.ensures.outcome
-    c.built-1.given.1 (λ k h. (shared-slice-known4-of-built
-    c.before.before.before).shared-slice-known4.given k)))
+    c.in-Kept.is (λ k h. c.shared_slice_known-4-1.given k)))
 
 overflow_cast-kept-in-Kept : tie.Need-overflow_cast-kept-in-Kept
 overflow_cast-kept-in-Kept c = search rules
 
 slice_bounds-match_and_scale-end-in-Kept-2 : tie.Need-slice_bounds-match_and_scale-end-in-Kept-2
-slice_bounds-match_and_scale-end-in-Kept-2 c = cost_room_lem _ _ _ (build-cost-graph-of-built
-    c.before.before.before).build-cost-graph.ensures.outcome c.built-1.given.1
+slice_bounds-match_and_scale-end-in-Kept-2 c = cost_room_lem _ _ _ c.build_cost_graph-built.ensures.outcome c.in-Kept.is
     (λ k h. c.shared_slice_known-4-1.given k)
 
 slice_bounds-match_and_scale-end-in-Kept-3 : tie.Need-slice_bounds-match_and_scale-end-in-Kept-3
 slice_bounds-match_and_scale-end-in-Kept-3 c = sym (length-take-le _ _ (cost_room_lem _ _ _
     c.build_cost_graph-built.ensures.outcome
-    c.built-1.given.1 (λ k h. (shared-slice-known4-of-built
-    c.before.before.before.before).shared-slice-known4.given k)))
+    c.in-Kept.is (λ k h. c.shared_slice_known-4-1.given k)))
 
 match_and_scale-requires : tie.Need-match_and_scale-requires
 match_and_scale-requires c κs = ready _ _ _ c.build_cost_graph-built.ensures.outcome
-    c.built-1.given.1 (λ k h. (shared-slice-known4-of-match-and-scale-arg11
-    c).shared-slice-known4.given k) _ _ c.rest_fits-fit.ensures
-    (not-false _ c.if-not-fit.left)
+    c.in-Kept.is (λ k h. c.shared_slice_known-4-1.given k) _ _ c.rest_fits-fit.ensures
+    (not-false _ c.if-not-fit.false  )
 
 enum_known-built-in-Refused-1 : tie.Need-enum_known-built-in-Refused-1
 enum_known-built-in-Refused-1 c = search rules
 
 shape_of-graph_ptr-in-Kept : tie.Need-shape_of-graph_ptr-in-Kept
-shape_of-graph_ptr-in-Kept c = c.build_cost_graph-built.kept.1.1.1.1.1.0
+shape_of-graph_ptr-in-Kept c = c.build_cost_graph-built.auto.graph_ptr
 
 shape_of-graph_rows-in-Kept : tie.Need-shape_of-graph_rows-in-Kept
-shape_of-graph_rows-in-Kept c = c.build_cost_graph-built.kept.1.1.1.1.1.1.0
+shape_of-graph_rows-in-Kept c = c.build_cost_graph-built.auto.graph_rows
 
 shape_of-cost-in-Kept : tie.Need-shape_of-cost-in-Kept
-shape_of-cost-in-Kept c = c.build_cost_graph-built.kept.1.1.1.1.1.1.1.0
+shape_of-cost-in-Kept c = c.build_cost_graph-built.auto.cost
 
 shape_of-cmax-in-Kept : tie.Need-shape_of-cmax-in-Kept
-shape_of-cmax-in-Kept c = c.build_cost_graph-built.kept.1.1.1.1.1.1.1.1.0
+shape_of-cmax-in-Kept c = c.build_cost_graph-built.auto.cmax
 
 shape_of-graph_work-in-Kept : tie.Need-shape_of-graph_work-in-Kept
-shape_of-graph_work-in-Kept c = c.build_cost_graph-built.kept.1.1.1.1.1.1.1.1.1.0
+shape_of-graph_work-in-Kept c = c.build_cost_graph-built.auto.work
 
 shape_of-perm-in-Kept : tie.Need-shape_of-perm-in-Kept
-shape_of-perm-in-Kept c = c.match_and_scale.kept.1.1.1.1.1.0
+shape_of-perm-in-Kept c = c.match_and_scale.auto.perm
 
 shape_of-u-in-Kept : tie.Need-shape_of-u-in-Kept
-shape_of-u-in-Kept c = c.match_and_scale.kept.1.1.1.1.1.1.0
+shape_of-u-in-Kept c = c.match_and_scale.auto.u
 
 shape_of-v-in-Kept : tie.Need-shape_of-v-in-Kept
-shape_of-v-in-Kept c = c.match_and_scale.kept.1.1.1.1.1.1.1.0
+shape_of-v-in-Kept c = c.match_and_scale.auto.v
 
 shape_of-match_work-in-Kept : tie.Need-shape_of-match_work-in-Kept
-shape_of-match_work-in-Kept c = c.match_and_scale.kept.1.1.1.1.1.1.1.1.0
+shape_of-match_work-in-Kept c = c.match_and_scale.auto.match_work
 
 shape_of-distances-in-Kept : tie.Need-shape_of-distances-in-Kept
-shape_of-distances-in-Kept c = c.match_and_scale.kept.1.1.1.1.1.1.1.1.1.0
+shape_of-distances-in-Kept c = c.match_and_scale.auto.distances
 
 shape_of-factors-in-Kept : tie.Need-shape_of-factors-in-Kept
-shape_of-factors-in-Kept c = c.match_and_scale.kept.1.1.1.1.1.1.1.1.1.1.0
+shape_of-factors-in-Kept c = c.match_and_scale.auto.factors
 
 shape_of-factor_work-in-Kept : tie.Need-shape_of-factor_work-in-Kept
-shape_of-factor_work-in-Kept c = c.match_and_scale.kept.1.1.1.1.1.1.1.1.1.1.1.0
+shape_of-factor_work-in-Kept c = c.match_and_scale.auto.factor_work
 
 returns-in-Kept : tie.Need-returns-in-Kept
 returns-in-Kept c = promised _ _ _ (λ k h. c.shared_slice_known-4-1.given k)
     (complete _ _ _ c.build_cost_graph-built.ensures.outcome
-    c.built-1.given.1 (λ k h. c.shared_slice_known-4-1.given k) _
-    _ c.rest_fits-fit.ensures (not-false _ c.if-not-fit.left)
+    c.in-Kept.is (λ k h. c.shared_slice_known-4-1.given k) _
+    _ c.rest_fits-fit.ensures (not-false _ c.if-not-fit.false  )
     c.match_and_scale.ensures)
 
 shape_of-graph_ptr-in-Refused : tie.Need-shape_of-graph_ptr-in-Refused
-shape_of-graph_ptr-in-Refused c = c.build_cost_graph-built.kept.1.1.1.1.1.0
+shape_of-graph_ptr-in-Refused c = c.build_cost_graph-built.auto.graph_ptr
 
 shape_of-graph_rows-in-Refused : tie.Need-shape_of-graph_rows-in-Refused
-shape_of-graph_rows-in-Refused c = c.build_cost_graph-built.kept.1.1.1.1.1.1.0
+shape_of-graph_rows-in-Refused c = c.build_cost_graph-built.auto.graph_rows
 
 shape_of-cost-in-Refused : tie.Need-shape_of-cost-in-Refused
-shape_of-cost-in-Refused c = c.build_cost_graph-built.kept.1.1.1.1.1.1.1.0
+shape_of-cost-in-Refused c = c.build_cost_graph-built.auto.cost
 
 shape_of-cmax-in-Refused : tie.Need-shape_of-cmax-in-Refused
-shape_of-cmax-in-Refused c = c.build_cost_graph-built.kept.1.1.1.1.1.1.1.1.0
+shape_of-cmax-in-Refused c = c.build_cost_graph-built.auto.cmax
 
 shape_of-graph_work-in-Refused : tie.Need-shape_of-graph_work-in-Refused
-shape_of-graph_work-in-Refused c = c.build_cost_graph-built.kept.1.1.1.1.1.1.1.1.1.0
+shape_of-graph_work-in-Refused c = c.build_cost_graph-built.auto.work
 
 shape_of-perm-in-Refused : tie.Need-shape_of-perm-in-Refused
 shape_of-perm-in-Refused c = refl
@@ -164,8 +161,8 @@ shape_of-factor_work-in-Refused c = refl
 returns-in-Refused : tie.Need-returns-in-Refused
 returns-in-Refused c = promised _ _ _ (λ k h. c.shared_slice_known-4-1.given k)
     (building_refused _ _ _ c.build_cost_graph-built.ensures.outcome _ _
-    c.rest_fits-fit.ensures (not-false _ c.if-not-fit.left)
-    c.built-in-Refused-1.given.1)
+    c.rest_fits-fit.ensures (not-false _ c.if-not-fit.false  )
+    c.in-Refused.is)
 
 pub compute_symmetric_spec : {M : Type 1} → statement M
 compute_symmetric_spec =

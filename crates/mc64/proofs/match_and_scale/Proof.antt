@@ -15,8 +15,8 @@ write_factors-requires c κs =
     let pre = c.requires in
     let l = pre.solvable in
     factors_ready pre (λ k h. c.shared_slice_known-3-1.given k) c.solve-found.ensures
-    (c.solve-found.kept.1.1.1.1.0 ∙ l.perms) (c.solve-found.kept.1.1.1.1.1.0 ∙ l.row_duals)
-    (c.solve-found.kept.1.1.1.1.1.1.0 ∙ l.column_duals)
+    (c.solve-found.auto.perm ∙ l.perms) (c.solve-found.auto.u ∙ l.row_duals)
+    (c.solve-found.auto.v ∙ l.column_duals)
 
 overflow_cast-found : tie.Need-overflow_cast-found
 overflow_cast-found c =

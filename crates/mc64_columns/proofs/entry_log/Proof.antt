@@ -19,13 +19,13 @@ double_of-requires : tie.Need-double_of-requires
 double_of-requires c κs = search rules
 
 returns-in-Lent : tie.Need-returns-in-Lent
-returns-in-Lent c = sym (ap (λ (s : LogSource). entry_log s c.args.lent) c.enum_told-1.given.1)
+returns-in-Lent c = sym (ap (λ (s : LogSource). entry_log s c.args.lent) c.in-Lent.is)
 
 returns-in-Own : tie.Need-returns-in-Own
 returns-in-Own c =
     let word : answer_of c.args.word ≡ whole_log c.args.lent =
-    subst (λ (s : LogSource). WordOf s c.args.lent c.args.word) c.enum_told-in-Own-1.given.1 c.requires in
-    c.double_of.ensures ∙ ap double_of word ∙ sym (ap (λ (s : LogSource). entry_log s c.args.lent) c.enum_told-in-Own-1.given.1)
+    subst (λ (s : LogSource). WordOf s c.args.lent c.args.word) c.in-Own.is c.requires in
+    c.double_of.ensures ∙ ap double_of word ∙ sym (ap (λ (s : LogSource). entry_log s c.args.lent) c.in-Own.is)
 
 pub entry_log_spec : {M : Type 1} → statement M
 entry_log_spec =

@@ -14,7 +14,7 @@ log_words-requires c κs = c.requires
 returns-in-Lent : tie.Need-returns-in-Lent
 returns-in-Lent c =
     let a = c.args in
-    subst (λ (s : LogSource). WordsPut s a.lent.now a.at a.words.now a.words.now) (sym c.enum_told-1.given.1)
+    subst (λ (s : LogSource). WordsPut s a.lent.now a.at a.words.now a.words.now) (sym c.in-Lent.is)
     (lent_words a.lent.now a.at a.words.now)
 
 shape_of-words : tie.Need-shape_of-words
@@ -23,7 +23,7 @@ shape_of-words c = c.log_words.auto.words
 returns-in-Own : tie.Need-returns-in-Own
 returns-in-Own c =
     let a = c.args in
-    subst (λ (s : LogSource). WordsPut s a.lent.now a.at a.words.now c.log_words.new.words) (sym c.enum_told-in-Own-1.given.1)
+    subst (λ (s : LogSource). WordsPut s a.lent.now a.at a.words.now c.log_words.new.words) (sym c.in-Own.is)
     (own_words a.lent.now a.at a.words.now c.log_words.new.words c.log_words.ensures)
 
 enum_told-1 : tie.Need-enum_told-1

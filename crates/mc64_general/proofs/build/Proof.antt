@@ -24,12 +24,12 @@ decreases-loop-c n col_ptr rows values logs words graph_ptr₀ graph_idx₀ cost
 
 -- the next entry goes no further than the column's first place
 next_below : (c : tie.At-loop-c invariant-loop-c decreases-loop-c) → let a = c.args in let l = c.loop-c in
-    (l.next ≤ get_or a.col-ptr.now l.c 0) × (get_or a.col-ptr.now l.c 0 ≤ length a.row-idx.now) × (length a.row-idx.now ≤ 262144)
+    (l.next ≤ get_or a.col_ptr.now l.c 0) × (get_or a.col_ptr.now l.c 0 ≤ length a.row_idx.now) × (length a.row_idx.now ≤ 262144)
     × (a.n ≤ 4096)
 next_below c =
     let l = c.loop-c in
-    let a = c.requires.accepted in
-    let m = matrix c.args.n c.args.col-ptr.now c.args.row-idx.now c.args.values.now in (
+    let a = c.requires.0 in
+    let m = matrix c.args.n c.args.col_ptr.now c.args.row_idx.now c.args.values.now in (
       omega (arith, l.invariant.5.count, kept_below m a.pointers l.c l.invariant.0),
       pointer_below a.pointers l.c l.invariant.0,
       a.sizes.entries,
@@ -38,9 +38,9 @@ next_below c =
 
 -- the pointers of column c
 pointers : (c : tie.In-loop-c invariant-loop-c decreases-loop-c) → let a = c.args in let l = c.loop-c in
-    (get_or a.col-ptr.now l.c 0 ≤ get_or a.col-ptr.now (l.c + 1) 0) × (get_or a.col-ptr.now (l.c + 1) 0 ≤ length a.row-idx.now)
+    (get_or a.col_ptr.now l.c 0 ≤ get_or a.col_ptr.now (l.c + 1) 0) × (get_or a.col_ptr.now (l.c + 1) 0 ≤ length a.row_idx.now)
 pointers c =
-    let a = c.requires.accepted in
+    let a = c.requires.0 in
     let l = c.loop-c in
     rw (add-one l.c) (a.pointers.rises l.c c.loop-c-test.true, pointer_below a.pointers _ c.loop-c-test.true)
 
@@ -52,8 +52,8 @@ loop-c-init c =
       refl,
       refl,
       refl,
-      built_none (matrix args.n args.col-ptr.now args.row-idx.now args.values.now)
-          (entry_logs args.source args.logs.now) args.graph-ptr.now args.graph-rows.now args.cost.now args.cmax.now,
+      built_none (matrix args.n args.col_ptr.now args.row_idx.now args.values.now)
+          (entry_logs args.source args.logs.now) args.graph_ptr.now args.graph_rows.now args.cost.now args.cmax.now,
     )
 
 overflow_cast-graph_ptr : tie.Need-overflow_cast-graph_ptr invariant-loop-c decreases-loop-c
@@ -63,13 +63,13 @@ offset_bounds-graph_ptr-c : tie.Need-offset_bounds-graph_ptr-c invariant-loop-c 
 offset_bounds-graph_ptr-c c = omega (arith, c.loop-c-test.true, next_below c.before)
 
 bounds-graph_ptr-c : tie.Need-bounds-graph_ptr-c invariant-loop-c decreases-loop-c
-bounds-graph_ptr-c c = omega (arith, c.loop-c-test.true, c.loop-c.invariant.1, c.requires.roomy.pointer_room)
+bounds-graph_ptr-c c = omega (arith, c.loop-c-test.true, c.loop-c.invariant.1, c.requires.1.0.pointer_room)
 
 offset_bounds-col_ptr-c : tie.Need-offset_bounds-col_ptr-c invariant-loop-c decreases-loop-c
 offset_bounds-col_ptr-c c = omega (arith, c.loop-c-test.true, next_below c.before)
 
 bounds-col_ptr-c : tie.Need-bounds-col_ptr-c invariant-loop-c decreases-loop-c
-bounds-col_ptr-c c = omega (arith, c.loop-c-test.true, c.requires.accepted.sizes.colptrs)
+bounds-col_ptr-c c = omega (arith, c.loop-c-test.true, c.requires.0.sizes.colptrs)
 
 overflow_cast-from : tie.Need-overflow_cast-from invariant-loop-c decreases-loop-c
 overflow_cast-from c = omega (arith, next_below c.before.before)
@@ -81,7 +81,7 @@ offset_bounds-col_ptr-c-in-loop-c : tie.Need-offset_bounds-col_ptr-c-in-loop-c i
 offset_bounds-col_ptr-c-in-loop-c c = omega (arith, c.loop-c-test.true, next_below c.before.before)
 
 bounds-col_ptr-c-in-loop-c : tie.Need-bounds-col_ptr-c-in-loop-c invariant-loop-c decreases-loop-c
-bounds-col_ptr-c-in-loop-c c = omega (arith, c.loop-c-test.true, c.requires.accepted.sizes.colptrs)
+bounds-col_ptr-c-in-loop-c c = omega (arith, c.loop-c-test.true, c.requires.0.sizes.colptrs)
 
 overflow_cast-to : tie.Need-overflow_cast-to invariant-loop-c decreases-loop-c
 overflow_cast-to c = omega (arith, pointers c.before.before, next_below c.before.before.before)
@@ -91,7 +91,7 @@ keep_column-kept-requires c κs =
     let pre = c.requires in
     (
       ((pointers c.before.before.before.before).0, (pointers c.before.before.before.before).1, (next_below (c.before.before.before.before.before)).0),
-      ((pre.accepted.sizes.stored, pre.accepted.logged), ((c.loop-c.inv.2 ∙ pre.roomy.row_room, c.loop-c.inv.3 ∙ pre.roomy.cost_room), pre.worded)),
+      ((pre.0.sizes.stored, pre.0.logged), ((c.loop-c.invariant.2 ∙ pre.1.0.row_room, c.loop-c.invariant.3 ∙ pre.1.0.cost_room), pre.1.1)),
     )
 
 -- the column's stretch lies in the buffer
@@ -99,11 +99,11 @@ stretch-fits : (c : tie.After-keep_column-kept invariant-loop-c decreases-loop-c
     let next = c.keep_column-kept.result.next in
     (c.loop-c.next ≤ next) × (next ≤ length a.cost.now) × (length a.cost.now ≤ 262144)
 stretch-fits c =
-    let from = get_or c.args.col-ptr.now c.loop-c.c 0 in
-    let few = kept_few c.args.values.now from (get_or c.args.col-ptr.now (c.loop-c.c + 1) 0 - from) in (
+    let from = get_or c.args.col_ptr.now c.loop-c.c 0 in
+    let few = kept_few c.args.values.now from (get_or c.args.col_ptr.now (c.loop-c.c + 1) 0 - from) in (
       omega (arith, c.keep_column-kept.ensures.count),
-      omega (arith, c.keep_column-kept.ensures.count, few, pointers c.before.before.before.before.before, next_below c.before.before.before.before.before.before, c.requires.roomy.cost_room),
-      omega (arith, next_below c.before.before.before.before.before.before, c.requires.roomy.cost_room),
+      omega (arith, c.keep_column-kept.ensures.count, few, pointers c.before.before.before.before.before, next_below c.before.before.before.before.before.before, c.requires.1.0.cost_room),
+      omega (arith, next_below c.before.before.before.before.before.before, c.requires.1.0.cost_room),
     )
 
 offset_bounds-cost-next : tie.Need-offset_bounds-cost-next invariant-loop-c decreases-loop-c
@@ -117,7 +117,7 @@ slice_bounds-subtract-start c = omega (arith, stretch-fits c.before.before.befor
 
 slice_bounds-subtract-end : tie.Need-slice_bounds-subtract-end invariant-loop-c decreases-loop-c
 slice_bounds-subtract-end c =
-    omega (arith, stretch-fits c.before.before.before.before, c.keep_column-kept.kept.1.1.1.1.1.1.1.1.0, c.loop-c.inv.3)
+    omega (arith, stretch-fits c.before.before.before.before, c.keep_column-kept.auto.cost, c.loop-c.invariant.3)
 
 subtract-requires : tie.Need-subtract-requires invariant-loop-c decreases-loop-c
 subtract-requires c κs = tt
@@ -127,7 +127,7 @@ offset_bounds-cmax-c c = omega (arith, c.loop-c-test.true, next_below c.before.b
 
 bounds-cmax-c : tie.Need-bounds-cmax-c invariant-loop-c decreases-loop-c
 bounds-cmax-c c =
-    omega (arith, c.loop-c-test.true, c.loop-c.invariant.4, c.requires.roomy.cmax_room)
+    omega (arith, c.loop-c-test.true, c.loop-c.invariant.4, c.requires.1.0.cmax_room)
 
 overflow_step-c : tie.Need-overflow_step-c invariant-loop-c decreases-loop-c
 overflow_step-c c = omega (arith, c.loop-c-test.true, next_below c.before.before.before.before.before.before.before.before.before.before.before.before.before.before)
@@ -140,17 +140,17 @@ loop-c-preserved c =
     let args = c.args in
     let pre = c.requires in
     (
-      omega (arith, c.loop-c-test.taken),
-      simp length-set c.loop-c.inv.1,
-      c.keep_column-kept.kept.1.1.1.1.1.1.1.0 ∙ c.loop-c.inv.2,
-      c.cost-in-loop-c-1.given.1 ∙ c.keep_column-kept.kept.1.1.1.1.1.1.1.1.0 ∙
-          c.loop-c.inv.3,
-      simp length-set c.loop-c.inv.4,
+      omega (arith, c.loop-c-test.true),
+      simp length-set c.loop-c.invariant.1,
+      c.keep_column-kept.auto.graph_rows ∙ c.loop-c.invariant.2,
+      c.cost-in-loop-c-1.given.1 ∙ c.keep_column-kept.auto.cost ∙
+          c.loop-c.invariant.3,
+      simp length-set c.loop-c.invariant.4,
       built_next
-          (matrix args.n args.col-ptr.now args.row-idx.now args.values.now) (entry_logs args.source args.logs.now) args.graph-ptr.now
-          args.graph-rows.now args.cost.now args.cmax.now c.loop-c.inv.5
-          (omega (arith, c.loop-c-test.taken, pre.roomy.pointer_room))
-          (omega (arith, c.loop-c-test.taken, pre.roomy.cmax_room)) c.keep_column-kept.ensures
+          (matrix args.n args.col_ptr.now args.row_idx.now args.values.now) (entry_logs args.source args.logs.now) args.graph_ptr.now
+          args.graph_rows.now args.cost.now args.cmax.now c.loop-c.invariant.5
+          (omega (arith, c.loop-c-test.true, pre.1.0.pointer_room))
+          (omega (arith, c.loop-c-test.true, pre.1.0.cmax_room)) c.keep_column-kept.ensures
           c.subtract.ensures,
     )
 
@@ -161,7 +161,7 @@ offset_bounds-graph_ptr-n : tie.Need-offset_bounds-graph_ptr-n invariant-loop-c 
 offset_bounds-graph_ptr-n c = omega (arith, next_below c.before)
 
 bounds-graph_ptr-n : tie.Need-bounds-graph_ptr-n invariant-loop-c decreases-loop-c
-bounds-graph_ptr-n c = omega (arith, c.loop-c.invariant.1, c.requires.roomy.pointer_room)
+bounds-graph_ptr-n c = omega (arith, c.loop-c.invariant.1, c.requires.1.0.pointer_room)
 
 overflow_cast-result : tie.Need-overflow_cast-result invariant-loop-c decreases-loop-c
 overflow_cast-result c = omega (arith, next_below c.before)
@@ -181,27 +181,27 @@ shape_of-cmax c = c.loop-c.invariant.4
 returns : tie.Need-returns invariant-loop-c decreases-loop-c
 returns c = let e : c.loop-c.c ≡ c.args.n
     = omega (arith, c.loop-c.invariant.0, c.loop-c-test.false) in
-    built_last (matrix c.args.n c.args.col-ptr.now
-    c.args.row-idx.now
+    built_last (matrix c.args.n c.args.col_ptr.now
+    c.args.row_idx.now
     c.args.values.now)
     (entry_logs c.args.source
     c.args.logs.now)
-    c.args.graph-ptr.now
-    c.args.graph-rows.now
+    c.args.graph_ptr.now
+    c.args.graph_rows.now
     c.args.cost.now
     c.args.cmax.now
-    (subst (λ (i : ℕ). BuiltTo i (matrix c.args.n c.args.col-ptr.now
-    c.args.row-idx.now
+    (subst (λ (i : ℕ). BuiltTo i (matrix c.args.n c.args.col_ptr.now
+    c.args.row_idx.now
     c.args.values.now)
     (entry_logs c.args.source
     c.args.logs.now)
-    c.args.graph-ptr.now
-    c.args.graph-rows.now
+    c.args.graph_ptr.now
+    c.args.graph_rows.now
     c.args.cost.now
     c.args.cmax.now
-    c.loop-c.graph-ptr c.loop-c.graph-rows c.loop-c.cost c.loop-c.cmax
-    c.loop-c.next) e c.loop-c.invariant.5) c.requires.roomy.pointer_room
-    c.requires.roomy.cmax_room
+    c.loop-c.graph_ptr c.loop-c.graph_rows c.loop-c.cost c.loop-c.cmax
+    c.loop-c.next) e c.loop-c.invariant.5) c.requires.1.0.pointer_room
+    c.requires.1.0.cmax_room
 
 pub build_spec : {M : Type 1} → statement M
 build_spec =

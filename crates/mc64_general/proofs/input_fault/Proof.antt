@@ -26,7 +26,7 @@ number_of-fault-requires c κs = search rules
 returns-then-fault-ne-ACCEPTED : tie.Need-returns-then-fault-ne-ACCEPTED
 unfolding input_fault
 returns-then-fault-ne-ACCEPTED c = answer_second c.size_fault-sizes.ensures c.if-sizes-ne-ACCEPTED.false
-    (answer_first _ (number_told c.number_of-fault.ensures c.validate.ensures.answer) c.if-fault-ne-ACCEPTED.true)
+    (answer_first _ (number_told c.number_of-fault.ensures c.validate.ensures.0) c.if-fault-ne-ACCEPTED.true)
 
 logs_fault-requires : tie.Need-logs_fault-requires
 logs_fault-requires c κs = let s =
@@ -36,7 +36,7 @@ logs_fault-requires c κs = let s =
 returns : tie.Need-returns
 unfolding input_fault
 returns c = answer_second c.size_fault-sizes.ensures c.if-sizes-ne-ACCEPTED.false
-    (answer_second (number_told c.number_of-fault.ensures c.validate.ensures.answer) c.if-fault-ne-ACCEPTED.false
+    (answer_second (number_told c.number_of-fault.ensures c.validate.ensures.0) c.if-fault-ne-ACCEPTED.false
     c.logs_fault.ensures)
 
 pub input_fault_spec : {M : Type 1} → statement M

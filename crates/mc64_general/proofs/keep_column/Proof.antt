@@ -1,4 +1,6 @@
 -- `keep_column` meets its contract. The loop's invariant: the kept entries before place k are written, and `top` is the largest of their logs.
+use mathlib.Core.Path.{ap}
+use mathlib.Core.Bool.{not}
 use mathlib.Core.Path.{◌≡◌, refl, sym, ◌∙◌, subst}
 use Prim.Native.Nat.{ℕ, ◌≤◌, ◌<◌, ◌-◌}
 use native.Mathlib.Nat.{zero-add}
@@ -22,10 +24,10 @@ decreases-loop-k from to at rows values logs words graph_idx₀ cost₀ source n
 
 -- the next entry goes no further than where it stood
 next_below : (c : tie.In-loop-k invariant-loop-k decreases-loop-k) → let a = c.args in let l = c.loop-k in
-    (l.next ≤ l.k) × (l.k < length a.row-idx.now)
+    (l.next ≤ l.k) × (l.k < length a.row_idx.now)
 next_below c =
     let l = c.loop-k in
-    (omega (arith, l.invariant.4.count, kept_few c.args.values.now c.args.from (l.k - c.args.from), c.requires.from_le_to, l.invariant.0), omega (arith, c.requires.from_le_to))
+    (omega (arith, l.invariant.4.count, kept_few c.args.values.now c.args.from (l.k - c.args.from), c.requires.0, l.invariant.0), omega (arith, c.requires.0))
 
 loop-k-init : tie.Need-loop-k-init invariant-loop-k decreases-loop-k
 loop-k-init c = (
@@ -34,9 +36,9 @@ loop-k-init c = (
   refl,
   refl,
   copied_none c.args.values.now
-      c.args.from c.args.row-idx.now
+      c.args.from c.args.row_idx.now
       (entry_logs c.args.source c.args.logs.now) c.args.at
-      c.args.graph-rows.now
+      c.args.graph_rows.now
       c.args.cost.now,
 )
 
@@ -64,8 +66,8 @@ loop-k-preserved-then-not-is_kept c =
       c.loop-k.invariant.2,
       c.loop-k.invariant.3,
       copied_dropped args.values.now args.from
-          args.row-idx.now (entry_logs args.source args.logs.now) args.at args.graph-rows.now args.cost.now c.loop-k.k
-          c.loop-k.invariant.0 c.loop-k.invariant.4 (sym c.is_kept.ensures ∙ not-true _ c.if-not-is_kept.true),
+          args.row_idx.now (entry_logs args.source args.logs.now) args.at args.graph_rows.now args.cost.now c.loop-k.k
+          c.loop-k.invariant.0 c.loop-k.invariant.4 (sym c.is_kept.ensures ∙ not-true _ c.if-not-is_kept.true  ),
     )
 
 offset_bounds-logs-k : tie.Need-offset_bounds-logs-k invariant-loop-k decreases-loop-k
@@ -86,7 +88,7 @@ entry_log-log-requires c κs =
     let pre = c.requires in
     let k = c.loop-k.k in
     subst (λ (i : ℕ). WordOf args.source (get_or args.logs.now k nan) (get_or args.words.now i 0)) (zero-add k)
-    (pre.worded.0 k (omega (arith, next_below c.before.before.before.before.before, pre.values_len.1)))
+    (pre.1.1.1.0 k (omega (arith, next_below c.before.before.before.before.before, pre.1.0.1)))
 
 offset_bounds-row_idx-k : tie.Need-offset_bounds-row_idx-k invariant-loop-k decreases-loop-k
 offset_bounds-row_idx-k c = omega arith
@@ -99,8 +101,8 @@ offset_bounds-graph_rows-next c =
     omega (
       arith,
       next_below c.before.before.before.before.before.before.before,
-      c.loop-k.inv.2,
-      c.loop-k.inv.3,
+      c.loop-k.invariant.2,
+      c.loop-k.invariant.3,
       c.requires,
     )
 
@@ -109,8 +111,8 @@ bounds-graph_rows-next c =
     omega (
       arith,
       next_below c.before.before.before.before.before.before.before,
-      c.loop-k.inv.2,
-      c.loop-k.inv.3,
+      c.loop-k.invariant.2,
+      c.loop-k.invariant.3,
       c.requires,
     )
 
@@ -119,8 +121,8 @@ offset_bounds-cost-next c =
     omega (
       arith,
       next_below c.before.before.before.before.before.before.before,
-      c.loop-k.inv.2,
-      c.loop-k.inv.3,
+      c.loop-k.invariant.2,
+      c.loop-k.invariant.3,
       c.requires,
     )
 
@@ -129,8 +131,8 @@ bounds-cost-next c =
     omega (
       arith,
       next_below c.before.before.before.before.before.before.before,
-      c.loop-k.inv.2,
-      c.loop-k.inv.3,
+      c.loop-k.invariant.2,
+      c.loop-k.invariant.3,
       c.requires,
     )
 
@@ -139,7 +141,7 @@ larger-top-requires c κs = tt
 
 overflow_add-next : tie.Need-overflow_add-next invariant-loop-k decreases-loop-k
 overflow_add-next c =
-    omega (arith, next_below c.before.before.before.before.before.before.before.before, c.loop-k.inv.2, c.loop-k.inv.3, c.requires)
+    omega (arith, next_below c.before.before.before.before.before.before.before.before, c.loop-k.invariant.2, c.loop-k.invariant.3, c.requires)
 
 overflow_step-k-in-loop-k : tie.Need-overflow_step-k-in-loop-k invariant-loop-k decreases-loop-k
 overflow_step-k-in-loop-k c = omega arith
@@ -157,11 +159,11 @@ loop-k-preserved c =
       simp length-set c.loop-k.invariant.2,
       simp length-set c.loop-k.invariant.3,
       copied_kept
-          args.values.now args.from args.row-idx.now (entry_logs args.source args.logs.now) args.at args.graph-rows.now
+          args.values.now args.from args.row_idx.now (entry_logs args.source args.logs.now) args.at args.graph_rows.now
           args.cost.now c.loop-k.k c.loop-k.invariant.0 c.loop-k.invariant.4
           (c.entry_log-log.ensures ∙ sym (entry_log_at args.source args.logs.now c.loop-k.k)) c.larger-top.ensures
-          (omega (arith, next_below (c.before.before.before.before.before.before.before.before), pre.graph_rows_len)) (omega (arith, next_below (c.before.before.before.before.before.before.before.before), pre.graph_rows_len))
-          (sym c.is_kept.ensures ∙ not-false _ c.if-not-is_kept.false),
+          (omega (arith, next_below (c.before.before.before.before.before.before.before.before), pre.1.1.0)) (omega (arith, next_below (c.before.before.before.before.before.before.before.before), pre.1.1.0))
+          (sym c.is_kept.ensures ∙ not-false _ c.if-not-is_kept.false  ),
     )
 
 shape_of-graph_rows : tie.Need-shape_of-graph_rows invariant-loop-k decreases-loop-k
@@ -174,11 +176,11 @@ returns : tie.Need-returns invariant-loop-k decreases-loop-k
 returns c = let e : c.loop-k.k ≡ c.args.to = omega arith in
     subst (λ (i : ℕ). CopiedTo c.args.values.now
     c.args.from
-    c.args.row-idx.now
+    c.args.row_idx.now
     (entry_logs c.args.source c.args.logs.now)
     c.args.at
-    c.args.graph-rows.now
-    c.args.cost.now i c.loop-k.graph-rows
+    c.args.graph_rows.now
+    c.args.cost.now i c.loop-k.graph_rows
     c.loop-k.cost c.loop-k.next c.loop-k.top) e c.loop-k.invariant.4
 
 pub keep_column_spec : {M : Type 1} → statement M

@@ -52,10 +52,10 @@ loop-i-preserved c =
       simp length-set (omega arith),
       simp length-set (omega arith),
       c.next_root-y.ensures,
-      loop.inv.5,
+      loop.invariant.5,
       record {
         at = placed (λ (j : ℕ) (y : Float). y ≡ root_by (get_or args.bits.now j 0)) loop.roots loop.i _ nan (omega arith)
-            loop.inv.6.at c.next_root-y.ensures;
+            loop.invariant.6.at c.next_root-y.ensures;
       },
     )
 

@@ -17,10 +17,10 @@ quiet_nan-requires : tie.Need-quiet_nan-requires
 quiet_nan-requires c κs = search rules
 
 returns-in-Is : tie.Need-returns-in-Is
-returns-in-Is c = ap value_of (sym c.y-1.given.1 ∙ c.sqrt.ensures.root)
+returns-in-Is c = ap value_of (sym c.in-Is.is ∙ c.sqrt.ensures.0)
 
 returns-in-Refused : tie.Need-returns-in-Refused
-returns-in-Refused c = c.quiet_nan.ensures ∙ ap value_of (sym c.enum_told-1.given.1 ∙ c.sqrt.ensures.root)
+returns-in-Refused c = c.quiet_nan.ensures ∙ ap value_of (sym c.in-Refused.is ∙ c.sqrt.ensures.0)
 
 pub root_spec : {M : Type 1} → statement M
 root_spec =

@@ -62,13 +62,12 @@ shape_of-maxima c = search rules
 returns-in-InfNorm : tie.Need-returns-in-InfNorm
 returns-in-InfNorm c =
     let args = c.args in
-    promised _ _ _ _ (λ k h. (logs-of-known13 (known13-of-enum-told
-    c.before.before.before.before.before.before.before.before)).shared-slice-known5.given k) _
-    (infnorm_chosen (matrix args.n args.col-ptr.now args.row-idx.now args.values.now)
+    promised _ _ _ _ (λ k h. c.shared_slice_known-5-1.given k) _
+    (infnorm_chosen (matrix args.n args.col_ptr.now args.row_idx.now args.values.now)
     args.external.now args.logs.now (slices args.factors.now args.maxima.now
-    (Graphs.slices args.graph-ptr.now args.graph-rows.now args.cost.now args.cmax.now args.graph-work.now)
+    (Graphs.slices args.graph_ptr.now args.graph_rows.now args.cost.now args.cmax.now args.graph_work.now)
     (Match.slices args.perm.now args.u.now args.v.now args.match_work.now args.distances.now)
-    args.factor-work.now) c.enum_told-1.given.1
+    args.factor_work.now) c.in-InfNorm.is
     c.applied.ensures c.compute_infnorm.ensures.outcome)
 
 shape_of-factors-in-OnePassInfNorm : tie.Need-shape_of-factors-in-OnePassInfNorm
@@ -77,13 +76,12 @@ shape_of-factors-in-OnePassInfNorm c = search rules
 returns-in-OnePassInfNorm : tie.Need-returns-in-OnePassInfNorm
 returns-in-OnePassInfNorm c =
     let args = c.args in
-    promised _ _ _ _ (λ k h. (logs-of-known13 (known13-of-enum-told2
-    c.before.before.before.before.before)).shared-slice-known5.given k) _
-    (onepass_chosen (matrix args.n args.col-ptr.now args.row-idx.now args.values.now)
+    promised _ _ _ _ (λ k h. c.shared_slice_known-5-1.given k) _
+    (onepass_chosen (matrix args.n args.col_ptr.now args.row_idx.now args.values.now)
     args.external.now args.logs.now (slices args.factors.now args.maxima.now
-    (Graphs.slices args.graph-ptr.now args.graph-rows.now args.cost.now args.cmax.now args.graph-work.now)
+    (Graphs.slices args.graph_ptr.now args.graph_rows.now args.cost.now args.cmax.now args.graph_work.now)
     (Match.slices args.perm.now args.u.now args.v.now args.match_work.now args.distances.now)
-    args.factor-work.now) c.enum_told-in-OnePassInfNorm-1.given.1
+    args.factor_work.now) c.in-OnePassInfNorm.is
     c.applied-in-OnePassInfNorm.ensures c.compute_onepass.ensures.outcome)
 
 shape_of-factors-in-Mc64Symmetric : tie.Need-shape_of-factors-in-Mc64Symmetric
@@ -126,11 +124,11 @@ returns-in-Mc64Symmetric : tie.Need-returns-in-Mc64Symmetric
 returns-in-Mc64Symmetric c =
     let args = c.args in
     promised _ _ _ _ (λ k h. c.shared_slice_known-5-1.given k) _
-    (mc64_chosen (matrix args.n args.col-ptr.now args.row-idx.now args.values.now)
+    (mc64_chosen (matrix args.n args.col_ptr.now args.row_idx.now args.values.now)
     args.external.now args.logs.now (slices args.factors.now args.maxima.now
-    (Graphs.slices args.graph-ptr.now args.graph-rows.now args.cost.now args.cmax.now args.graph-work.now)
+    (Graphs.slices args.graph_ptr.now args.graph_rows.now args.cost.now args.cmax.now args.graph_work.now)
     (Match.slices args.perm.now args.u.now args.v.now args.match_work.now args.distances.now)
-    args.factor-work.now) c.enum_told-in-Mc64Symmetric-1.given.1 c.of_scaled.ensures
+    args.factor_work.now) c.in-Mc64Symmetric.is c.of_scaled.ensures
     c.compute_symmetric.ensures.outcome)
 
 shape_of-factors-in-Identity : tie.Need-shape_of-factors-in-Identity
@@ -139,24 +137,23 @@ shape_of-factors-in-Identity c = search rules
 returns-in-Identity : tie.Need-returns-in-Identity
 returns-in-Identity c =
     let args = c.args in
-    promised _ _ _ _ (λ k h. (logs-of-known13 (known13-of-enum-told4
-    c.before.before.before.before.before)).shared-slice-known5.given k) _
-    (identity_chosen (matrix args.n args.col-ptr.now args.row-idx.now args.values.now)
+    promised _ _ _ _ (λ k h. c.shared_slice_known-5-1.given k) _
+    (identity_chosen (matrix args.n args.col_ptr.now args.row_idx.now args.values.now)
     args.external.now args.logs.now (slices args.factors.now args.maxima.now
-    (Graphs.slices args.graph-ptr.now args.graph-rows.now args.cost.now args.cmax.now args.graph-work.now)
+    (Graphs.slices args.graph_ptr.now args.graph_rows.now args.cost.now args.cmax.now args.graph_work.now)
     (Match.slices args.perm.now args.u.now args.v.now args.match_work.now args.distances.now)
-    args.factor-work.now) c.enum_told-in-Identity-1.given.1
+    args.factor_work.now) c.in-Identity.is
     c.not_applied.ensures c.identity_factors.ensures)
 
 returns-in-External : tie.Need-returns-in-External
 returns-in-External c =
     let args = c.args in
     promised _ _ _ _ (λ k h. c.shared_slice_known-5-1.given k) _
-    (external_chosen (matrix args.n args.col-ptr.now args.row-idx.now args.values.now)
+    (external_chosen (matrix args.n args.col_ptr.now args.row_idx.now args.values.now)
     args.external.now args.logs.now (slices args.factors.now args.maxima.now
-    (Graphs.slices args.graph-ptr.now args.graph-rows.now args.cost.now args.cmax.now args.graph-work.now)
+    (Graphs.slices args.graph_ptr.now args.graph_rows.now args.cost.now args.cmax.now args.graph_work.now)
     (Match.slices args.perm.now args.u.now args.v.now args.match_work.now args.distances.now)
-    args.factor-work.now) c.enum_told-in-External-1.given.1 refl c.external_fault.ensures)
+    args.factor_work.now) c.in-External.is refl c.external_fault.ensures)
 
 pub compute_scaling_spec : {M : Type 1} → statement M
 compute_scaling_spec =

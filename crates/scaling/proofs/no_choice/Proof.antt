@@ -23,14 +23,14 @@ unfolding no_choice
 returns-then-fault-ne-ACCEPTED c =
     let args = c.args in
     sym (or_some c.input_fault-fault.result index_range c.if-fault-ne-ACCEPTED.true) ∙ ap (λ (f : ℕ). or_else f index_range)
-    (onepass_fault_lem (matrix args.n args.col-ptr.now args.row-idx.now args.values.now) args.factors.now
+    (onepass_fault_lem (matrix args.n args.col_ptr.now args.row_idx.now args.values.now) args.factors.now
     c.input_fault-fault.ensures c.lengths_fit-lengths.ensures)
 
 returns : tie.Need-returns
 unfolding no_choice
 returns c =
     let args = c.args in
-    sym (or-none (sym (onepass_fault_lem (matrix args.n args.col-ptr.now args.row-idx.now args.values.now) args.factors.now
+    sym (or-none (sym (onepass_fault_lem (matrix args.n args.col_ptr.now args.row_idx.now args.values.now) args.factors.now
     c.input_fault-fault.ensures c.lengths_fit-lengths.ensures) ∙ c.if-fault-ne-ACCEPTED.false))
 
 pub no_choice_spec : {M : Type 1} → statement M

@@ -19,10 +19,10 @@ returns-in-Applied : tie.Need-returns-in-Applied
 returns-in-Applied c = search rules
 
 returns-in-PartialSingular : tie.Need-returns-in-PartialSingular
-returns-in-PartialSingular c = sym (ap of_scaled c.answer-1.given.1)
+returns-in-PartialSingular c = sym (ap of_scaled c.in-PartialSingular.is)
 
 returns-in-Refused : tie.Need-returns-in-Refused
-returns-in-Refused c = sym (ap of_scaled c.answer-in-Refused-1.given.1)
+returns-in-Refused c = sym (ap of_scaled c.in-Refused.is)
 
 pub of_scaled_spec : {M : Type 1} → statement M
 of_scaled_spec =

@@ -39,19 +39,19 @@ shape_of-info-in-Applied : tie.Need-shape_of-info-in-Applied
 shape_of-info-in-Applied c = search rules
 
 returns-in-Applied : tie.Need-returns-in-Applied
-returns-in-Applied c = put_applied _ c.requires c.enum_told-1.given.1
+returns-in-Applied c = put_applied _ c.requires c.in-Applied.is
 
 shape_of-info-in-PartialSingular : tie.Need-shape_of-info-in-PartialSingular
 shape_of-info-in-PartialSingular c = search rules
 
 returns-in-PartialSingular : tie.Need-returns-in-PartialSingular
-returns-in-PartialSingular c = put_partial _ c.requires c.done-1.given.1
+returns-in-PartialSingular c = put_partial _ c.requires c.in-PartialSingular.is
 
 shape_of-info-in-NotApplied : tie.Need-shape_of-info-in-NotApplied
 shape_of-info-in-NotApplied c = search rules
 
 returns-in-NotApplied : tie.Need-returns-in-NotApplied
-returns-in-NotApplied c = put_not_applied _ c.requires c.enum_told-in-NotApplied-1.given.1
+returns-in-NotApplied c = put_not_applied _ c.requires c.in-NotApplied.is
 
 returns-in-Refused : tie.Need-returns-in-Refused
 returns-in-Refused c = search rules

@@ -25,11 +25,11 @@ enum_told-1 : tie.Need-enum_told-1
 enum_told-1 c = search rules
 
 returns-in_default : tie.Need-returns-in_default
-returns-in_default c = first_cut _ (omega (arith, row_cut _ _ c.take_row.ensures c.enum_told-1.given.1))
+returns-in_default c = first_cut _ (omega (arith, row_cut _ _ c.take_row.ensures c.in_default.is))
 
 take_number-requires : tie.Need-take_number-requires
 take_number-requires c κs =
-    let r = row_taken _ _ c.take_row.ensures c.row-1.given.1 in
+    let r = row_taken _ _ c.take_row.ensures c.in-Row.is in
     (omega arith, omega (arith, r.place, r.within))
 
 enum_known-u : tie.Need-enum_known-u
@@ -40,13 +40,13 @@ enum_told-in_default-take_number c = search rules
 
 returns-in_default-take_number : tie.Need-returns-in_default-take_number
 returns-in_default-take_number c =
-    let r = row_taken _ _ c.take_row.ensures c.row-1.given.1 in
-    first_cut _ (omega (arith, number_cut _ _ c.take_number.ensures r.place c.enum_told-in_default-take_number-1.given.1))
+    let r = row_taken _ _ c.take_row.ensures c.in-Row.is in
+    first_cut _ (omega (arith, number_cut _ _ c.take_number.ensures r.place c.in_default-take_number.is))
 
 take_number-requires-2 : tie.Need-take_number-requires-2
 take_number-requires-2 c κs =
-    let r = row_taken _ _ c.take_row.ensures c.row-1.given.1 in
-    let u = number_taken _ _ c.take_number.ensures r.place c.u-1.given.1 in
+    let r = row_taken _ _ c.take_row.ensures c.in-Row.is in
+    let u = number_taken _ _ c.take_number.ensures r.place c.in-Number.is in
     (omega arith, omega (arith, u.place, u.within))
 
 enum_known-v : tie.Need-enum_known-v
@@ -57,15 +57,15 @@ enum_told-in_default-take_number-2 c = search rules
 
 returns-in_default-take_number-2 : tie.Need-returns-in_default-take_number-2
 returns-in_default-take_number-2 c =
-    let r = row_taken _ _ c.take_row.ensures c.row-1.given.1 in
-    let u = number_taken _ _ c.take_number.ensures r.place c.u-1.given.1 in
-    first_cut _ (omega (arith, number_cut _ _ c.take_number-2.ensures u.place c.enum_told-in_default-take_number-2-1.given.1))
+    let r = row_taken _ _ c.take_row.ensures c.in-Row.is in
+    let u = number_taken _ _ c.take_number.ensures r.place c.in-Number.is in
+    first_cut _ (omega (arith, number_cut _ _ c.take_number-2.ensures u.place c.in_default-take_number-2.is))
 
 take_number-requires-3 : tie.Need-take_number-requires-3
 take_number-requires-3 c κs =
-    let r = row_taken _ _ c.take_row.ensures c.row-1.given.1 in
-    let u = number_taken _ _ c.take_number.ensures r.place c.u-1.given.1 in
-    let v = number_taken _ _ c.take_number-2.ensures u.place c.v-1.given.1 in
+    let r = row_taken _ _ c.take_row.ensures c.in-Row.is in
+    let u = number_taken _ _ c.take_number.ensures r.place c.in-Number.is in
+    let v = number_taken _ _ c.take_number-2.ensures u.place c.in-Number-take_number.is in
     (omega arith, omega (arith, v.place, v.within))
 
 enum_known-cmax : tie.Need-enum_known-cmax
@@ -76,20 +76,20 @@ enum_told-in_default-take_number-3 c = search rules
 
 returns-in_default-take_number-3 : tie.Need-returns-in_default-take_number-3
 returns-in_default-take_number-3 c =
-    let r = row_taken _ _ c.take_row.ensures c.row-1.given.1 in
-    let u = number_taken _ _ c.take_number.ensures r.place c.u-1.given.1 in
-    let v = number_taken _ _ c.take_number-2.ensures u.place c.v-1.given.1 in
-    first_cut _ (omega (arith, number_cut _ _ c.take_number-3.ensures v.place c.enum_told-in_default-take_number-3-1.given.1))
+    let r = row_taken _ _ c.take_row.ensures c.in-Row.is in
+    let u = number_taken _ _ c.take_number.ensures r.place c.in-Number.is in
+    let v = number_taken _ _ c.take_number-2.ensures u.place c.in-Number-take_number.is in
+    first_cut _ (omega (arith, number_cut _ _ c.take_number-3.ensures v.place c.in_default-take_number-3.is))
 
 get_two-requires : tie.Need-get_two-requires
 get_two-requires c κs = omega arith
 
 returns : tie.Need-returns
 returns c =
-    let r = row_taken _ _ c.take_row.ensures c.row-1.given.1 in
-    let u = number_taken _ _ c.take_number.ensures r.place c.u-1.given.1 in
-    let v = number_taken _ _ c.take_number-2.ensures u.place c.v-1.given.1 in
-    let w = number_taken _ _ c.take_number-3.ensures v.place c.cmax-1.given.1 in
+    let r = row_taken _ _ c.take_row.ensures c.in-Row.is in
+    let u = number_taken _ _ c.take_number.ensures r.place c.in-Number.is in
+    let v = number_taken _ _ c.take_number-2.ensures u.place c.in-Number-take_number.is in
+    let w = number_taken _ _ c.take_number-3.ensures v.place c.in-Number-take_number-2.is in
     first_made _ c.get_two.ensures r.value u.value v.value w.value w.place w.within
 
 pub first_record_spec : {M : Type 1} → statement M

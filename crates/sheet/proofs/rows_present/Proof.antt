@@ -48,7 +48,7 @@ loop-k-preserved c =
     let s = c.loop-k in
     let b = stands_bit none (get_or a.perm.now s.k 0) in
     let n = rows_next a.perm.now s.k (omega arith) in
-    (omega arith, omega (arith, c.row_stands-count.ensures), omega (arith, c.row_stands-count.ensures, s.inv.2))
+    (omega arith, omega (arith, c.row_stands-count.ensures), omega (arith, c.row_stands-count.ensures, s.invariant.2))
 
 returns : tie.Need-returns invariant-loop-k decreases-loop-k
 returns c = omega (arith, c.loop-k.invariant.2, rows_end c.args.perm.now c.loop-k.k (omega arith))

@@ -24,9 +24,9 @@ store_records-requires : tie.Need-store_records-requires
 store_records-requires c κs =
     let a = c.args in
     let p25 = c.requires in
-    let h = lengths_are (order_of a.sheet.now) (match_of a.perm.now a.u.now a.v.now a.cmax.now) p25.cmax_value in
+    let h = lengths_are (order_of a.sheet.now) (match_of a.perm.now a.u.now a.v.now a.cmax.now) p25.1 in
     let p : _ = c.clear_rows.auto.list ∙ h.perm in (
-      rw p (body_inside a.sheet.now p25.sheet_value),
+      rw p (body_inside a.sheet.now p25.0),
       (
         c.clear_numbers.auto.list ∙ h.u ∙ sym p,
         (
@@ -51,7 +51,7 @@ shape_of-cmax c = search rules
 returns : tie.Need-returns
 returns c =
     let a = c.args in
-    let h = lengths_are (order_of a.sheet.now) (match_of a.perm.now a.u.now a.v.now a.cmax.now) c.requires.cmax_value in
+    let h = lengths_are (order_of a.sheet.now) (match_of a.perm.now a.u.now a.v.now a.cmax.now) c.requires.1 in
     c.store_records.ensures ∙ blank_stored a.sheet.now _ _ _ _
     (c.clear_rows.ensures ∙ rw h.perm refl)
     (c.clear_numbers.ensures ∙ rw h.u refl)

@@ -26,7 +26,7 @@ decreases-loop-at sheet perm₀ u₀ v₀ cmax₀ at₀ perm u v cmax at = lengt
 loop-at-init : tie.Need-loop-at-init invariant-loop-at decreases-loop-at
 loop-at-init c =
     let p = c.requires in
-    (refl, p.u_len, p.v_len, p.cmax_len, p.inside, refl)
+    (refl, p.1.0, p.1.1.0, p.1.1.1, p.0, refl)
 
 slice_bounds-first_record-count : tie.Need-slice_bounds-first_record-count invariant-loop-at decreases-loop-at
 slice_bounds-first_record-count c = omega arith
@@ -50,13 +50,13 @@ shape_of-perm-in_default : tie.Need-shape_of-perm-in_default invariant-loop-at d
 shape_of-perm-in_default c = c.loop-at.invariant.0
 
 shape_of-u-in_default : tie.Need-shape_of-u-in_default invariant-loop-at decreases-loop-at
-shape_of-u-in_default c = c.loop-at.invariant.1 ∙ sym c.requires.u_len
+shape_of-u-in_default c = c.loop-at.invariant.1 ∙ sym c.requires.1.0
 
 shape_of-v-in_default : tie.Need-shape_of-v-in_default invariant-loop-at decreases-loop-at
-shape_of-v-in_default c = c.loop-at.invariant.2 ∙ sym c.requires.v_len
+shape_of-v-in_default c = c.loop-at.invariant.2 ∙ sym c.requires.1.1.0
 
 shape_of-cmax-in_default : tie.Need-shape_of-cmax-in_default invariant-loop-at decreases-loop-at
-shape_of-cmax-in_default c = c.loop-at.invariant.3 ∙ sym c.requires.cmax_len
+shape_of-cmax-in_default c = c.loop-at.invariant.3 ∙ sym c.requires.1.1.1
 
 returns-in_default : tie.Need-returns-in_default invariant-loop-at decreases-loop-at
 returns-in_default c =
@@ -64,17 +64,17 @@ returns-in_default c =
     sym (c.loop-at.invariant.5 ∙ cut_stored a.sheet.now c.loop-at.at
     (match_of c.loop-at.perm c.loop-at.u c.loop-at.v c.loop-at.cmax)
     c.loop-at-test.true
-    (first-at a.sheet.now c.loop-at.at c.first_record.ensures c.enum_told-1.given.1))
+    (first-at a.sheet.now c.loop-at.at c.first_record.ensures c.in_default.is))
 
 overflow_cast-patch : tie.Need-overflow_cast-patch invariant-loop-at decreases-loop-at
 overflow_cast-patch c =
     let a = c.args in
     omega (
       arith,
-      (inside_here (length a.perm.now) a.sheet.now c.loop-at.at c.r-1.given.0.0
+      (inside_here (length a.perm.now) a.sheet.now c.loop-at.at c.in-Is.r
           c.loop-at-test.true
           (first-at a.sheet.now c.loop-at.at c.first_record.ensures
-          c.r-1.given.1) c.loop-at.invariant.4).0,
+          c.in-Is.is) c.loop-at.invariant.4).0,
     )
 
 offset_bounds-perm-patch : tie.Need-offset_bounds-perm-patch invariant-loop-at decreases-loop-at
@@ -82,10 +82,10 @@ offset_bounds-perm-patch c =
     let a = c.args in
     omega (
       arith,
-      (inside_here (length a.perm.now) a.sheet.now c.loop-at.at c.r-1.given.0.0
+      (inside_here (length a.perm.now) a.sheet.now c.loop-at.at c.in-Is.r
           c.loop-at-test.true
           (first-at a.sheet.now c.loop-at.at c.first_record.ensures
-          c.r-1.given.1) c.loop-at.invariant.4).0,
+          c.in-Is.is) c.loop-at.invariant.4).0,
       c.loop-at.invariant.0,
     )
 
@@ -94,10 +94,10 @@ bounds-perm-patch c =
     let a = c.args in
     omega (
       arith,
-      (inside_here (length a.perm.now) a.sheet.now c.loop-at.at c.r-1.given.0.0
+      (inside_here (length a.perm.now) a.sheet.now c.loop-at.at c.in-Is.r
           c.loop-at-test.true
           (first-at a.sheet.now c.loop-at.at c.first_record.ensures
-          c.r-1.given.1) c.loop-at.invariant.4).0,
+          c.in-Is.is) c.loop-at.invariant.4).0,
       c.loop-at.invariant.0,
     )
 
@@ -106,10 +106,10 @@ offset_bounds-u-patch c =
     let a = c.args in
     omega (
       arith,
-      (inside_here (length a.perm.now) a.sheet.now c.loop-at.at c.r-1.given.0.0
+      (inside_here (length a.perm.now) a.sheet.now c.loop-at.at c.in-Is.r
           c.loop-at-test.true
           (first-at a.sheet.now c.loop-at.at c.first_record.ensures
-          c.r-1.given.1) c.loop-at.invariant.4).0,
+          c.in-Is.is) c.loop-at.invariant.4).0,
       c.loop-at.invariant.1,
     )
 
@@ -118,10 +118,10 @@ bounds-u-patch c =
     let a = c.args in
     omega (
       arith,
-      (inside_here (length a.perm.now) a.sheet.now c.loop-at.at c.r-1.given.0.0
+      (inside_here (length a.perm.now) a.sheet.now c.loop-at.at c.in-Is.r
           c.loop-at-test.true
           (first-at a.sheet.now c.loop-at.at c.first_record.ensures
-          c.r-1.given.1) c.loop-at.invariant.4).0,
+          c.in-Is.is) c.loop-at.invariant.4).0,
       c.loop-at.invariant.1,
     )
 
@@ -130,10 +130,10 @@ offset_bounds-v-patch c =
     let a = c.args in
     omega (
       arith,
-      (inside_here (length a.perm.now) a.sheet.now c.loop-at.at c.r-1.given.0.0
+      (inside_here (length a.perm.now) a.sheet.now c.loop-at.at c.in-Is.r
           c.loop-at-test.true
           (first-at a.sheet.now c.loop-at.at c.first_record.ensures
-          c.r-1.given.1) c.loop-at.invariant.4).0,
+          c.in-Is.is) c.loop-at.invariant.4).0,
       c.loop-at.invariant.2,
     )
 
@@ -142,10 +142,10 @@ bounds-v-patch c =
     let a = c.args in
     omega (
       arith,
-      (inside_here (length a.perm.now) a.sheet.now c.loop-at.at c.r-1.given.0.0
+      (inside_here (length a.perm.now) a.sheet.now c.loop-at.at c.in-Is.r
           c.loop-at-test.true
           (first-at a.sheet.now c.loop-at.at c.first_record.ensures
-          c.r-1.given.1) c.loop-at.invariant.4).0,
+          c.in-Is.is) c.loop-at.invariant.4).0,
       c.loop-at.invariant.2,
     )
 
@@ -154,10 +154,10 @@ offset_bounds-cmax-patch c =
     let a = c.args in
     omega (
       arith,
-      (inside_here (length a.perm.now) a.sheet.now c.loop-at.at c.r-1.given.0.0
+      (inside_here (length a.perm.now) a.sheet.now c.loop-at.at c.in-Is.r
           c.loop-at-test.true
           (first-at a.sheet.now c.loop-at.at c.first_record.ensures
-          c.r-1.given.1) c.loop-at.invariant.4).0,
+          c.in-Is.is) c.loop-at.invariant.4).0,
       c.loop-at.invariant.3,
     )
 
@@ -166,10 +166,10 @@ bounds-cmax-patch c =
     let a = c.args in
     omega (
       arith,
-      (inside_here (length a.perm.now) a.sheet.now c.loop-at.at c.r-1.given.0.0
+      (inside_here (length a.perm.now) a.sheet.now c.loop-at.at c.in-Is.r
           c.loop-at-test.true
           (first-at a.sheet.now c.loop-at.at c.first_record.ensures
-          c.r-1.given.1) c.loop-at.invariant.4).0,
+          c.in-Is.is) c.loop-at.invariant.4).0,
       c.loop-at.invariant.3,
     )
 
@@ -178,12 +178,12 @@ overflow_add-at c =
     let a = c.args in
     omega (
       arith,
-      size_within a.sheet.now c.loop-at.at c.r-1.given.0.0 c.loop-at-test.true
+      size_within a.sheet.now c.loop-at.at c.in-Is.r c.loop-at-test.true
           (first-at a.sheet.now c.loop-at.at c.first_record.ensures
-          c.r-1.given.1),
-      first_says _ c.r-1.given.0.0
+          c.in-Is.is),
+      first_says _ c.in-Is.r
           (first-at a.sheet.now c.loop-at.at c.first_record.ensures
-          c.r-1.given.1),
+          c.in-Is.is),
     )
 
 loop-at-smaller : tie.Need-loop-at-smaller invariant-loop-at decreases-loop-at
@@ -191,51 +191,51 @@ loop-at-smaller c =
     let a = c.args in
     omega (
       arith,
-      size_within a.sheet.now c.loop-at.at c.r-1.given.0.0 c.loop-at-test.true
+      size_within a.sheet.now c.loop-at.at c.in-Is.r c.loop-at-test.true
           (first-at a.sheet.now c.loop-at.at c.first_record.ensures
-          c.r-1.given.1),
-      first_says _ c.r-1.given.0.0
+          c.in-Is.is),
+      first_says _ c.in-Is.r
           (first-at a.sheet.now c.loop-at.at c.first_record.ensures
-          c.r-1.given.1),
-      size_least c.r-1.given.0.0.bits,
+          c.in-Is.is),
+      size_least c.in-Is.r.bits,
     )
 
 loop-at-preserved : tie.Need-loop-at-preserved invariant-loop-at decreases-loop-at
 loop-at-preserved c =
     let a = c.args in
-    let i = inside_here (length a.perm.now) a.sheet.now c.loop-at.at c.r-1.given.0.0
+    let i = inside_here (length a.perm.now) a.sheet.now c.loop-at.at c.in-Is.r
     c.loop-at-test.true
     (first-at a.sheet.now c.loop-at.at c.first_record.ensures
-    c.r-1.given.1) c.loop-at.invariant.4 in
+    c.in-Is.is) c.loop-at.invariant.4 in
     let s = next_stored a.sheet.now c.loop-at.at
     (match_of c.loop-at.perm c.loop-at.u c.loop-at.v
-    c.loop-at.cmax) c.r-1.given.0.0 c.loop-at-test.true
+    c.loop-at.cmax) c.in-Is.r c.loop-at-test.true
     (first-at a.sheet.now c.loop-at.at c.first_record.ensures
-    c.r-1.given.1) in (
+    c.in-Is.is) in (
       simp length-set c.loop-at.invariant.0,
       simp length-set c.loop-at.invariant.1,
       simp length-set c.loop-at.invariant.2,
       simp length-set
           c.loop-at.invariant.3,
-      rw (first_says _ c.r-1.given.0.0
+      rw (first_says _ c.in-Is.r
           (first-at a.sheet.now c.loop-at.at c.first_record.ensures
-          c.r-1.given.1)) i.1,
-      rw (first_says _ c.r-1.given.0.0
+          c.in-Is.is)) i.1,
+      rw (first_says _ c.in-Is.r
           (first-at a.sheet.now c.loop-at.at c.first_record.ensures
-          c.r-1.given.1)) (c.loop-at.invariant.5 ∙ s),
+          c.in-Is.is)) (c.loop-at.invariant.5 ∙ s),
     )
 
 shape_of-perm : tie.Need-shape_of-perm invariant-loop-at decreases-loop-at
 shape_of-perm c = c.loop-at.invariant.0
 
 shape_of-u : tie.Need-shape_of-u invariant-loop-at decreases-loop-at
-shape_of-u c = c.loop-at.invariant.1 ∙ sym c.requires.u_len
+shape_of-u c = c.loop-at.invariant.1 ∙ sym c.requires.1.0
 
 shape_of-v : tie.Need-shape_of-v invariant-loop-at decreases-loop-at
-shape_of-v c = c.loop-at.invariant.2 ∙ sym c.requires.v_len
+shape_of-v c = c.loop-at.invariant.2 ∙ sym c.requires.1.1.0
 
 shape_of-cmax : tie.Need-shape_of-cmax invariant-loop-at decreases-loop-at
-shape_of-cmax c = c.loop-at.invariant.3 ∙ sym c.requires.cmax_len
+shape_of-cmax c = c.loop-at.invariant.3 ∙ sym c.requires.1.1.1
 
 returns : tie.Need-returns invariant-loop-at decreases-loop-at
 returns c = sym (c.loop-at.invariant.5 ∙ all_stored c.args.sheet.now c.loop-at.at

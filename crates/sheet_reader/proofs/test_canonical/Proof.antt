@@ -44,7 +44,7 @@ returns-in_default c =
     let a = c.args in
     sym (c.loop-at.invariant.1 ∙ canonical_cut a.n a.sheet.now c.loop-at.next c.loop-at.at
     c.loop-at-test.true
-    (first-at a.sheet.now c.loop-at.at c.first_record.ensures c.enum_told-1.given.1))
+    (first-at a.sheet.now c.loop-at.at c.first_record.ensures c.in_default.is))
 
 index_fault-index-requires : tie.Need-index_fault-index-requires invariant-loop-at decreases-loop-at
 index_fault-index-requires c κs = tt
@@ -53,9 +53,9 @@ returns-then-index-ne-ACCEPTED : tie.Need-returns-then-index-ne-ACCEPTED invaria
 returns-then-index-ne-ACCEPTED c =
     let a = c.args in
     sym (c.loop-at.invariant.1 ∙ canonical_index a.n a.sheet.now c.loop-at.next c.loop-at.at
-    c.r-1.given.0.0
+    c.in-Is.r
     c.loop-at-test.true
-    (first-at a.sheet.now c.loop-at.at c.first_record.ensures c.r-1.given.1)
+    (first-at a.sheet.now c.loop-at.at c.first_record.ensures c.in-Is.is)
     c.index_fault-index.ensures c.if-index-ne-ACCEPTED.true)
 
 canonical_fault-form-requires : tie.Need-canonical_fault-form-requires invariant-loop-at decreases-loop-at
@@ -65,15 +65,15 @@ returns-then-form-ne-ACCEPTED : tie.Need-returns-then-form-ne-ACCEPTED invariant
 returns-then-form-ne-ACCEPTED c =
     let a = c.args in
     sym (c.loop-at.invariant.1 ∙ canonical_fault_lem a.n a.sheet.now c.loop-at.next c.loop-at.at
-    c.r-1.given.0.0 c.loop-at-test.taken
+    c.in-Is.r c.loop-at-test.true
     (first-at a.sheet.now c.loop-at.at c.first_record.ensures
-    c.r-1.given.1) c.index_fault-index.ensures c.if-index-ne-ACCEPTED.false
+    c.in-Is.is) c.index_fault-index.ensures c.if-index-ne-ACCEPTED.false
     c.canonical_fault-form.ensures c.if-form-ne-ACCEPTED.true)
 
 overflow_add-next : tie.Need-overflow_add-next invariant-loop-at decreases-loop-at
 overflow_add-next c = omega (
   arith,
-  patch_below c.args.n c.r-1.given.0.0
+  patch_below c.args.n c.in-Is.r
       (sym c.index_fault-index.ensures ∙ c.if-index-ne-ACCEPTED.false),
 )
 
@@ -82,12 +82,12 @@ overflow_add-at c =
     let a = c.args in
     omega (
       arith,
-      size_within a.sheet.now c.loop-at.at c.r-1.given.0.0 c.loop-at-test.true
+      size_within a.sheet.now c.loop-at.at c.in-Is.r c.loop-at-test.true
           (first-at a.sheet.now c.loop-at.at c.first_record.ensures
-          c.r-1.given.1),
-      first_says _ c.r-1.given.0.0
+          c.in-Is.is),
+      first_says _ c.in-Is.r
           (first-at a.sheet.now c.loop-at.at c.first_record.ensures
-          c.r-1.given.1),
+          c.in-Is.is),
     )
 
 loop-at-smaller : tie.Need-loop-at-smaller invariant-loop-at decreases-loop-at
@@ -95,29 +95,29 @@ loop-at-smaller c =
     let a = c.args in
     omega (
       arith,
-      size_within a.sheet.now c.loop-at.at c.r-1.given.0.0 c.loop-at-test.true
+      size_within a.sheet.now c.loop-at.at c.in-Is.r c.loop-at-test.true
           (first-at a.sheet.now c.loop-at.at c.first_record.ensures
-          c.r-1.given.1),
-      first_says _ c.r-1.given.0.0
+          c.in-Is.is),
+      first_says _ c.in-Is.r
           (first-at a.sheet.now c.loop-at.at c.first_record.ensures
-          c.r-1.given.1),
+          c.in-Is.is),
       size_least
-          c.r-1.given.0.0.bits,
+          c.in-Is.r.bits,
     )
 
 loop-at-preserved : tie.Need-loop-at-preserved invariant-loop-at decreases-loop-at
 loop-at-preserved c =
     let a = c.args in
     let p = canonical_passed a.n a.sheet.now c.loop-at.next c.loop-at.at
-    c.r-1.given.0.0
+    c.in-Is.r
     c.loop-at-test.true
     (first-at a.sheet.now c.loop-at.at c.first_record.ensures
-    c.r-1.given.1) c.index_fault-index.ensures c.if-index-ne-ACCEPTED.false
+    c.in-Is.is) c.index_fault-index.ensures c.if-index-ne-ACCEPTED.false
     c.canonical_fault-form.ensures c.if-form-ne-ACCEPTED.false in (
       omega arith,
-      rw (first_says _ c.r-1.given.0.0
+      rw (first_says _ c.in-Is.r
           (first-at a.sheet.now c.loop-at.at c.first_record.ensures
-          c.r-1.given.1)) (c.loop-at.invariant.1 ∙ p),
+          c.in-Is.is)) (c.loop-at.invariant.1 ∙ p),
     )
 
 returns : tie.Need-returns invariant-loop-at decreases-loop-at

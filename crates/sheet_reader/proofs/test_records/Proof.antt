@@ -46,7 +46,7 @@ returns-in_default c =
     let a = c.args in
     sym (c.loop-at.invariant.2 ∙ cut_here a.n a.sheet.now c.loop-at.marks c.loop-at.at
     c.loop-at-test.true
-    (first-at a.sheet.now c.loop-at.at c.first_record.ensures c.enum_told-1.given.1))
+    (first-at a.sheet.now c.loop-at.at c.first_record.ensures c.in_default.is))
 
 index_fault-index-requires : tie.Need-index_fault-index-requires invariant-loop-at decreases-loop-at
 index_fault-index-requires c κs = tt
@@ -58,22 +58,22 @@ returns-then-index-ne-ACCEPTED : tie.Need-returns-then-index-ne-ACCEPTED invaria
 returns-then-index-ne-ACCEPTED c =
     let a = c.args in
     sym (c.loop-at.invariant.2 ∙ index_here a.n a.sheet.now c.loop-at.marks c.loop-at.at
-    c.r-1.given.0.0
+    c.in-Is.r
     c.loop-at-test.true
-    (first-at a.sheet.now c.loop-at.at c.first_record.ensures c.r-1.given.1)
+    (first-at a.sheet.now c.loop-at.at c.first_record.ensures c.in-Is.is)
     c.index_fault-index.ensures c.if-index-ne-ACCEPTED.true)
 
 overflow_cast-patch : tie.Need-overflow_cast-patch invariant-loop-at decreases-loop-at
 overflow_cast-patch c = omega (
   arith,
-  patch_below c.args.n c.r-1.given.0.0
+  patch_below c.args.n c.in-Is.r
       (sym c.index_fault-index.ensures ∙ c.if-index-ne-ACCEPTED.false),
 )
 
 bounds-marks-patch : tie.Need-bounds-marks-patch invariant-loop-at decreases-loop-at
 bounds-marks-patch c = omega (
   arith,
-  patch_below c.args.n c.r-1.given.0.0
+  patch_below c.args.n c.in-Is.r
       (sym c.index_fault-index.ensures ∙ c.if-index-ne-ACCEPTED.false),
   c.loop-at.invariant.1,
 )
@@ -88,17 +88,17 @@ returns-then-repeat-ne-ACCEPTED : tie.Need-returns-then-repeat-ne-ACCEPTED invar
 returns-then-repeat-ne-ACCEPTED c =
     let a = c.args in
     sym (c.loop-at.invariant.2 ∙ repeat_here a.n a.sheet.now c.loop-at.marks c.loop-at.at
-    c.r-1.given.0.0 c.loop-at-test.true
-    (first-at a.sheet.now c.loop-at.at c.first_record.ensures c.r-1.given.1)
+    c.in-Is.r c.loop-at-test.true
+    (first-at a.sheet.now c.loop-at.at c.first_record.ensures c.in-Is.is)
     c.index_fault-index.ensures
     c.if-index-ne-ACCEPTED.false c.repeat_fault-repeat.ensures c.if-repeat-ne-ACCEPTED.true)
 
 bounds-marks-patch-in-loop-at : tie.Need-bounds-marks-patch-in-loop-at invariant-loop-at decreases-loop-at
 bounds-marks-patch-in-loop-at c = omega (
   arith,
-  patch_below c.args.n c.r-1.given.0.0
+  patch_below c.args.n c.in-Is.r
       (sym c.index_fault-index.ensures ∙ c.if-index-ne-ACCEPTED.false),
-  c.loop-at.inv.1,
+  c.loop-at.invariant.1,
 )
 
 overflow_add-at : tie.Need-overflow_add-at invariant-loop-at decreases-loop-at
@@ -106,12 +106,12 @@ overflow_add-at c =
     let a = c.args in
     omega (
       arith,
-      size_within a.sheet.now c.loop-at.at c.r-1.given.0.0 c.loop-at-test.true
+      size_within a.sheet.now c.loop-at.at c.in-Is.r c.loop-at-test.true
           (first-at a.sheet.now c.loop-at.at c.first_record.ensures
-          c.r-1.given.1),
-      first_says _ c.r-1.given.0.0
+          c.in-Is.is),
+      first_says _ c.in-Is.r
           (first-at a.sheet.now c.loop-at.at c.first_record.ensures
-          c.r-1.given.1),
+          c.in-Is.is),
     )
 
 loop-at-smaller : tie.Need-loop-at-smaller invariant-loop-at decreases-loop-at
@@ -119,28 +119,28 @@ loop-at-smaller c =
     let a = c.args in
     omega (
       arith,
-      size_within a.sheet.now c.loop-at.at c.r-1.given.0.0 c.loop-at-test.true
+      size_within a.sheet.now c.loop-at.at c.in-Is.r c.loop-at-test.true
           (first-at a.sheet.now c.loop-at.at c.first_record.ensures
-          c.r-1.given.1),
-      first_says _ c.r-1.given.0.0
+          c.in-Is.is),
+      first_says _ c.in-Is.r
           (first-at a.sheet.now c.loop-at.at c.first_record.ensures
-          c.r-1.given.1),
+          c.in-Is.is),
       size_least
-          c.r-1.given.0.0.bits,
+          c.in-Is.r.bits,
     )
 
 loop-at-preserved : tie.Need-loop-at-preserved invariant-loop-at decreases-loop-at
 loop-at-preserved c =
     let a = c.args in
-    let p = passed a.n a.sheet.now c.loop-at.marks c.loop-at.at c.r-1.given.0.0
+    let p = passed a.n a.sheet.now c.loop-at.marks c.loop-at.at c.in-Is.r
     c.loop-at-test.true
-    (first-at a.sheet.now c.loop-at.at c.first_record.ensures c.r-1.given.1)
-    c.index_fault-index.ensures c.if-index-ne-ACCEPTED.left c.repeat_fault-repeat.ensures
+    (first-at a.sheet.now c.loop-at.at c.first_record.ensures c.in-Is.is)
+    c.index_fault-index.ensures c.if-index-ne-ACCEPTED.false c.repeat_fault-repeat.ensures
     c.if-repeat-ne-ACCEPTED.false in (
       omega arith,
       simp length-set c.loop-at.invariant.1,
-      rw (first_says _ c.r-1.given.0.0 (first-at a.sheet.now
-          c.loop-at.at c.first_record.ensures c.r-1.given.1))
+      rw (first_says _ c.in-Is.r (first-at a.sheet.now
+          c.loop-at.at c.first_record.ensures c.in-Is.is))
           (c.loop-at.invariant.2 ∙ p),
     )
 

@@ -24,7 +24,7 @@ decreases-loop-k n perm u v cmax out₀ at₀ k₀ out at k = n - k
 put_two-at-requires : tie.Need-put_two-at-requires invariant-loop-k decreases-loop-k
 put_two-at-requires c κs =
     let a = c.args in
-    let h = lengths_are a.n (match_of a.perm.now a.u.now a.v.now a.cmax.now) a.out.now c.requires.out_value in
+    let h = lengths_are a.n (match_of a.perm.now a.u.now a.v.now a.cmax.now) a.out.now c.requires.1 in
     omega (arith, h.room)
 
 loop-k-init : tie.Need-loop-k-init invariant-loop-k decreases-loop-k
@@ -36,55 +36,55 @@ overflow_cast-i c = omega arith
 offset_bounds-perm-i : tie.Need-offset_bounds-perm-i invariant-loop-k decreases-loop-k
 offset_bounds-perm-i c =
     let a = c.args in
-    let h = lengths_are a.n (match_of a.perm.now a.u.now a.v.now a.cmax.now) a.out.now c.requires.out_value in
+    let h = lengths_are a.n (match_of a.perm.now a.u.now a.v.now a.cmax.now) a.out.now c.requires.1 in
     omega (arith, h.perm)
 
 bounds-perm-i : tie.Need-bounds-perm-i invariant-loop-k decreases-loop-k
 bounds-perm-i c =
     let a = c.args in
     let h = lengths_are a.n (match_of a.perm.now a.u.now a.v.now a.cmax.now) a.out.now
-    c.requires.out_value in omega (arith, h.perm)
+    c.requires.1 in omega (arith, h.perm)
 
 offset_bounds-u-i : tie.Need-offset_bounds-u-i invariant-loop-k decreases-loop-k
 offset_bounds-u-i c =
     let a = c.args in
     let h = lengths_are a.n (match_of a.perm.now a.u.now a.v.now a.cmax.now) a.out.now
-    c.requires.out_value in omega (arith, h.u)
+    c.requires.1 in omega (arith, h.u)
 
 bounds-u-i : tie.Need-bounds-u-i invariant-loop-k decreases-loop-k
 bounds-u-i c =
     let a = c.args in
     let h = lengths_are a.n (match_of a.perm.now a.u.now a.v.now a.cmax.now) a.out.now
-    c.requires.out_value in omega (arith, h.u)
+    c.requires.1 in omega (arith, h.u)
 
 offset_bounds-v-i : tie.Need-offset_bounds-v-i invariant-loop-k decreases-loop-k
 offset_bounds-v-i c =
     let a = c.args in
     let h = lengths_are a.n (match_of a.perm.now a.u.now a.v.now a.cmax.now) a.out.now
-    c.requires.out_value in omega (arith, h.v)
+    c.requires.1 in omega (arith, h.v)
 
 bounds-v-i : tie.Need-bounds-v-i invariant-loop-k decreases-loop-k
 bounds-v-i c =
     let a = c.args in
     let h = lengths_are a.n (match_of a.perm.now a.u.now a.v.now a.cmax.now) a.out.now
-    c.requires.out_value in omega (arith, h.v)
+    c.requires.1 in omega (arith, h.v)
 
 offset_bounds-cmax-i : tie.Need-offset_bounds-cmax-i invariant-loop-k decreases-loop-k
 offset_bounds-cmax-i c =
     let a = c.args in
     let h = lengths_are a.n (match_of a.perm.now a.u.now a.v.now a.cmax.now) a.out.now
-    c.requires.out_value in omega (arith, h.cmax)
+    c.requires.1 in omega (arith, h.cmax)
 
 bounds-cmax-i : tie.Need-bounds-cmax-i invariant-loop-k decreases-loop-k
 bounds-cmax-i c =
     let a = c.args in
     let h = lengths_are a.n (match_of a.perm.now a.u.now a.v.now a.cmax.now) a.out.now
-    c.requires.out_value in omega (arith, h.cmax)
+    c.requires.1 in omega (arith, h.cmax)
 
 put_patch-at-requires : tie.Need-put_patch-at-requires invariant-loop-k decreases-loop-k
 put_patch-at-requires c κs =
     let a = c.args in
-    let h = lengths_are a.n (match_of a.perm.now a.u.now a.v.now a.cmax.now) a.out.now c.requires.out_value in omega (
+    let h = lengths_are a.n (match_of a.perm.now a.u.now a.v.now a.cmax.now) a.out.now c.requires.1 in omega (
       arith,
       h.room,
       c.loop-k.invariant.1,

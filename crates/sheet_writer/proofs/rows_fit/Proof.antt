@@ -6,8 +6,8 @@ use native.Mathlib.Omega.{arith}
 use lib.ListN.{length, drop}
 use Rattle.sheet.specs.Format.{rows_fit}
 use Rattle.sheet_writer.proofs.Writing.{fit_next, fit_end, and_assoc, and-true}
-use Rattle.sheet_writer.proofs.rows_fit_lem.Statement.{statement}
-use Rattle.sheet_writer.proofs.rows_fit_lem.Tie as tie
+use Rattle.sheet_writer.proofs.rows_fit.Statement.{statement}
+use Rattle.sheet_writer.proofs.rows_fit.Tie as tie
 
 abbrev invariant-loop-k : tie.invariant-loop-k
 invariant-loop-k n perm fit₀ k₀ fit k = (k ≤ length perm) × (rows_fit n perm ≡ fit && rows_fit n (drop k perm))

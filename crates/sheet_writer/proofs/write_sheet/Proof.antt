@@ -47,7 +47,7 @@ returns-then-fault-ne-ACCEPTED c =
 
 put_sheet-used-requires : tie.Need-put_sheet-used-requires
 put_sheet-used-requires c κs =
-    let s = sizes_passed c.args.n c.lengths_fit-fit.result (sym c.size_fault-sizes.ensures ∙ c.if-sizes-ne-ACCEPTED.left) in
+    let s = sizes_passed c.args.n c.lengths_fit-fit.result (sym c.size_fault-sizes.ensures ∙ c.if-sizes-ne-ACCEPTED.false) in
     (s.0, sym c.lengths_fit-fit.ensures ∙ s.1)
 
 overflow_cast-result : tie.Need-overflow_cast-result
@@ -57,7 +57,7 @@ overflow_cast-result c =
       arith,
       c.put_sheet-used.ensures.place,
       sheet_length a.n (match_of a.perm.now a.u.now a.v.now a.cmax.now),
-      (sizes_passed a.n c.lengths_fit-fit.result (sym c.size_fault-sizes.ensures ∙ c.if-sizes-ne-ACCEPTED.left)).0,
+      (sizes_passed a.n c.lengths_fit-fit.result (sym c.size_fault-sizes.ensures ∙ c.if-sizes-ne-ACCEPTED.false)).0,
     )
 
 shape_of-sheet : tie.Need-shape_of-sheet
@@ -67,7 +67,7 @@ returns : tie.Need-returns
 returns c =
     let a = c.args in
     writes a.n a.matched (match_of a.perm.now a.u.now a.v.now a.cmax.now) a.sheet.now c.lengths_fit-fit.ensures
-    c.size_fault-sizes.ensures c.if-sizes-ne-ACCEPTED.left c.match_fault-fault.ensures c.if-fault-ne-ACCEPTED.false
+    c.size_fault-sizes.ensures c.if-sizes-ne-ACCEPTED.false c.match_fault-fault.ensures c.if-fault-ne-ACCEPTED.false
     (λ i. omega (arith, c.shared_slice_known-2-1.given i)) (λ i. omega (arith, c.shared_slice_known-3-1.given i))
     (λ i. omega (arith, c.shared_slice_known-4-1.given i)) c.put_sheet-used.ensures
 

@@ -12,7 +12,7 @@ overflow_add-result : tie.Need-overflow_add-result
 overflow_add-result c = search rules
 
 returns-then-n-le4503599761588224 : tie.Need-returns-then-n-le4503599761588224
-returns-then-n-le4503599761588224 c = near_above _ c.requires.bound.0 c.if-n-eq4503599627370496.false c.if-n-le4503599761588224.true
+returns-then-n-le4503599761588224 c = near_above _ c.requires.0.0 c.if-n-eq4503599627370496.false c.if-n-le4503599761588224.true
 
 overflow_sub-result : tie.Need-overflow_sub-result
 overflow_sub-result c = search rules
@@ -21,7 +21,7 @@ overflow_sub-result-then-n-ge18014398375264256 : tie.Need-overflow_sub-result-th
 overflow_sub-result-then-n-ge18014398375264256 c = search rules
 
 returns-then-n-ge18014398375264256 : tie.Need-returns-then-n-ge18014398375264256
-returns-then-n-ge18014398375264256 c = near_below _ c.requires.bound.1 c.if-n-ge18014398375264256.true
+returns-then-n-ge18014398375264256 c = near_below _ c.requires.0.1 c.if-n-ge18014398375264256.true
 
 guess_root-requires : tie.Need-guess_root-requires
 guess_root-requires c κs = search rules

@@ -19,14 +19,14 @@ returns-then-count-lt-BUFFER_LENGTH : tie.Need-returns-then-count-lt-BUFFER_LENG
 returns-then-count-lt-BUFFER_LENGTH c =
     let args = c.args in
     let w = whole args.form args.count args.buffer.now args.output.now c.all-1.given.0
-    c.answer_input.ensures.text in
+    c.answer_input.ensures.0 in
     record {
-      text = c.answer_input.ensures.text;
+      text = c.answer_input.ensures.0;
       whole = w;
       file = by_input args.form args.count args.buffer.now args.output.now w;
-      again = again args.form args.count args.buffer.now args.output.now c.answer_input.ensures.text
-          (omega (arith, c.answer_input.ensures.fits, c.reported-1.given.0));
-      fits = omega (arith, c.answer_input.ensures.fits, c.answer_input.auto.output, c.reported-1.given.0);
+      again = again args.form args.count args.buffer.now args.output.now c.answer_input.ensures.0
+          (omega (arith, c.answer_input.ensures.1, c.reported-1.given.0));
+      fits = omega (arith, c.answer_input.ensures.1, c.answer_input.auto.output, c.reported-1.given.0);
     }
 
 answer_input-requires-2 : tie.Need-answer_input-requires-2
@@ -36,15 +36,15 @@ returns : tie.Need-returns
 returns c =
     let args = c.args in
     let e = full args.form args.count args.buffer.now args.output.now (omega (arith, c.all-1.given.0, c.if-count-lt-BUFFER_LENGTH.false))
-    c.answer_input-2.ensures.text in
+    c.answer_input-2.ensures.0 in
     let w = whole args.form args.count args.buffer.now args.output.now c.all-1.given.0 e in
     record {
       text = e;
       whole = w;
       file = by_input args.form args.count args.buffer.now args.output.now w;
       again = again args.form args.count args.buffer.now args.output.now e
-          (omega (arith, c.answer_input-2.ensures.fits, c.reported-1.given.0));
-      fits = omega (arith, c.answer_input-2.ensures.fits, c.answer_input-2.auto.output, c.reported-1.given.0);
+          (omega (arith, c.answer_input-2.ensures.1, c.reported-1.given.0));
+      fits = omega (arith, c.answer_input-2.ensures.1, c.answer_input-2.auto.output, c.reported-1.given.0);
     }
 
 pub answer_spec : {M : Type 1} → statement M

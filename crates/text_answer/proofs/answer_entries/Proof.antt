@@ -29,15 +29,15 @@ slice_bounds-doubles-end-2 c =
 
 slice_bounds-values-end : tie.Need-slice_bounds-values-end
 slice_bounds-values-end c =
-    sym (part_again (length c.args.weights.now) 512 _ c.set_values.last.1.0 (weights_few c.requires) c.set_values.kept.1.0)
+    sym (part_again (length c.args.weights.now) 512 _ c.set_values.new.values (weights_few c.requires) c.set_values.auto.values)
 
 enum_told-1 : tie.Need-enum_told-1
 enum_told-1 c = search rules
 
 answer_triplets-requires : tie.Need-answer_triplets-requires
 answer_triplets-requires c κs =
-    as_entries c.enum_told-1.given.1 c.requires
-    (part_holds (length c.args.weights.now) 512 _ c.set_values.last.1.0 (weights_few c.requires) c.set_values.kept.1.0
+    as_entries c.in-General.is c.requires
+    (part_holds (length c.args.weights.now) 512 _ c.set_values.new.values (weights_few c.requires) c.set_values.auto.values
     (λ (_ : ℕ). cost_values c.args.weights.now) c.set_values.ensures)
 
 enum_told-in-Symmetric : tie.Need-enum_told-in-Symmetric
@@ -45,8 +45,8 @@ enum_told-in-Symmetric c = search rules
 
 answer_symmetric-requires : tie.Need-answer_symmetric-requires
 answer_symmetric-requires c κs =
-    as_entries c.enum_told-in-Symmetric-1.given.1 c.requires
-    (part_holds (length c.args.weights.now) 512 _ c.set_values.last.1.0 (weights_few c.requires) c.set_values.kept.1.0
+    as_entries c.in-Symmetric.is c.requires
+    (part_holds (length c.args.weights.now) 512 _ c.set_values.new.values (weights_few c.requires) c.set_values.auto.values
     (λ (_ : ℕ). cost_values c.args.weights.now) c.set_values.ensures)
 
 enum_told-in-Pattern : tie.Need-enum_told-in-Pattern
@@ -54,8 +54,8 @@ enum_told-in-Pattern c = search rules
 
 answer_triplets-requires-in-Pattern : tie.Need-answer_triplets-requires-in-Pattern
 answer_triplets-requires-in-Pattern c κs =
-    pattern_values (as_entries c.enum_told-in-Pattern-1.given.1 c.requires
-    (part_holds (length c.args.weights.now) 512 _ c.set_values.last.1.0 (weights_few c.requires) c.set_values.kept.1.0
+    pattern_values (as_entries c.in-Pattern.is c.requires
+    (part_holds (length c.args.weights.now) 512 _ c.set_values.new.values (weights_few c.requires) c.set_values.auto.values
     (λ (_ : ℕ). cost_values c.args.weights.now) c.set_values.ensures))
 
 shape_of-output-in-General : tie.Need-shape_of-output-in-General
@@ -64,11 +64,11 @@ shape_of-output-in-General c = search rules
 returns-in-General : tie.Need-returns-in-General
 returns-in-General c =
     let args = c.args in (
-      told_in_kind args.form args.n args.rows.now args.cols.now args.weights.now args.output.now c.enum_told-1.given.1
-          (c.answer_triplets.ensures.text args.weights.now
-          (part_holds (length args.weights.now) 512 _ c.set_values.last.1.0 (weights_few c.requires)
-          c.set_values.kept.1.0 (λ (_ : ℕ). cost_values args.weights.now) c.set_values.ensures)),
-      c.answer_triplets.ensures.fits,
+      told_in_kind args.form args.n args.rows.now args.cols.now args.weights.now args.output.now c.in-General.is
+          (c.answer_triplets.ensures.0 args.weights.now
+          (part_holds (length args.weights.now) 512 _ c.set_values.new.values (weights_few c.requires)
+          c.set_values.auto.values (λ (_ : ℕ). cost_values args.weights.now) c.set_values.ensures)),
+      c.answer_triplets.ensures.1,
     )
 
 shape_of-output-in-Symmetric : tie.Need-shape_of-output-in-Symmetric
@@ -77,11 +77,11 @@ shape_of-output-in-Symmetric c = search rules
 returns-in-Symmetric : tie.Need-returns-in-Symmetric
 returns-in-Symmetric c =
     let args = c.args in (
-      told_in_kind args.form args.n args.rows.now args.cols.now args.weights.now args.output.now c.enum_told-in-Symmetric-1.given.1
-          (c.answer_symmetric.ensures.text args.weights.now
-          (part_holds (length args.weights.now) 512 _ c.set_values.last.1.0 (weights_few c.requires)
-          c.set_values.kept.1.0 (λ (_ : ℕ). cost_values args.weights.now) c.set_values.ensures)),
-      c.answer_symmetric.ensures.fits,
+      told_in_kind args.form args.n args.rows.now args.cols.now args.weights.now args.output.now c.in-Symmetric.is
+          (c.answer_symmetric.ensures.0 args.weights.now
+          (part_holds (length args.weights.now) 512 _ c.set_values.new.values (weights_few c.requires)
+          c.set_values.auto.values (λ (_ : ℕ). cost_values args.weights.now) c.set_values.ensures)),
+      c.answer_symmetric.ensures.1,
     )
 
 shape_of-output-in-Pattern : tie.Need-shape_of-output-in-Pattern
@@ -90,13 +90,13 @@ shape_of-output-in-Pattern c = search rules
 returns-in-Pattern : tie.Need-returns-in-Pattern
 returns-in-Pattern c =
     let args = c.args in (
-      told_in_kind args.form args.n args.rows.now args.cols.now args.weights.now args.output.now c.enum_told-in-Pattern-1.given.1
-          (c.answer_triplets-in-Pattern.ensures.text args.weights.now
-          (part_holds (length args.weights.now) 512 _ c.set_values.last.1.0 (weights_few c.requires)
-          c.set_values.kept.1.0 (λ (_ : ℕ). cost_values args.weights.now) c.set_values.ensures)
+      told_in_kind args.form args.n args.rows.now args.cols.now args.weights.now args.output.now c.in-Pattern.is
+          (c.answer_triplets-in-Pattern.ensures.0 args.weights.now
+          (part_holds (length args.weights.now) 512 _ c.set_values.new.values (weights_few c.requires)
+          c.set_values.auto.values (λ (_ : ℕ). cost_values args.weights.now) c.set_values.ensures)
           ∙ ap (λ (text : List ℕ). report_written text args.output.now)
           (pattern_text args.form args.n args.rows.now args.cols.now args.weights.now)),
-      c.answer_triplets-in-Pattern.ensures.fits,
+      c.answer_triplets-in-Pattern.ensures.1,
     )
 
 pub answer_entries_spec : {M : Type 1} → statement M

@@ -97,27 +97,27 @@ put_counts-requires : tie.Need-put_counts-requires
 put_counts-requires c κs = search rules
 
 slice_bounds-perm-end-2 : tie.Need-slice_bounds-perm-end-2
-slice_bounds-perm-end-2 c = part_within _ 64 _ (perm-left c.before.before.before.before.before.before.before.before) (few c.before.before.before.before.before.before.before.before) c.solve-found.kept.1.1.1.1.0
+slice_bounds-perm-end-2 c = part_within _ 64 _ (perm-left c.before.before.before.before.before.before.before.before) (few c.before.before.before.before.before.before.before.before) c.solve-found.auto.perm
 
 slice_bounds-put_form-end : tie.Need-slice_bounds-put_form-end
 slice_bounds-put_form-end c =
-    sym (part_again _ 64 _ (perm-left c.before.before.before.before.before.before.before.before.before) (few c.before.before.before.before.before.before.before.before.before) c.solve-found.kept.1.1.1.1.0)
+    sym (part_again _ 64 _ (perm-left c.before.before.before.before.before.before.before.before.before) (few c.before.before.before.before.before.before.before.before.before) c.solve-found.auto.perm)
 
 slice_bounds-u-end-2 : tie.Need-slice_bounds-u-end-2
 slice_bounds-u-end-2 c =
-    part_within _ 64 _ (u-left c.before.before.before.before.before.before.before.before.before) (few c.before.before.before.before.before.before.before.before.before) c.solve-found.kept.1.1.1.1.1.0
+    part_within _ 64 _ (u-left c.before.before.before.before.before.before.before.before.before) (few c.before.before.before.before.before.before.before.before.before) c.solve-found.auto.u
 
 slice_bounds-put_form-end-2 : tie.Need-slice_bounds-put_form-end-2
 slice_bounds-put_form-end-2 c =
-    sym (part_again _ 64 _ (u-left c.before.before.before.before.before.before.before.before.before.before) (few c.before.before.before.before.before.before.before.before.before.before) c.solve-found.kept.1.1.1.1.1.0)
+    sym (part_again _ 64 _ (u-left c.before.before.before.before.before.before.before.before.before.before) (few c.before.before.before.before.before.before.before.before.before.before) c.solve-found.auto.u)
 
 slice_bounds-v-end-2 : tie.Need-slice_bounds-v-end-2
 slice_bounds-v-end-2 c =
-    part_within _ 64 _ (v-left c.before.before.before.before.before.before.before.before.before.before) (few c.before.before.before.before.before.before.before.before.before.before) c.solve-found.kept.1.1.1.1.1.1.0
+    part_within _ 64 _ (v-left c.before.before.before.before.before.before.before.before.before.before) (few c.before.before.before.before.before.before.before.before.before.before) c.solve-found.auto.v
 
 slice_bounds-put_form-end-3 : tie.Need-slice_bounds-put_form-end-3
 slice_bounds-put_form-end-3 c =
-    sym (part_again _ 64 _ (v-left c.before.before.before.before.before.before.before.before.before.before.before) (few c.before.before.before.before.before.before.before.before.before.before.before) c.solve-found.kept.1.1.1.1.1.1.0)
+    sym (part_again _ 64 _ (v-left c.before.before.before.before.before.before.before.before.before.before.before) (few c.before.before.before.before.before.before.before.before.before.before.before) c.solve-found.auto.v)
 
 slice_bounds-put_form-end-4 : tie.Need-slice_bounds-put_form-end-4
 slice_bounds-put_form-end-4 c = search rules
@@ -127,13 +127,13 @@ put_form-requires c κs =
     let pre = c.requires in (
       pre.few,
       (
-        part_again _ 64 _ (perm-left c.before.before.before.before.before.before.before.before.before.before.before.before.before) (few c.before.before.before.before.before.before.before.before.before.before.before.before.before) c.solve-found.kept.1.1.1.1.0,
+        part_again _ 64 _ (perm-left c.before.before.before.before.before.before.before.before.before.before.before.before.before) (few c.before.before.before.before.before.before.before.before.before.before.before.before.before) c.solve-found.auto.perm,
         (
-          part_again _ 64 _ (u-left c.before.before.before.before.before.before.before.before.before.before.before.before.before) (few c.before.before.before.before.before.before.before.before.before.before.before.before.before) c.solve-found.kept.1.1.1.1.1.0,
+          part_again _ 64 _ (u-left c.before.before.before.before.before.before.before.before.before.before.before.before.before) (few c.before.before.before.before.before.before.before.before.before.before.before.before.before) c.solve-found.auto.u,
           (
-            part_again _ 64 _ (v-left c.before.before.before.before.before.before.before.before.before.before.before.before.before) (few c.before.before.before.before.before.before.before.before.before.before.before.before.before) c.solve-found.kept.1.1.1.1.1.1.0,
+            part_again _ 64 _ (v-left c.before.before.before.before.before.before.before.before.before.before.before.before.before) (few c.before.before.before.before.before.before.before.before.before.before.before.before.before) c.solve-found.auto.v,
             (
-              c.put_counts.kept.0,
+              c.put_counts.auto.answer,
               (
                 omega (arith, pre.room),
                 (
@@ -155,8 +155,8 @@ returns c =
     (
       wrote _ (text_is c.requires c.solve-found.ensures c.args.form (take_at (perm-left c.before.before.before.before.before.before.before.before.before.before.before.before.before.before.before.before) _ _ (perm-long c.before.before.before.before.before.before.before.before.before.before.before.before.before.before.before.before))
           (take_at (u-left c.before.before.before.before.before.before.before.before.before.before.before.before.before.before.before.before) _ _ (u-long c.before.before.before.before.before.before.before.before.before.before.before.before.before.before.before.before)) (take_at (v-left c.before.before.before.before.before.before.before.before.before.before.before.before.before.before.before.before) _ _ (v-long c.before.before.before.before.before.before.before.before.before.before.before.before.before.before.before.before)) c.put_counts.ensures)
-          c.put_form.ensures.text c.put_form.ensures.length,
-      c.put_form.ensures.fits,
+          c.put_form.ensures.0 c.put_form.ensures.1.0,
+      c.put_form.ensures.1.1,
     )
 
 pub answer_graph_spec : {M : Type 1} → statement M

@@ -25,11 +25,11 @@ abbrev input_of : tie.After-read_file-verdict → List ℕ
 input_of c = c.args.input.now
 
 abbrev count_of : tie.In-File → ℕ
-count_of c = c.verdict-1.given.0.1.1.0
+count_of c = c.in-File.count
 
-held : (c : tie.In-File) → file c.verdict-1.given.0.0 c.verdict-1.given.0.1.0
+held : (c : tie.In-File) → file c.in-File.kind c.in-File.n
     (first_entries (count_of c) (after c.before.before.before.before.before.before)) ≡ reading_of (input_of c.before.before.before.before.before.before)
-held c = by_verdict (after c.before.before.before.before.before.before) c.verdict-1.given.1 c.read_file-verdict.ensures.reading
+held c = by_verdict (after c.before.before.before.before.before.before) c.in-File.is c.read_file-verdict.ensures.0
 
 fits : (c : tie.In-File) → Places (count_of c) (after c.before.before.before.before.before.before)
 fits c = count_fits (count_of c) (input_of c.before.before.before.before.before.before) (after c.before.before.before.before.before.before) (held c) (places c.before.before.before.before.before.before)
@@ -88,10 +88,10 @@ shape_of-output-in-File c = search rules
 returns-in-File : tie.Need-returns-in-File
 returns-in-File c =
     (
-      c.answer_entries.ensures.text ∙ ap (λ (text : List ℕ). report_written text
+      c.answer_entries.ensures.0 ∙ ap (λ (text : List ℕ). report_written text
           c.args.output.now) (text_is (count_of (c.before.before.before.before.before.before.before)) (input_of (c.before.before.before.before.before.before.before.before.before.before.before.before.before)) (after (c.before.before.before.before.before.before.before.before.before.before.before.before.before))
           (held (c.before.before.before.before.before.before.before)) (places (c.before.before.before.before.before.before.before.before.before.before.before.before.before)) c.args.form),
-      c.answer_entries.ensures.fits,
+      c.answer_entries.ensures.1,
     )
 
 shape_of-output-in-Refused : tie.Need-shape_of-output-in-Refused
@@ -101,12 +101,12 @@ returns-in-Refused : tie.Need-returns-in-Refused
 returns-in-Refused c =
     (
       wrote _ (refused_text_lem c.args.form _
-          (by_verdict (after (c.before.before.before.before.before.before.before.before.before.before)) c.verdict-in-Refused-1.given.1
-          c.read_file-verdict.ensures.reading)) c.put_refused.ensures.text
-          c.put_refused.ensures.length,
+          (by_verdict (after (c.before.before.before.before.before.before.before.before.before.before)) c.in-Refused.is
+          c.read_file-verdict.ensures.0)) c.put_refused.ensures.0
+          c.put_refused.ensures.1.0,
       omega (
         arith,
-        c.put_refused.ensures.fits,
+        c.put_refused.ensures.1.1,
         c.put_refused.auto.out,
         c.requires,
       ),

@@ -51,7 +51,7 @@ holds : (c : tie.In-Graph-2)
     let args = c.args in
     HoldsGraph args.n (triplets args.rows.now args.cols.now args.values.now) (pointers c.before.before.before.before.before) (rows_left c.before.before.before.before.before) (cost-left c.before.before.before.before.before) (kept c)
 holds c =
-    held_graph c.requires (pointers c.before.before.before.before.before) (rows_left c.before.before.before.before.before) (cost-left c.before.before.before.before.before) c.built-1.given.1 c.symmetric_graph-built.ensures.answer
+    held_graph c.requires (pointers c.before.before.before.before.before) (rows_left c.before.before.before.before.before) (cost-left c.before.before.before.before.before) c.built-1.given.1 c.symmetric_graph-built.ensures.0
 
 rows_room : (c : tie.In-Graph-2) → kept c ≤ length (rows_left c.before.before.before.before.before)
 rows_room c = omega (arith, (holds c).ranges, rows_long c.before.before.before.before.before)
@@ -110,11 +110,11 @@ overflow_add-graph_ptr-in-Graph c = omega (arith, few c.before.before.before.bef
 
 slice_bounds-graph_ptr-end-in-Graph : tie.Need-slice_bounds-graph_ptr-end-in-Graph
 slice_bounds-graph_ptr-end-in-Graph c =
-    part_within _ 65 _ (pointers c.before.before.before.before.before.before) (few c.before.before.before.before.before.before) c.symmetric_graph-built.kept.1.1.1.1.0
+    part_within _ 65 _ (pointers c.before.before.before.before.before.before) (few c.before.before.before.before.before.before) c.symmetric_graph-built.auto.graph_ptr
 
 slice_bounds-answer_graph-end : tie.Need-slice_bounds-answer_graph-end
 slice_bounds-answer_graph-end c =
-    sym (part_again _ 65 _ (pointers c.before.before.before.before.before.before.before) (few c.before.before.before.before.before.before.before) c.symmetric_graph-built.kept.1.1.1.1.0)
+    sym (part_again _ 65 _ (pointers c.before.before.before.before.before.before.before) (few c.before.before.before.before.before.before.before) c.symmetric_graph-built.auto.graph_ptr)
 
 slice_bounds-graph_rows-end-in-Graph : tie.Need-slice_bounds-graph_rows-end-in-Graph
 slice_bounds-graph_rows-end-in-Graph c = with-more (kept c.before.before) (rows_left c.before.before.before.before.before.before.before) _ (rows_room c.before.before)
@@ -148,11 +148,11 @@ shape_of-output-in-Graph c = search rules
 returns-in-Graph : tie.Need-returns-in-Graph
 returns-in-Graph c =
     (
-      λ weights v. c.answer_graph.ensures.text ∙ ap (λ (text : List ℕ). report_written text c.args.output.now)
+      λ weights v. c.answer_graph.ensures.0 ∙ ap (λ (text : List ℕ). report_written text c.args.output.now)
           (graph_text_lem c.requires (pointers c.before.before.before.before.before.before.before.before.before.before.before.before.before) (rows_left c.before.before.before.before.before.before.before.before.before.before.before.before.before) (cost-left c.before.before.before.before.before.before.before.before.before.before.before.before.before) (holds c.before.before.before.before.before.before.before.before)
           (take_at (pointers c.before.before.before.before.before.before.before.before.before.before.before.before.before) _ _ (pointers-long c.before.before.before.before.before.before.before.before.before.before.before.before.before)) (take-append-le (kept c.before.before.before.before.before.before.before.before) (rows_left c.before.before.before.before.before.before.before.before.before.before.before.before.before) _ (rows_room c.before.before.before.before.before.before.before.before))
           (take-append-le (kept c.before.before.before.before.before.before.before.before) (cost-left c.before.before.before.before.before.before.before.before.before.before.before.before.before) _ (cost_room_lem c.before.before.before.before.before.before.before.before)) c.args.form weights v),
-      c.answer_graph.ensures.fits,
+      c.answer_graph.ensures.1,
     )
 
 shape_of-output-in-Repeated : tie.Need-shape_of-output-in-Repeated
@@ -162,9 +162,9 @@ returns-in-Repeated : tie.Need-returns-in-Repeated
 returns-in-Repeated c =
     (
       λ weights v. wrote _ (repeated_text c.requires c.args.form (some_repeated c.requires (pointers c.before.before.before.before.before.before.before.before.before)
-          (rows_left c.before.before.before.before.before.before.before.before.before) (cost-left c.before.before.before.before.before.before.before.before.before) c.enum_told-1.given.1 c.symmetric_graph-built.ensures.answer) weights)
-          c.put_refused.ensures.text c.put_refused.ensures.length,
-      c.put_refused.ensures.fits,
+          (rows_left c.before.before.before.before.before.before.before.before.before) (cost-left c.before.before.before.before.before.before.before.before.before) c.in-Repeated.is c.symmetric_graph-built.ensures.0) weights)
+          c.put_refused.ensures.0 c.put_refused.ensures.1.0,
+      c.put_refused.ensures.1.1,
     )
 
 pub answer_symmetric_spec : {M : Type 1} → statement M

@@ -104,39 +104,39 @@ returns-then-kept-len : tie.Need-returns-then-kept-len
 returns-then-kept-len c =
     (
       λ weights v. wrote _ (repeated_text c.requires c.assemble-kept.ensures c.args.form c.if-kept-len.true weights)
-          c.put_refused.ensures.text c.put_refused.ensures.length,
-      c.put_refused.ensures.fits,
+          c.put_refused.ensures.0 c.put_refused.ensures.1.0,
+      c.put_refused.ensures.1.1,
     )
 
 overflow_add-col_ptr-2 : tie.Need-overflow_add-col_ptr-2
 overflow_add-col_ptr-2 c = omega (arith, few c.before.before.before.before.before)
 
 slice_bounds-col_ptr-end-2 : tie.Need-slice_bounds-col_ptr-end-2
-slice_bounds-col_ptr-end-2 c = part_within _ 65 _ (pointers c.before.before.before.before.before) (few c.before.before.before.before.before) c.assemble-kept.kept.1.1.1.1.0
+slice_bounds-col_ptr-end-2 c = part_within _ 65 _ (pointers c.before.before.before.before.before) (few c.before.before.before.before.before) c.assemble-kept.auto.col_ptr
 
 slice_bounds-answer_graph-end : tie.Need-slice_bounds-answer_graph-end
 slice_bounds-answer_graph-end c =
-    sym (part_again _ 65 _ (pointers c.before.before.before.before.before.before) (few c.before.before.before.before.before.before) c.assemble-kept.kept.1.1.1.1.0)
+    sym (part_again _ 65 _ (pointers c.before.before.before.before.before.before) (few c.before.before.before.before.before.before) c.assemble-kept.auto.col_ptr)
 
 slice_bounds-row_idx-end-2 : tie.Need-slice_bounds-row_idx-end-2
 slice_bounds-row_idx-end-2 c =
-    part_within _ 512 _ (rows_left c.before.before.before.before.before.before) (short c.before.before.before.before.before.before) c.assemble-kept.kept.1.1.1.1.1.0
+    part_within _ 512 _ (rows_left c.before.before.before.before.before.before) (short c.before.before.before.before.before.before) c.assemble-kept.auto.row_idx
 
 slice_bounds-answer_graph-end-2 : tie.Need-slice_bounds-answer_graph-end-2
 slice_bounds-answer_graph-end-2 c =
-    sym (part_again _ 512 _ (rows_left c.before.before.before.before.before.before.before) (short c.before.before.before.before.before.before.before) c.assemble-kept.kept.1.1.1.1.1.0)
+    sym (part_again _ 512 _ (rows_left c.before.before.before.before.before.before.before) (short c.before.before.before.before.before.before.before) c.assemble-kept.auto.row_idx)
 
 slice_bounds-cost-end-2 : tie.Need-slice_bounds-cost-end-2
 slice_bounds-cost-end-2 c =
-    part_within _ 512 _ (cost-left c.before.before.before.before.before.before.before) (short c.before.before.before.before.before.before.before) c.assemble-kept.kept.1.1.1.1.1.1.0
+    part_within _ 512 _ (cost-left c.before.before.before.before.before.before.before) (short c.before.before.before.before.before.before.before) c.assemble-kept.auto.values
 
 slice_bounds-answer_graph-end-3 : tie.Need-slice_bounds-answer_graph-end-3
 slice_bounds-answer_graph-end-3 c =
-    sym (part_again _ 512 _ (cost-left c.before.before.before.before.before.before.before.before) (short c.before.before.before.before.before.before.before.before) c.assemble-kept.kept.1.1.1.1.1.1.0)
+    sym (part_again _ 512 _ (cost-left c.before.before.before.before.before.before.before.before) (short c.before.before.before.before.before.before.before.before) c.assemble-kept.auto.values)
 
 answer_graph-requires : tie.Need-answer_graph-requires
 answer_graph-requires c κs =
-    reportable c.requires c.assemble-kept.ensures c.if-kept-len.left (part_length _ 512 _ (short c.before.before.before.before.before.before.before.before.before))
+    reportable c.requires c.assemble-kept.ensures c.if-kept-len.false (part_length _ 512 _ (short c.before.before.before.before.before.before.before.before.before))
     (part_length _ 512 _ (short c.before.before.before.before.before.before.before.before.before)) (take_at (pointers c.before.before.before.before.before.before.before.before.before) _ _ (pointers-long c.before.before.before.before.before.before.before.before.before)) (take_at (rows_left c.before.before.before.before.before.before.before.before.before) _ _ (rows_long c.before.before.before.before.before.before.before.before.before))
     (take_at (cost-left c.before.before.before.before.before.before.before.before.before) _ _ (cost-long c.before.before.before.before.before.before.before.before.before))
 
@@ -146,11 +146,11 @@ shape_of-output c = search rules
 returns : tie.Need-returns
 returns c =
     (
-      λ weights v. c.answer_graph.ensures.text ∙ ap (λ (text : List ℕ). report_written text c.args.output.now)
-          (graph_text_lem c.requires c.assemble-kept.ensures c.if-kept-len.left (part_length _ 512 _ (short c.before.before.before.before.before.before.before.before.before.before.before.before)) (part_length _ 512 _ (short c.before.before.before.before.before.before.before.before.before.before.before.before))
+      λ weights v. c.answer_graph.ensures.0 ∙ ap (λ (text : List ℕ). report_written text c.args.output.now)
+          (graph_text_lem c.requires c.assemble-kept.ensures c.if-kept-len.false (part_length _ 512 _ (short c.before.before.before.before.before.before.before.before.before.before.before.before)) (part_length _ 512 _ (short c.before.before.before.before.before.before.before.before.before.before.before.before))
           (take_at (pointers c.before.before.before.before.before.before.before.before.before.before.before.before) _ _ (pointers-long c.before.before.before.before.before.before.before.before.before.before.before.before)) (take_at (rows_left c.before.before.before.before.before.before.before.before.before.before.before.before) _ _ (rows_long c.before.before.before.before.before.before.before.before.before.before.before.before))
           (take_at (cost-left c.before.before.before.before.before.before.before.before.before.before.before.before) _ _ (cost-long c.before.before.before.before.before.before.before.before.before.before.before.before)) c.args.form weights v),
-      c.answer_graph.ensures.fits,
+      c.answer_graph.ensures.1,
     )
 
 pub answer_triplets_spec : {M : Type 1} → statement M

@@ -18,7 +18,7 @@ abbrev decreases-loop-k : tie.decreases-loop-k
 decreases-loop-k weights values₀ k₀ k-end values k = length weights - k
 
 loop-k-init : tie.Need-loop-k-init invariant-loop-k decreases-loop-k
-loop-k-init c = (omega arith, c.requires.values_len, refl)
+loop-k-init c = (omega arith, c.requires.0, refl)
 
 offset_bounds-weights-k : tie.Need-offset_bounds-weights-k invariant-loop-k decreases-loop-k
 offset_bounds-weights-k c = omega arith
@@ -27,7 +27,7 @@ bounds-weights-k : tie.Need-bounds-weights-k invariant-loop-k decreases-loop-k
 bounds-weights-k c = omega arith
 
 int_to_float-values : tie.Need-int_to_float-values invariant-loop-k decreases-loop-k
-int_to_float-values c = cost_casts _ (c.requires.below c.loop-k.k (omega arith))
+int_to_float-values c = cost_casts _ (c.requires.1 c.loop-k.k (omega arith))
 
 offset_bounds-values-k : tie.Need-offset_bounds-values-k invariant-loop-k decreases-loop-k
 offset_bounds-values-k c = omega arith

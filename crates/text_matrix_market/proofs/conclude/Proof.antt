@@ -21,21 +21,21 @@ enum_known-stage-in-Refused-1 c = search rules
 
 returns-in-Start : tie.Need-returns-in-Start
 unfolding reading_at_end
-returns-in-Start c = λ l. rw c.enum_told-1.given.1 refl
+returns-in-Start c = λ l. rw c.in-Start.is refl
 
 returns-in-Sizing : tie.Need-returns-in-Sizing
 unfolding reading_at_end
-returns-in-Sizing c = λ l. rw c.enum_told-in-Sizing-1.given.1 refl
+returns-in-Sizing c = λ l. rw c.in-Sizing.is refl
 
 returns-then-read-count : tie.Need-returns-then-read-count
-returns-then-read-count c = λ l. rw c.stage-1.given.1 (complete _ _ _ _ l c.if-read-count.true)
+returns-then-read-count c = λ l. rw c.in-Entering.is (complete _ _ _ _ l c.if-read-count.true)
 
 returns-else-read-count : tie.Need-returns-else-read-count
-returns-else-read-count c = λ l. rw c.stage-1.given.1 (incomplete _ _ _ _ l c.if-read-count.false)
+returns-else-read-count c = λ l. rw c.in-Entering.is (incomplete _ _ _ _ l c.if-read-count.false)
 
 returns-in-Refused : tie.Need-returns-in-Refused
 unfolding reading_at_end
-returns-in-Refused c = λ l. rw c.stage-in-Refused-1.given.1 refl
+returns-in-Refused c = λ l. rw c.in-Refused.is refl
 
 pub conclude_spec : {M : Type 1} → statement M
 conclude_spec =

@@ -24,7 +24,7 @@ same : (s : tie.Start) → held s ≡ s.args.got
 same s = to_z-of_z w64 s.args.got s.ranges.got
 
 few : (s : tie.Start) → lt_z (held s) (pos 0) ≡ false → nat_abs (held s) ≤ buffer_length - s.args.at
-few s t = moved _ (held s) t (rw (same s) s.requires.moved)
+few s t = moved _ (held s) t (rw (same s) s.requires.1)
 
 returns-then-got-lt0 : tie.Need-returns-then-got-lt0
 returns-then-got-lt0 c = failed _ (held c.before) c.if-got-lt0.true ∙ ap (input_after _) (same c.before)
@@ -36,7 +36,7 @@ returns-then-more-eq0 : tie.Need-returns-then-more-eq0
 returns-then-more-eq0 c = ended _ (held c.before.before) c.if-got-lt0.false c.if-more-eq0.true ∙ ap (input_after _) (same c.before.before)
 
 overflow_add-at : tie.Need-overflow_add-at
-overflow_add-at c = omega (arith, few c.before.before c.if-got-lt0.false, c.requires.at_lt_buffer_length)
+overflow_add-at c = omega (arith, few c.before.before c.if-got-lt0.false, c.requires.0)
 
 overflow_add-result : tie.Need-overflow_add-result
 overflow_add-result c = search rules
@@ -46,7 +46,7 @@ returns-then-at-more-lt-BUFFER_LENGTH c = unfinished _ (held c.before.before.bef
     ∙ ap (input_after _) (same c.before.before.before)
 
 overflow_add-result-2 : tie.Need-overflow_add-result-2
-overflow_add-result-2 c = omega (arith, few c.before.before.before c.if-got-lt0.false, c.requires.at_lt_buffer_length)
+overflow_add-result-2 c = omega (arith, few c.before.before.before c.if-got-lt0.false, c.requires.0)
 
 returns : tie.Need-returns
 returns c = full _ (held c.before.before.before) c.if-got-lt0.false c.if-more-eq0.false c.if-at-more-lt-BUFFER_LENGTH.false

@@ -37,7 +37,7 @@ after_read-input-requires : tie.Need-after_read-input-requires invariant-loop-co
 after_read-input-requires c κs = (
   c.loop-count.invariant.1,
   rw (
-    to_z-of_z w64 c.read-got.result (record { sfits = c.read-got.type-inv }),
+    to_z-of_z w64 c.read-got.result (record { sfits = c.read-got.type_inv }),
     ← room
         c.loop-count.buffer c.loop-count.at
         c.loop-count.invariant.0 c.loop-count.invariant.1,
@@ -49,14 +49,14 @@ enum_known-input : tie.Need-enum_known-input invariant-loop-count decreases-loop
 enum_known-input c = search rules
 
 loop-count-smaller : tie.Need-loop-count-smaller invariant-loop-count decreases-loop-count
-loop-count-smaller c = omega (arith, grows _ _ _ (sym c.input-1.given.1 ∙ c.after_read-input.ensures))
+loop-count-smaller c = omega (arith, grows _ _ _ (sym c.in-More.is ∙ c.after_read-input.ensures))
 
 loop-count-preserved : tie.Need-loop-count-preserved invariant-loop-count decreases-loop-count
 loop-count-preserved c = (
   c.buffer-1.given.1 ∙
       c.loop-count.invariant.0,
   (grows _ _ _
-      (sym c.input-1.given.1 ∙ c.after_read-input.ensures)).1,
+      (sym c.in-More.is ∙ c.after_read-input.ensures)).1,
 )
 
 enum_known-input-in-All-1 : tie.Need-enum_known-input-in-All-1 invariant-loop-count decreases-loop-count
@@ -69,7 +69,7 @@ returns-in-All : tie.Need-returns-in-All invariant-loop-count decreases-loop-cou
 returns-in-All c = within _ _ _ c.loop-count.invariant.1
     (rw (
       to_z-of_z w64 c.read-got.result
-          (record { sfits = c.read-got.type-inv }),
+          (record { sfits = c.read-got.type_inv }),
       ← room
           c.loop-count.buffer
           c.loop-count.at
@@ -77,7 +77,7 @@ returns-in-All c = within _ _ _ c.loop-count.invariant.1
           c.loop-count.invariant.1,
     )
     c.read-got.ensures)
-    (sym c.input-in-All-1.given.1 ∙ c.after_read-input.ensures)
+    (sym c.in-All.is ∙ c.after_read-input.ensures)
 
 enum_told-1 : tie.Need-enum_told-1 invariant-loop-count decreases-loop-count
 enum_told-1 c = search rules

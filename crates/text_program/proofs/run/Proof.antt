@@ -16,8 +16,8 @@ use Rattle.text_program.proofs.run.Tie as tie
 within : {r : Told} {count : ℕ} (output : List ℕ) → r ≡ Text count → Fits r output → count ≤ length output
 within output e f = subst (λ (t : Told). Fits t output) e f
 
-fits : (c : tie.In-Text) → c.length-1.given.0.0 ≤ length c.tell.new.output
-fits c = within _ c.length-1.given.1 c.tell.ensures.fits
+fits : (c : tie.In-Text) → c.in-Text.length ≤ length c.tell.new.output
+fits c = within _ c.in-Text.is c.tell.ensures.1
 
 slice_bounds-read_input-end : tie.Need-slice_bounds-read_input-end
 slice_bounds-read_input-end c = search rules

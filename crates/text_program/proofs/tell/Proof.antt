@@ -21,14 +21,14 @@ enum_told-in-Failed : tie.Need-enum_told-in-Failed
 enum_told-in-Failed c = search rules
 
 returns-in-All : tie.Need-returns-in-All
-returns-in-All c = rw c.input-1.given.1
+returns-in-All c = rw c.in-All.is
     (ap (λ (a : ReportAnswer). telling (Text a.length) a.output) c.answer.ensures.text, c.answer.ensures.fits)
 
 returns-in-More : tie.Need-returns-in-More
-returns-in-More c = rw c.enum_told-1.given.1 (refl, tt)
+returns-in-More c = rw c.in-More.is (refl, tt)
 
 returns-in-Failed : tie.Need-returns-in-Failed
-returns-in-Failed c = rw c.enum_told-in-Failed-1.given.1 (refl, tt)
+returns-in-Failed c = rw c.in-Failed.is (refl, tt)
 
 pub tell_spec : {M : Type 1} → statement M
 tell_spec =

@@ -40,7 +40,7 @@ put_spaced-next-requires c κs =
       c.loop-k.invariant.2.place,
       c.loop-k.invariant.1,
       c.put_bytes-next.ensures.place,
-      c.put_bytes-next.kept.0,
+      c.put_bytes-next.auto.out,
       counts_length args.counts.now,
       number_length
           args.counts.now c.loop-k.k,
@@ -71,7 +71,7 @@ bounds-out-next c =
       c.loop-k.invariant.2.place,
       c.loop-k.invariant.1,
       c.put_bytes-next.ensures.place,
-      c.put_bytes-next.kept.0,
+      c.put_bytes-next.auto.out,
       counts_length args.counts.now,
       numbers_rise args.counts.now c.loop-k.k 7
           (omega arith),
@@ -85,7 +85,7 @@ overflow_add-result c =
       c.loop-k.invariant.2.place,
       c.loop-k.invariant.1,
       c.put_bytes-next.ensures.place,
-      c.put_bytes-next.kept.0,
+      c.put_bytes-next.auto.out,
       counts_length args.counts.now,
       numbers_rise args.counts.now c.loop-k.k 7
           (omega arith),

@@ -40,12 +40,12 @@ shape_of-out-in-Report c = search rules
 returns-in-Report : tie.Need-returns-in-Report
 unfolding form_text
 returns-in-Report c =
-    let e = told c.before.before.before.before.before.before.before.before.before.before.before Report c.enum_told-1.given.1 in
+    let e = told c.before.before.before.before.before.before.before.before.before.before.before Report c.in-Report.is in
     let done = c.put_match.ensures in (
-      done.text ∙ ap (λ (text : List ℕ). sets c.args.out.now 0 text) e,
+      done.0 ∙ ap (λ (text : List ℕ). sets c.args.out.now 0 text) e,
       (
-        done.length ∙ ap length e,
-        done.fits,
+        done.1.0 ∙ ap length e,
+        done.1.1,
       ),
     )
 
@@ -55,12 +55,12 @@ shape_of-out-in-Pairs c = search rules
 returns-in-Pairs : tie.Need-returns-in-Pairs
 unfolding form_text
 returns-in-Pairs c =
-    let e = told c.before.before.before.before.before.before.before.before.before.before.before.before Pairs c.enum_told-in-Pairs-1.given.1 in
+    let e = told c.before.before.before.before.before.before.before.before.before.before.before.before Pairs c.in-Pairs.is in
     let done = c.put_pairs.ensures in (
-      done.text ∙ ap (λ (text : List ℕ). sets c.args.out.now 0 text) e,
+      done.0 ∙ ap (λ (text : List ℕ). sets c.args.out.now 0 text) e,
       (
-        done.length ∙ ap length e,
-        done.fits,
+        done.1.0 ∙ ap length e,
+        done.1.1,
       ),
     )
 

@@ -26,7 +26,7 @@ put_spaced-after_row-requires c κs =
       arith,
       pair_length args.k args.row args.u args.v,
       c.put_decimal-after_k.ensures.place,
-      c.put_decimal-after_k.kept.0,
+      c.put_decimal-after_k.auto.out,
       ap (λ (r : ℕ). length (decimal r)) c.row_number.ensures,
     )
 
@@ -34,12 +34,12 @@ put_spaced_whole-after_u-requires : tie.Need-put_spaced_whole-after_u-requires
 put_spaced_whole-after_u-requires c κs =
     let args = c.args in
     (
-      c.requires.printable,
+      c.requires.0,
       omega (
         arith,
         pair_length args.k args.row args.u args.v,
         c.put_decimal-after_k.ensures.place,
-        c.put_decimal-after_k.kept.0,
+        c.put_decimal-after_k.auto.out,
         c.put_spaced-after_row.ensures.place,
         c.put_spaced-after_row.auto.out,
         ap (λ (r : ℕ). length (decimal r))
@@ -51,14 +51,14 @@ put_spaced_whole-last-requires : tie.Need-put_spaced_whole-last-requires
 put_spaced_whole-last-requires c κs =
     let args = c.args in
     (
-      c.requires.printable_2,
+      c.requires.1.0,
       omega (
         arith,
         pair_length args.k args.row args.u args.v,
         c.put_decimal-after_k.ensures.place,
-        c.put_decimal-after_k.kept.0,
+        c.put_decimal-after_k.auto.out,
         c.put_spaced-after_row.ensures.place,
-        c.put_spaced-after_row.kept.0,
+        c.put_spaced-after_row.auto.out,
         c.put_spaced_whole-after_u.ensures.place,
         c.put_spaced_whole-after_u.auto.out,
         ap
@@ -73,9 +73,9 @@ bounds-out-last c =
       arith,
       pair_length args.k args.row args.u args.v,
       c.put_decimal-after_k.ensures.place,
-      c.put_decimal-after_k.kept.0,
+      c.put_decimal-after_k.auto.out,
       c.put_spaced-after_row.ensures.place,
-      c.put_spaced-after_row.kept.0,
+      c.put_spaced-after_row.auto.out,
       c.put_spaced_whole-after_u.ensures.place,
       c.put_spaced_whole-after_u.auto.out,
       c.put_spaced_whole-last.ensures.place,
@@ -91,9 +91,9 @@ overflow_add-result c =
       arith,
       pair_length args.k args.row args.u args.v,
       c.put_decimal-after_k.ensures.place,
-      c.put_decimal-after_k.kept.0,
+      c.put_decimal-after_k.auto.out,
       c.put_spaced-after_row.ensures.place,
-      c.put_spaced-after_row.kept.0,
+      c.put_spaced-after_row.auto.out,
       c.put_spaced_whole-after_u.ensures.place,
       c.put_spaced_whole-after_u.auto.out,
       c.put_spaced_whole-last.ensures.place,

@@ -46,13 +46,13 @@ put_line-next-requires c κs =
     let args = c.args in
     let pre = c.requires in
     let k = c.loop-k.k in (
-      pre.all_printable k c.loop-k-test.true,
+      pre.1.1.1.0 k c.loop-k-test.true,
       (
-        pre.all_printable_2 k c.loop-k-test.true,
+        pre.1.1.1.1.0 k c.loop-k-test.true,
         omega (
           arith,
-          c.loop-k.inv.2.place,
-          c.loop-k.inv.1,
+          c.loop-k.invariant.2.place,
+          c.loop-k.invariant.1,
           line_length args.perm.now args.u.now args.v.now k,
           lines_rise args.perm.now args.u.now args.v.now (suc k) args.n (omega arith),
         ),
@@ -70,9 +70,9 @@ loop-k-preserved c =
     let args = c.args in
     (
       omega arith,
-      c.put_line-next.auto.out ∙ c.loop-k.inv.1,
+      c.put_line-next.auto.out ∙ c.loop-k.invariant.1,
       restated (line_more args.perm.now args.u.now args.v.now c.loop-k.k) refl
-          (and_then c.loop-k.inv.2 c.put_line-next.ensures),
+          (and_then c.loop-k.invariant.2 c.put_line-next.ensures),
     )
 
 shape_of-out : tie.Need-shape_of-out invariant-loop-k decreases-loop-k

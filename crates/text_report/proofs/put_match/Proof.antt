@@ -18,9 +18,9 @@ parts : (c : tie.After-slice_known-1)
     c.args.v.now) + length
     (counts_line c.args.counts.now) ≤ 4096
 parts c =
-    parts_within c.args.n c.args.perm.now c.args.u.now c.args.v.now c.args.counts.now c.requires.small
-    (λ (k : ℕ). (c.shared_slice_known-1.given k).fits) c.requires.rows
-    c.requires.columns (λ (k : ℕ). (c.shared_slice_known-4-1.given k).fits)
+    parts_within c.args.n c.args.perm.now c.args.u.now c.args.v.now c.args.counts.now c.requires.0
+    (λ (k : ℕ). (c.shared_slice_known-1.given k).fits) c.requires.1.1.1.1.1.1.0
+    c.requires.1.1.1.1.1.1.1 (λ (k : ℕ). (c.shared_slice_known-4-1.given k).fits)
 
 bounds-counts-0 : tie.Need-bounds-counts-0
 bounds-counts-0 c = omega arith
@@ -37,9 +37,9 @@ put_lines-after_pairs-requires c κs =
         (
           omega arith,
           (
-            pre.rows,
+            pre.1.1.1.1.1.1.0,
             (
-              pre.columns,
+              pre.1.1.1.1.1.1.1,
               omega (
                 arith,
                 parts c.before.before.before.before.before.before,
@@ -55,12 +55,12 @@ put_lines-after_pairs-requires c κs =
 put_counts-requires : tie.Need-put_counts-requires
 put_counts-requires c κs =
     (
-      c.requires.counts,
+      c.requires.1.1.1.1.0,
       omega (
         arith,
         parts c.before.before.before.before.before.before.before.before.before.before,
         c.put_matched_line-after_first.ensures.place,
-        c.put_matched_line-after_first.kept.0,
+        c.put_matched_line-after_first.auto.out,
         c.put_lines-after_pairs.ensures.place,
         c.put_lines-after_pairs.auto.out,
       ),

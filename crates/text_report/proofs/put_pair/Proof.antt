@@ -31,7 +31,7 @@ bounds-out-last c =
       arith,
       matched_pair_length args.row args.column,
       c.put_decimal-after_row.ensures.place,
-      c.put_decimal-after_row.kept.0,
+      c.put_decimal-after_row.auto.out,
       c.put_spaced-last.ensures.place,
       c.put_spaced-last.auto.out,
     )
@@ -43,7 +43,7 @@ overflow_add-result c =
       arith,
       matched_pair_length args.row args.column,
       c.put_decimal-after_row.ensures.place,
-      c.put_decimal-after_row.kept.0,
+      c.put_decimal-after_row.auto.out,
       c.put_spaced-last.ensures.place,
       c.put_spaced-last.auto.out,
     )

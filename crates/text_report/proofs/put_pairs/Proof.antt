@@ -14,7 +14,7 @@ use Rattle.text_report.proofs.put_pairs.Tie as tie
 parts : (c : tie.After-shared_slice_known-1)
     → 49 + length (pattern_size c.args.n c.args.pairs) + length (matched_pairs c.args.n c.args.perm.now) ≤ 4096
 parts c =
-    text_within c.args.n c.args.pairs c.args.perm.now c.requires.small (omega (arith, c.ranges.pairs))
+    text_within c.args.n c.args.pairs c.args.perm.now c.requires.0 (omega (arith, c.ranges.pairs))
     (λ k l. (c.shared_slice_known-1.given k).fits)
 
 put_bytes-after_banner-requires : tie.Need-put_bytes-after_banner-requires
@@ -32,14 +32,14 @@ put_pattern_size-after_size-requires c κs =
 put_columns-requires : tie.Need-put_columns-requires
 put_columns-requires c κs =
     (
-      c.requires.small,
+      c.requires.0,
       (
         omega arith,
         omega (
           arith,
           parts c.before.before.before.before.before.before.before.before.before.before.before.before,
           c.put_bytes-after_banner.ensures.place,
-          c.put_bytes-after_banner.kept.0,
+          c.put_bytes-after_banner.auto.out,
           c.put_pattern_size-after_size.ensures.place,
           c.put_pattern_size-after_size.auto.out,
         ),

@@ -23,7 +23,7 @@ put_spaced-last-requires c κs =
       arith,
       size_length args.n args.pairs,
       c.put_decimal-after_rows.ensures.place,
-      c.put_decimal-after_rows.kept.0,
+      c.put_decimal-after_rows.auto.out,
       c.put_spaced-after_columns.ensures.place,
       c.put_spaced-after_columns.auto.out,
     )
@@ -35,9 +35,9 @@ bounds-out-last c =
       arith,
       size_length args.n args.pairs,
       c.put_decimal-after_rows.ensures.place,
-      c.put_decimal-after_rows.kept.0,
+      c.put_decimal-after_rows.auto.out,
       c.put_spaced-after_columns.ensures.place,
-      c.put_spaced-after_columns.kept.0,
+      c.put_spaced-after_columns.auto.out,
       c.put_spaced-last.ensures.place,
       c.put_spaced-last.auto.out,
     )
@@ -49,16 +49,16 @@ overflow_add-result c =
       arith,
       size_length args.n args.pairs,
       c.put_decimal-after_rows.ensures.place,
-      c.put_decimal-after_rows.kept.0,
+      c.put_decimal-after_rows.auto.out,
       c.put_spaced-after_columns.ensures.place,
-      c.put_spaced-after_columns.kept.0,
+      c.put_spaced-after_columns.auto.out,
       c.put_spaced-last.ensures.place,
       c.put_spaced-last.auto.out,
     )
 
 shape_of-out : tie.Need-shape_of-out
 shape_of-out c =
-    simp length-set (c.put_spaced-last.auto.out ∙ c.put_spaced-after_columns.kept.0 ∙ c.put_decimal-after_rows.kept.0)
+    simp length-set (c.put_spaced-last.auto.out ∙ c.put_spaced-after_columns.auto.out ∙ c.put_decimal-after_rows.auto.out)
 
 returns : tie.Need-returns
 unfolding pattern_size

@@ -15,7 +15,7 @@ overflow_add-at : tie.Need-overflow_add-at
 overflow_add-at c = search rules
 
 put_whole-requires : tie.Need-put_whole-requires
-put_whole-requires c κs = (c.requires.printable, simp length-set (omega arith))
+put_whole-requires c κs = (c.requires.0, simp length-set (omega arith))
 
 shape_of-out : tie.Need-shape_of-out
 shape_of-out c = c.put_whole.auto.out ∙ simp length-set

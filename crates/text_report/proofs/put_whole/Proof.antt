@@ -13,14 +13,14 @@ abs-size-requires : tie.Need-abs-size-requires
 abs-size-requires c κs = search rules
 
 float_to_int-size : tie.Need-float_to_int-size
-float_to_int-size c = rw c.abs-size.ensures (size_casts c.args.x c.requires.printable)
+float_to_int-size c = rw c.abs-size.ensures (size_casts c.args.x c.requires.0)
 
 has_minus-requires : tie.Need-has_minus-requires
 has_minus-requires c κs = search rules
 
 bounds-out-at : tie.Need-bounds-out-at
 bounds-out-at c = omega
-    (arith, ap length (negative_text c.args.x c.requires.printable (sym c.has_minus.ensures ∙ c.if-has_minus.true)))
+    (arith, ap length (negative_text c.args.x c.requires.0 (sym c.has_minus.ensures ∙ c.if-has_minus.true)))
 
 overflow_add-at : tie.Need-overflow_add-at
 overflow_add-at c = search rules
@@ -30,7 +30,7 @@ put_decimal-requires c κs = rw c.abs-size.ensures
     (simp length-set (omega (
       arith,
       ap length (negative_text c.args.x
-          c.requires.printable (sym c.has_minus.ensures ∙
+          c.requires.0 (sym c.has_minus.ensures ∙
           c.if-has_minus.true)),
     )))
 
@@ -39,7 +39,7 @@ shape_of-out-then-has_minus c = c.put_decimal.auto.out ∙ simp length-set
 
 returns-then-has_minus : tie.Need-returns-then-has_minus
 returns-then-has_minus c = restated (sym (negative_text c.args.x
-    c.requires.printable
+    c.requires.0
     (sym c.has_minus.ensures ∙ c.if-has_minus.true))) refl
     (byte_first 45 (rw c.abs-size.ensures at
     c.put_decimal.ensures))
@@ -49,7 +49,7 @@ put_decimal-requires-2 c κs = rw c.abs-size.ensures
     (omega (
       arith,
       ap length (other_text c.args.x
-          c.requires.printable (sym c.has_minus.ensures ∙
+          c.requires.0 (sym c.has_minus.ensures ∙
           c.if-has_minus.false)),
     ))
 
@@ -58,7 +58,7 @@ shape_of-out c = search rules
 
 returns : tie.Need-returns
 returns c = restated (sym (other_text c.args.x
-    c.requires.printable
+    c.requires.0
     (sym c.has_minus.ensures ∙ c.if-has_minus.false))) refl
     (rw c.abs-size.ensures at c.put_decimal-2.ensures)
 

@@ -12,10 +12,10 @@ use Rattle.text_symmetric_graph.proofs.mirror_matrix.Tie as tie
 abbrev lent : tie.Else-kept-rows → Slices
 lent c =
     let args = c.args in
-    slices args.graph-ptr.now args.graph-rows.now args.cost.now args.cmax.now c.assemble-kept.new.work
+    slices args.graph_ptr.now args.graph_rows.now args.cost.now args.cmax.now c.assemble-kept.new.work
 
 assemble-kept-requires : tie.Need-assemble-kept-requires
-assemble-kept-requires c κs = let pre = c.requires in (pre.sized, pre.roomy)
+assemble-kept-requires c κs = let pre = c.requires in (pre.1.0, pre.1.1.0)
 
 overflow_cast-kept : tie.Need-overflow_cast-kept
 overflow_cast-kept c = search rules
@@ -34,16 +34,16 @@ shape_of-work-then-kept-rows c = search rules
 
 returns-then-kept-rows : tie.Need-returns-then-kept-rows
 returns-then-kept-rows c =
-    (some_repeated c.requires.symmetric_values c.assemble-kept.ensures c.if-kept-rows.true, refl)
+    (some_repeated c.requires.0 c.assemble-kept.ensures c.if-kept-rows.true, refl)
 
 build-count-requires : tie.Need-build-count-requires
 build-count-requires c κs =
     let pre = c.requires in
     let b = c.assemble-kept.ensures in
     symmetric_ready _ (lent c.before.before.before.before.before)
-    (fine pre.symmetric_values b c.if-kept-rows.left pre.roomy.row_room pre.roomy.value_room (lent c.before.before.before.before.before) pre.graph_room pre.cmax_len
-    (work_same pre.symmetric_values b ∙ pre.sized.room))
-    (doubles pre.symmetric_values b c.if-kept-rows.left pre.roomy.row_room pre.roomy.value_room)
+    (fine pre.0 b c.if-kept-rows.false pre.1.1.0.row_room pre.1.1.0.value_room (lent c.before.before.before.before.before) pre.1.1.1.0 pre.1.1.1.1
+    (work_same pre.0 b ∙ pre.1.0.room))
+    (doubles pre.0 b c.if-kept-rows.false pre.1.1.0.row_room pre.1.1.0.value_room)
 
 shape_of-col_ptr : tie.Need-shape_of-col_ptr
 shape_of-col_ptr c = search rules
@@ -73,10 +73,10 @@ returns : tie.Need-returns
 returns c =
     let pre = c.requires in
     let b = c.assemble-kept.ensures in
-    let work = work_same pre.symmetric_values b ∙ pre.sized.room in (
-      holds pre.symmetric_values b c.if-kept-rows.left pre.roomy.row_room pre.roomy.value_room (lent c.before.before.before.before.before.before.before.before.before.before.before.before.before.before.before.before) pre.graph_room pre.cmax_len work _ _
+    let work = work_same pre.0 b ∙ pre.1.0.room in (
+      holds pre.0 b c.if-kept-rows.false pre.1.1.0.row_room pre.1.1.0.value_room (lent c.before.before.before.before.before.before.before.before.before.before.before.before.before.before.before.before) pre.1.1.1.0 pre.1.1.1.1 work _ _
           c.build-count.ensures,
-      leaves pre.symmetric_values b c.if-kept-rows.left pre.roomy.row_room pre.roomy.value_room (lent c.before.before.before.before.before.before.before.before.before.before.before.before.before.before.before.before) pre.graph_room pre.cmax_len work _ _
+      leaves pre.0 b c.if-kept-rows.false pre.1.1.0.row_room pre.1.1.0.value_room (lent c.before.before.before.before.before.before.before.before.before.before.before.before.before.before.before.before) pre.1.1.1.0 pre.1.1.1.1 work _ _
           c.build-count.ensures,
     )
 

@@ -12,53 +12,53 @@ use Rattle.text_symmetric_graph.proofs.symmetric_graph.Statement.{statement}
 use Rattle.text_symmetric_graph.proofs.symmetric_graph.Tie as tie
 
 overflow_add-col_ptr : tie.Need-overflow_add-col_ptr
-overflow_add-col_ptr c = let held = c.requires.symmetric_values.held in omega (arith, held.few, held.short)
+overflow_add-col_ptr c = let held = c.requires.0.held in omega (arith, held.few, held.short)
 
 slice_bounds-col_ptr-end : tie.Need-slice_bounds-col_ptr-end
 slice_bounds-col_ptr-end c = search rules
 
 slice_bounds-mirror_matrix-end : tie.Need-slice_bounds-mirror_matrix-end
-slice_bounds-mirror_matrix-end c = let held = c.requires.symmetric_values.held in sym (part_length _ 65 _ (omega (arith, held.few, held.short)))
+slice_bounds-mirror_matrix-end c = let held = c.requires.0.held in sym (part_length _ 65 _ (omega (arith, held.few, held.short)))
 
 slice_bounds-row_idx-end : tie.Need-slice_bounds-row_idx-end
 slice_bounds-row_idx-end c = search rules
 
 slice_bounds-mirror_matrix-end-2 : tie.Need-slice_bounds-mirror_matrix-end-2
-slice_bounds-mirror_matrix-end-2 c = let held = c.requires.symmetric_values.held in
+slice_bounds-mirror_matrix-end-2 c = let held = c.requires.0.held in
     sym (part_length _ 512 _ (omega (arith, held.few, held.short)))
 
 slice_bounds-stored-end : tie.Need-slice_bounds-stored-end
 slice_bounds-stored-end c = search rules
 
 slice_bounds-mirror_matrix-end-3 : tie.Need-slice_bounds-mirror_matrix-end-3
-slice_bounds-mirror_matrix-end-3 c = let held = c.requires.symmetric_values.held in sym (part_length _ 512 _ (omega (arith, held.few, held.short)))
+slice_bounds-mirror_matrix-end-3 c = let held = c.requires.0.held in sym (part_length _ 512 _ (omega (arith, held.few, held.short)))
 
 overflow_mul-work : tie.Need-overflow_mul-work
-overflow_mul-work c = let held = c.requires.symmetric_values.held in omega (arith, held.few, held.short)
+overflow_mul-work c = let held = c.requires.0.held in omega (arith, held.few, held.short)
 
 overflow_add-work : tie.Need-overflow_add-work
-overflow_add-work c = let held = c.requires.symmetric_values.held in omega (arith, held.few, held.short)
+overflow_add-work c = let held = c.requires.0.held in omega (arith, held.few, held.short)
 
 overflow_add-work-2 : tie.Need-overflow_add-work-2
-overflow_add-work-2 c = let held = c.requires.symmetric_values.held in omega (arith, held.few, held.short)
+overflow_add-work-2 c = let held = c.requires.0.held in omega (arith, held.few, held.short)
 
 slice_bounds-work-end : tie.Need-slice_bounds-work-end
 slice_bounds-work-end c = search rules
 
 slice_bounds-mirror_matrix-end-4 : tie.Need-slice_bounds-mirror_matrix-end-4
-slice_bounds-mirror_matrix-end-4 c = let held = c.requires.symmetric_values.held in sym (part_length _ 642 _ (omega (arith, held.few, held.short)))
+slice_bounds-mirror_matrix-end-4 c = let held = c.requires.0.held in sym (part_length _ 642 _ (omega (arith, held.few, held.short)))
 
 slice_bounds-cmax-end : tie.Need-slice_bounds-cmax-end
 slice_bounds-cmax-end c = search rules
 
 slice_bounds-mirror_matrix-end-5 : tie.Need-slice_bounds-mirror_matrix-end-5
-slice_bounds-mirror_matrix-end-5 c = let held = c.requires.symmetric_values.held in sym (part_length _ 64 _ (omega (arith, held.few, held.short)))
+slice_bounds-mirror_matrix-end-5 c = let held = c.requires.0.held in sym (part_length _ 64 _ (omega (arith, held.few, held.short)))
 
 mirror_matrix-requires : tie.Need-mirror_matrix-requires
 mirror_matrix-requires c κs =
     let pre = c.requires in
-    let held = pre.symmetric_values.held in (
-      pre.symmetric_values,
+    let held = pre.0.held in (
+      pre.0,
       (
         record {
           columns = omega (arith, held.few);
@@ -74,14 +74,14 @@ mirror_matrix-requires c κs =
             columns = omega (arith, held.few);
             entries = omega (arith, held.short);
             pairs = held.inside.pairs;
-            triples = ap length pre.symmetric_values.valued ∙ length-map pre.symmetric_values.weights (λ (x : ℕ). of_int binary64 (pos x)) ∙ held.sizes;
+            triples = ap length pre.0.valued ∙ length-map pre.0.weights (λ (x : ℕ). of_int binary64 (pos x)) ∙ held.sizes;
             row_room = part_length _ 512 _ (omega (arith, held.short));
             value_room = part_length _ 512 _ (omega (arith, held.short));
             room = part_length _ 642 _ (omega (arith, held.few, held.short));
             rows_in = held.inside.rows_in;
             cols_in = held.inside.cols_in;
           },
-          (pre.graph_room, part_length _ 64 _ held.few),
+          (pre.1, part_length _ 64 _ held.few),
         ),
       ),
     )

@@ -20,16 +20,16 @@ clear-requires-2 c κs = search rules
 take_all-kept-requires : tie.Need-take_all-kept-requires
 take_all-kept-requires c κs =
     let a = c.args in
-    let s = c.requires.sized in
-    let r = c.requires.roomy in
+    let s = c.requires.0 in
+    let r = c.requires.1.0 in
     let cleared = c.clear-2 in (
-      (ready_of s, c.requires.sorted),
+      (ready_of s, c.requires.1.1),
       (
         (r.triples, λ k h. omega (arith, s.cols_in k h, s.colptrs, cleared.auto.list)),
         (
           (r.row_room, r.value_room),
-          taken_start (triplets a.rows.now a.cols.now a.vals.now) cleared.new.list a.row-idx.now a.values.now
-              (zero_list (length a.col-ptr.now) cleared.ensures),
+          taken_start (triplets a.rows.now a.cols.now a.vals.now) cleared.new.list a.row_idx.now a.values.now
+              (zero_list (length a.col_ptr.now) cleared.ensures),
         ),
       ),
     )
@@ -40,16 +40,16 @@ overflow_add-n c = search rules
 prefix_sums-requires : tie.Need-prefix_sums-requires
 prefix_sums-requires c κs =
     let a = c.args in
-    let s = c.requires.sized in
+    let s = c.requires.0 in
     let taken = c.take_all-kept in
     let room = taken.auto.col_ptr ∙ c.clear-2.auto.list ∙ s.colptrs in (
       omega (arith, room),
       omega (
         arith,
         s.entries,
-        taken.ensures.fact.few,
+        taken.ensures.0.few,
         total (triplets a.rows.now a.cols.now a.vals.now) a.n s.rows_in s.cols_in s.pairs s.columns
-            taken.ensures.fact room,
+            taken.ensures.0 room,
       ),
     )
 
@@ -72,18 +72,18 @@ returns : tie.Need-returns
 unfolding built
 returns c =
     let a = c.args in
-    let s = c.requires.sized in
+    let s = c.requires.0 in
     let t = triplets a.rows.now a.cols.now a.vals.now in
     let taken = c.take_all-kept in
     let summed = c.prefix_sums in
     let room = taken.auto.col_ptr ∙ c.clear-2.auto.list ∙ s.colptrs in
     record {
-      count = kept-is t a.n s.rows_in s.cols_in s.pairs s.columns taken.ensures.fact room;
-      slices = built_is a.n t a.col-ptr.now a.row-idx.now a.values.now a.work.now _ _ _ _
-          (col_ptr-is t a.n s.rows_in s.cols_in s.pairs s.columns taken.ensures.fact room _ summed.ensures
+      count = kept-is t a.n s.rows_in s.cols_in s.pairs s.columns taken.ensures.0 room;
+      slices = built_is a.n t a.col_ptr.now a.row_idx.now a.values.now a.work.now _ _ _ _
+          (col_ptr-is t a.n s.rows_in s.cols_in s.pairs s.columns taken.ensures.0 room _ summed.ensures
           (summed.auto.list ∙ room))
-          (row_idx-is t a.n s.rows_in s.cols_in s.pairs s.columns taken.ensures.fact room taken.ensures.rest)
-          (values_is t a.n s.rows_in s.cols_in s.pairs s.columns taken.ensures.fact room taken.ensures.rest)
+          (row_idx-is t a.n s.rows_in s.cols_in s.pairs s.columns taken.ensures.0 room taken.ensures.1)
+          (values_is t a.n s.rows_in s.cols_in s.pairs s.columns taken.ensures.0 room taken.ensures.1)
           c.clear.ensures;
     }
 

@@ -20,14 +20,14 @@ decreases-loop-k rows cols vals col-ptr₀ row-idx₀ values₀ kept₀ k₀ col
 
 loop-k-init : tie.Need-loop-k-init invariant-loop-k decreases-loop-k
 loop-k-init c =
-    (omega arith, refl, refl, refl, c.requires.taken, rest_start _ _)
+    (omega arith, refl, refl, refl, c.requires.1.1.1, rest_start _ _)
 
 take_next-kept-requires : tie.Need-take_next-kept-requires invariant-loop-k decreases-loop-k
 take_next-kept-requires c κs =
     let p = c.requires in
     let l = c.loop-k in (
-      (p.ready.0, p.ready.1, c.loop-k-test.true),
-      ((p.vals_len.0, λ x h. omega (arith, p.vals_len.1 x h, l.invariant.1)), ((l.invariant.2 ∙ p.row_idx_len.0, l.invariant.3 ∙ p.row_idx_len.1), l.invariant.4)),
+      (p.0.0, p.0.1, c.loop-k-test.true),
+      ((p.1.0.0, λ x h. omega (arith, p.1.0.1 x h, l.invariant.1)), ((l.invariant.2 ∙ p.1.1.0.0, l.invariant.3 ∙ p.1.1.0.1), l.invariant.4)),
     )
 
 overflow_add-k : tie.Need-overflow_add-k invariant-loop-k decreases-loop-k
@@ -44,8 +44,8 @@ loop-k-preserved c =
       t.auto.col_ptr ∙ l.invariant.1,
       t.auto.row_idx ∙ l.invariant.2,
       t.auto.values ∙ l.invariant.3,
-      t.ensures.fact,
-      rest_after l.invariant.5 t.ensures.rest,
+      t.ensures.0,
+      rest_after l.invariant.5 t.ensures.1,
     )
 
 shape_of-col_ptr : tie.Need-shape_of-col_ptr invariant-loop-k decreases-loop-k
@@ -62,7 +62,7 @@ returns c =
     let l = c.loop-k in
     let a = c.args in
     let e : l.k ≡ length a.rows.now = omega arith in (
-      subst (λ (k : ℕ). Taken (triplets a.rows.now a.cols.now a.vals.now) k l.auto l.col-ptr l.row-idx l.values) e l.invariant.4,
+      subst (λ (k : ℕ). Taken (triplets a.rows.now a.cols.now a.vals.now) k l.auto l.col_ptr l.row_idx l.values) e l.invariant.4,
       l.invariant.5,
     )
 

@@ -16,8 +16,8 @@ overflow_sub-sum c =
     let a = c.args in
     omega (
       arith,
-      some_kept (triplets a.rows.now a.cols.now a.vals.now) p.ready.0 p.ready.1 a.k p.ready.2 p.taken
-          (c.repeats.ensures.repeat c.if-repeats.true),
+      some_kept (triplets a.rows.now a.cols.now a.vals.now) p.0.0 p.0.1 a.k p.0.2 p.1.1.1
+          (c.repeats.ensures.0 c.if-repeats.true),
     )
 
 offset_bounds-values-kept : tie.Need-offset_bounds-values-kept
@@ -41,8 +41,8 @@ overflow_sub-values c =
     let a = c.args in
     omega (
       arith,
-      some_kept (triplets a.rows.now a.cols.now a.vals.now) p.ready.0 p.ready.1 a.k p.ready.2 p.taken
-          (c.repeats.ensures.repeat c.if-repeats.true),
+      some_kept (triplets a.rows.now a.cols.now a.vals.now) p.0.0 p.0.1 a.k p.0.2 p.1.1.1
+          (c.repeats.ensures.0 c.if-repeats.true),
     )
 
 offset_bounds-values-kept-then-repeats : tie.Need-offset_bounds-values-kept-then-repeats
@@ -59,10 +59,10 @@ returns-then-repeats c =
     let p = c.requires in
     let a = c.args in
     let t = triplets a.rows.now a.cols.now a.vals.now in
-    let r = c.repeats.ensures.repeat c.if-repeats.true in
+    let r = c.repeats.ensures.0 c.if-repeats.true in
     rw c.canonical.ensures (
-      taken_again t p.ready.0 p.ready.1 a.k p.ready.2 p.taken r,
-      rest_again t p.ready.0 p.ready.1 a.k p.ready.2 p.taken r _,
+      taken_again t p.0.0 p.0.1 a.k p.0.2 p.1.1.1 r,
+      rest_again t p.0.0 p.0.1 a.k p.0.2 p.1.1.1 r _,
     )
 
 offset_bounds-cols-k : tie.Need-offset_bounds-cols-k
@@ -73,7 +73,7 @@ bounds-cols-k c = search rules
 
 overflow_cast-col : tie.Need-overflow_cast-col
 overflow_cast-col c =
-    omega (arith, c.requires.ready.0.cols_in c.args.k (omega (arith, c.requires.ready.0.pairs)))
+    omega (arith, c.requires.0.0.cols_in c.args.k (omega (arith, c.requires.0.0.pairs)))
 
 offset_bounds-rows-k : tie.Need-offset_bounds-rows-k
 offset_bounds-rows-k c = search rules
@@ -104,11 +104,11 @@ bounds-values-kept-2 c = search rules
 
 offset_bounds-col_ptr-col : tie.Need-offset_bounds-col_ptr-col
 offset_bounds-col_ptr-col c =
-    omega (arith, c.requires.ready.0.cols_in c.args.k (omega (arith, c.requires.ready.0.pairs)))
+    omega (arith, c.requires.0.0.cols_in c.args.k (omega (arith, c.requires.0.0.pairs)))
 
 bounds-col_ptr-col : tie.Need-bounds-col_ptr-col
 bounds-col_ptr-col c =
-    omega (arith, c.requires.vals_len.1 c.args.k (omega (arith, c.requires.ready.0.pairs)))
+    omega (arith, c.requires.1.0.1 c.args.k (omega (arith, c.requires.0.0.pairs)))
 
 overflow_add-col_ptr : tie.Need-overflow_add-col_ptr
 overflow_add-col_ptr c =
@@ -116,17 +116,17 @@ overflow_add-col_ptr c =
     let a = c.args in
     omega (
       arith,
-      count_small (triplets a.rows.now a.cols.now a.vals.now) p.ready.0 p.ready.1 a.k p.ready.2 p.taken _
-          (p.vals_len.1 a.k (omega (arith, p.ready.0.pairs))),
+      count_small (triplets a.rows.now a.cols.now a.vals.now) p.0.0 p.0.1 a.k p.0.2 p.1.1.1 _
+          (p.1.0.1 a.k (omega (arith, p.0.0.pairs))),
     )
 
 offset_bounds-col_ptr-col-2 : tie.Need-offset_bounds-col_ptr-col-2
 offset_bounds-col_ptr-col-2 c =
-    omega (arith, c.requires.ready.0.cols_in c.args.k (omega (arith, c.requires.ready.0.pairs)))
+    omega (arith, c.requires.0.0.cols_in c.args.k (omega (arith, c.requires.0.0.pairs)))
 
 bounds-col_ptr-col-2 : tie.Need-bounds-col_ptr-col-2
 bounds-col_ptr-col-2 c =
-    omega (arith, c.requires.vals_len.1 c.args.k (omega (arith, c.requires.ready.0.pairs)))
+    omega (arith, c.requires.1.0.1 c.args.k (omega (arith, c.requires.0.0.pairs)))
 
 overflow_add-result : tie.Need-overflow_add-result
 overflow_add-result c = search rules
@@ -145,11 +145,11 @@ returns c =
     let p = c.requires in
     let a = c.args in
     let t = triplets a.rows.now a.cols.now a.vals.now in
-    let r = c.repeats.ensures.fact c.if-repeats.false in
-    let fits = p.vals_len.1 a.k (omega (arith, p.ready.0.pairs)) in
+    let r = c.repeats.ensures.1 c.if-repeats.false in
+    let fits = p.1.0.1 a.k (omega (arith, p.0.0.pairs)) in
     rw c.canonical-2.ensures (
-      taken_new t p.ready.0 p.ready.1 a.k p.ready.2 p.taken r p.row_idx_len.0 p.row_idx_len.1 fits,
-      rest_new t p.ready.0 p.ready.1 a.k p.ready.2 p.taken r p.row_idx_len.0 p.row_idx_len.1 fits _,
+      taken_new t p.0.0 p.0.1 a.k p.0.2 p.1.1.1 r p.1.1.0.0 p.1.1.0.1 fits,
+      rest_new t p.0.0 p.0.1 a.k p.0.2 p.1.1.1 r p.1.1.0.0 p.1.1.0.1 fits _,
     )
 
 pub take_next_spec : {M : Type 1} → statement M

@@ -23,7 +23,7 @@ number_of-fault-requires c κs = search rules
 returns-then-fault-ne-ACCEPTED : tie.Need-returns-then-fault-ne-ACCEPTED
 unfolding general_input_fault
 returns-then-fault-ne-ACCEPTED c = answer_second c.size_fault-sizes.ensures c.if-sizes-ne-ACCEPTED.false
-    (answer_first _ (number_told c.number_of-fault.ensures c.validate.ensures.answer) c.if-fault-ne-ACCEPTED.true)
+    (answer_first _ (number_told c.number_of-fault.ensures c.validate.ensures.0) c.if-fault-ne-ACCEPTED.true)
 
 values_fault-requires : tie.Need-values_fault-requires
 values_fault-requires c κs = search rules
@@ -31,7 +31,7 @@ values_fault-requires c κs = search rules
 returns : tie.Need-returns
 unfolding general_input_fault
 returns c = answer_second c.size_fault-sizes.ensures c.if-sizes-ne-ACCEPTED.false
-    (answer_second (number_told c.number_of-fault.ensures c.validate.ensures.answer) c.if-fault-ne-ACCEPTED.false
+    (answer_second (number_told c.number_of-fault.ensures c.validate.ensures.0) c.if-fault-ne-ACCEPTED.false
     c.values_fault.ensures)
 
 pub general_fault_spec : {M : Type 1} → statement M

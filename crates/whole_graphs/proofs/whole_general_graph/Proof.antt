@@ -19,10 +19,10 @@ use Rattle.whole_graphs.proofs.whole_general_graph.Tie as tie
 
 -- the matrix and the slices that are lent
 abbrev input : tie.Start → Matrix
-input c = matrix c.args.n c.args.col-ptr.now c.args.row-idx.now c.args.values.now
+input c = matrix c.args.n c.args.col_ptr.now c.args.row_idx.now c.args.values.now
 
 abbrev lent : tie.Start → Slices
-lent c = slices c.args.graph-ptr.now c.args.graph-rows.now c.args.cost.now c.args.cmax.now c.args.work.now
+lent c = slices c.args.graph_ptr.now c.args.graph_rows.now c.args.cost.now c.args.cmax.now c.args.work.now
 
 doubles : (c : tie.After-general_fault-fault) → Doubles c.args.values.now
 doubles c k h = c.shared_slice_known-3-1.given k
@@ -37,8 +37,8 @@ fine c = sym (fault_is c.before) ∙ c.if-fault-ne-ACCEPTED.false
 -- what the building asks for
 ready : (c : tie.Else-fault-ne-ACCEPTED) → 
     Accepted (input c.before.before.before.before.before.before.before.before.before.before.before) c.args.values.now
-    × Roomy c.args.n c.args.row-idx.now c.args.graph-ptr.now c.args.graph-rows.now c.args.cost.now
-    c.args.cmax.now × (length c.args.row-idx.now ≤ length c.args.work.now)
+    × Roomy c.args.n c.args.row_idx.now c.args.graph_ptr.now c.args.graph_rows.now c.args.cost.now
+    c.args.cmax.now × (length c.args.row_idx.now ≤ length c.args.work.now)
 ready c =
     general_ready (input c.before.before.before.before.before.before.before.before.before.before.before) (lent c.before.before.before.before.before.before.before.before.before.before.before) (fine c) (doubles c.before)
 
@@ -78,7 +78,7 @@ returns-then-fault-ne-ACCEPTED c =
 build-count-requires : tie.Need-build-count-requires
 build-count-requires c κs =
     let r = ready c.before.before.before.before.before.before.before.before in
-    (r.0, (r.1, (c.put_words.ensures.there, omega (arith, r.2, c.put_words.kept.1.1.1.0))))
+    (r.0, (r.1, (c.put_words.ensures.there, omega (arith, r.2, c.put_words.auto.words))))
 
 put_words-requires : tie.Need-put_words-requires
 put_words-requires c κs = let r = ready c.before in omega (arith, r.0.sizes.stored, r.2)
@@ -87,16 +87,16 @@ clear-requires : tie.Need-clear-requires
 clear-requires c κs = tt
 
 shape_of-graph_ptr : tie.Need-shape_of-graph_ptr
-shape_of-graph_ptr c = c.build-count.kept.1.1.1.1.1.1.0
+shape_of-graph_ptr c = c.build-count.auto.graph_rows
 
 shape_of-graph_rows : tie.Need-shape_of-graph_rows
-shape_of-graph_rows c = c.build-count.kept.1.1.1.1.1.1.1.0
+shape_of-graph_rows c = c.build-count.auto.cost
 
 shape_of-cost : tie.Need-shape_of-cost
-shape_of-cost c = c.build-count.kept.1.1.1.1.1.1.1.1.0
+shape_of-cost c = c.build-count.auto.cmax
 
 shape_of-cmax : tie.Need-shape_of-cmax
-shape_of-cmax c = c.build-count.kept.1.1.1.1.1.1.1.1.1.0
+shape_of-cmax c = c.build-count.auto.work
 
 shape_of-work : tie.Need-shape_of-work
 shape_of-work c = c.clear.auto.list ∙ c.put_words.auto.words
@@ -106,7 +106,7 @@ unfolding whole_general_graph
 returns c =
     let p = accepted (input c.before.before.before.before.before.before.before.before.before.before.before.before.before.before.before.before.before.before.before.before.before.before.before.before.before.before.before.before.before.before.before.before) (value_logs c.args.values.now) (lent c.before.before.before.before.before.before.before.before.before.before.before.before.before.before.before.before.before.before.before.before.before.before.before.before.before.before.before.before.before.before.before.before) _ c.build-count.result _ (sym (fine c.before.before.before.before.before.before.before.before.before.before.before.before.before.before.before.before.before.before.before.before.before))
     c.build-count.ensures
-    (c.clear.ensures ∙ ap (λ (k : ℕ). replicate k 0) c.put_words.kept.1.1.1.0) in
+    (c.clear.ensures ∙ ap (λ (k : ℕ). replicate k 0) c.put_words.auto.words) in
     record {
       outcome = p.0;
       answered = p.1;

@@ -14,10 +14,10 @@ use Rattle.whole_graphs.proofs.whole_symmetric_graph.Tie as tie
 
 -- the matrix and the slices that are lent
 abbrev input : tie.Start → Matrix
-input c = matrix c.args.n c.args.col-ptr.now c.args.row-idx.now c.args.values.now
+input c = matrix c.args.n c.args.col_ptr.now c.args.row_idx.now c.args.values.now
 
 abbrev lent : tie.Start → Slices
-lent c = slices c.args.graph-ptr.now c.args.graph-rows.now c.args.cost.now c.args.cmax.now c.args.work.now
+lent c = slices c.args.graph_ptr.now c.args.graph_rows.now c.args.cost.now c.args.cmax.now c.args.work.now
 
 doubles : (c : tie.After-symmetric_fault-fault) → Doubles c.args.values.now
 doubles c k h = c.shared_slice_known-3-1.given k
@@ -67,19 +67,19 @@ build-kept-requires c κs =
     symmetric_ready (input c.before.before.before.before.before.before.before.before.before.before.before.before.before.before.before.before) (lent c.before.before.before.before.before.before.before.before.before.before.before.before.before.before.before.before) (fine c.before.before.before.before.before) (doubles c.before.before.before.before.before.before)
 
 shape_of-graph_ptr : tie.Need-shape_of-graph_ptr
-shape_of-graph_ptr c = c.build-kept.kept.1.1.1.1.1.0
+shape_of-graph_ptr c = c.build-kept.auto.graph_ptr
 
 shape_of-graph_rows : tie.Need-shape_of-graph_rows
-shape_of-graph_rows c = c.build-kept.kept.1.1.1.1.1.1.0
+shape_of-graph_rows c = c.build-kept.auto.graph_rows
 
 shape_of-cost : tie.Need-shape_of-cost
-shape_of-cost c = c.build-kept.kept.1.1.1.1.1.1.1.0
+shape_of-cost c = c.build-kept.auto.cost
 
 shape_of-cmax : tie.Need-shape_of-cmax
-shape_of-cmax c = c.build-kept.kept.1.1.1.1.1.1.1.1.0
+shape_of-cmax c = c.build-kept.auto.cmax
 
 shape_of-work : tie.Need-shape_of-work
-shape_of-work c = c.build-kept.kept.1.1.1.1.1.1.1.1.1.0
+shape_of-work c = c.build-kept.auto.work
 
 returns : tie.Need-returns
 unfolding whole_symmetric_graph

@@ -37,16 +37,16 @@ shape_of-p c = search rules
 
 returns-in-Is : tie.Need-returns-in-Is
 returns-in-Is c =
-    let log = c.answer-1.given.0.0 in
+    let log = c.in-Is.log in
     let x = c.args.x in
-    let is : whole_log x ≡ Is log = sym c.whole_log-answer.ensures.log ∙ c.answer-1.given.1 in
+    let is : whole_log x ≡ Is log = sym c.whole_log-answer.ensures.0 ∙ c.in-Is.is in
     found x c.args.p.now log (to_z w32 (of_z w32 log)) (double c.before.before.before.before.before) c.if-p-ne1.false is
     (to_z-of_z w32 log (in_i32 x log (double c.before.before.before.before.before) is))
 
 returns-in-Refused : tie.Need-returns-in-Refused
 returns-in-Refused c =
-    refused c.args.x c.args.p.now c.answer-in-Refused-1.given.0.0 c.if-p-ne1.false
-    (sym c.whole_log-answer.ensures.log ∙ c.answer-in-Refused-1.given.1)
+    refused c.args.x c.args.p.now c.in-Refused.number c.if-p-ne1.false
+    (sym c.whole_log-answer.ensures.0 ∙ c.in-Refused.is)
 
 pub store_log_spec : {M : Type 1} → statement M
 store_log_spec =

@@ -26,7 +26,7 @@ decreases-loop-i n perm marks u v cmax factors₀ i₀ factors i = n - i
 loop-i-init : tie.Need-loop-i-init invariant-loop-i decreases-loop-i
 loop-i-init c =
     let a = c.args in
-    (omega arith, c.requires.perm_len.1, laid_none (factor_at a.n (read_match a.n a.perm.now a.u.now a.v.now a.cmax.now)) a.n _)
+    (omega arith, c.requires.1.0.1, laid_none (factor_at a.n (read_match a.n a.perm.now a.u.now a.v.now a.cmax.now)) a.n _)
 
 overflow_mul-at : tie.Need-overflow_mul-at invariant-loop-i decreases-loop-i
 overflow_mul-at c = omega arith
@@ -74,7 +74,7 @@ loop-i-preserved c =
       c.put_double.auto.out ∙ l.inv.1,
       c.put_double.ensures
           ∙ laid_more (factor_at a.n (read_match a.n a.perm.now a.u.now a.v.now a.cmax.now)) a.n _ l.i _ h l.inv.1 l.inv.2
-          (factor_read _ _ _ l.i c.requires.marked h c.log_factor-factor.ensures c.get_double-row.ensures
+          (factor_read _ _ _ l.i c.requires.1.1 h c.log_factor-factor.ensures c.get_double-row.ensures
           c.get_double-column.ensures c.get_double-largest.ensures),
     )
 
@@ -85,7 +85,7 @@ returns : tie.Need-returns invariant-loop-i decreases-loop-i
 returns c =
     let l = c.loop-i in
     let e : l.i ≡ c.args.n = omega arith in
-    l.invariant.2 ∙ laid_all _ c.args.n _ l.i e c.requires.perm_len.1
+    l.invariant.2 ∙ laid_all _ c.args.n _ l.i e c.requires.1.0.1
 
 pub put_factors_spec : {M : Type 1} → statement M
 put_factors_spec =

@@ -20,20 +20,20 @@ slice_bounds-rows_of-end : tie.Need-slice_bounds-rows_of-end
 slice_bounds-rows_of-end c = search rules
 
 slice_bounds-read_words-end : tie.Need-slice_bounds-read_words-end
-slice_bounds-read_words-end c = sym (part_length _ 256 _ (omega (arith, c.requires.duals.columns)))
+slice_bounds-read_words-end c = sym (part_length _ 256 _ (omega (arith, c.requires.0.columns)))
 
 read_words-requires : tie.Need-read_words-requires
 read_words-requires c κs =
     let pre = c.requires in
-    pre.perm_len ∙ ap (λ (k : ℕ). 4 * k) (sym (part_length _ 256 _ (omega (arith, pre.duals.columns))))
+    pre.1.0 ∙ ap (λ (k : ℕ). 4 * k) (sym (part_length _ 256 _ (omega (arith, pre.0.columns))))
 
 slice_bounds-rows_of-end-2 : tie.Need-slice_bounds-rows_of-end-2
 slice_bounds-rows_of-end-2 c =
-    part_within c.args.n 256 _ c.read_words.new.out (omega (arith, c.requires.duals.columns)) c.read_words.auto.out
+    part_within c.args.n 256 _ c.read_words.new.out (omega (arith, c.requires.0.columns)) c.read_words.auto.out
 
 slice_bounds-matching_fault-end : tie.Need-slice_bounds-matching_fault-end
 slice_bounds-matching_fault-end c =
-    sym (part_again c.args.n 256 _ c.read_words.new.out (omega (arith, c.requires.duals.columns)) c.read_words.auto.out)
+    sym (part_again c.args.n 256 _ c.read_words.new.out (omega (arith, c.requires.0.columns)) c.read_words.auto.out)
 
 matching_fault-fault-requires : tie.Need-matching_fault-fault-requires
 matching_fault-fault-requires c κs = search rules
@@ -43,71 +43,71 @@ returns-then-fault-ne-ACCEPTED c =
     let args = c.args in
     pairs_refused args.n args.matched args.perm.now args.u.now args.v.now args.cmax.now _ _
     (c.matching_fault-fault.ensures ∙ ap (matching_fault args.n args.matched)
-    (part_holds args.n 256 _ c.read_words.last.1.0 (omega (arith, c.requires.duals.columns)) c.read_words.kept.1.0
+    (part_holds args.n 256 _ c.read_words.new.out (omega (arith, c.requires.0.columns)) c.read_words.auto.out
     (words args.perm.now) c.read_words.ensures))
     c.if-fault-ne-ACCEPTED.true
 
 slice_bounds-rows_of-end-3 : tie.Need-slice_bounds-rows_of-end-3
 slice_bounds-rows_of-end-3 c =
-    part_within c.args.n 256 _ c.read_words.last.1.0 (omega (arith, c.requires.duals.columns)) c.read_words.kept.1.0
+    part_within c.args.n 256 _ c.read_words.new.out (omega (arith, c.requires.0.columns)) c.read_words.auto.out
 
 slice_bounds-mark_rows-end : tie.Need-slice_bounds-mark_rows-end
 slice_bounds-mark_rows-end c =
-    sym (part_again c.args.n 256 _ c.read_words.last.1.0 (omega (arith, c.requires.duals.columns)) c.read_words.kept.1.0)
+    sym (part_again c.args.n 256 _ c.read_words.new.out (omega (arith, c.requires.0.columns)) c.read_words.auto.out)
 
 slice_bounds-marks-end : tie.Need-slice_bounds-marks-end
 slice_bounds-marks-end c = search rules
 
 slice_bounds-mark_rows-end-2 : tie.Need-slice_bounds-mark_rows-end-2
 slice_bounds-mark_rows-end-2 c = sym (part_length _ 256 _
-    (omega (arith, c.requires.duals.columns)))
+    (omega (arith, c.requires.0.columns)))
 
 mark_rows-requires : tie.Need-mark_rows-requires
 mark_rows-requires c κs =
-    let l = part_again c.args.n 256 _ c.read_words.last.1.0 (omega (arith, c.requires.duals.columns)) c.read_words.kept.1.0 in (
-      (omega (arith, c.requires.duals.columns), omega (arith, l)),
+    let l = part_again c.args.n 256 _ c.read_words.new.out (omega (arith, c.requires.0.columns)) c.read_words.auto.out in (
+      (omega (arith, c.requires.0.columns), omega (arith, l)),
       (
         (pairs_fit_lem _ _ _ l (sym c.matching_fault-fault.ensures ∙ c.if-fault-ne-ACCEPTED.false)).1,
-        array_unmarked _ _ c.requires.duals.columns,
+        array_unmarked _ _ c.requires.0.columns,
       ),
     )
 
 slice_bounds-rows_of-end-4 : tie.Need-slice_bounds-rows_of-end-4
 slice_bounds-rows_of-end-4 c =
-    part_within c.args.n 256 _ c.read_words.last.1.0 (omega (arith, c.requires.duals.columns)) c.read_words.kept.1.0
+    part_within c.args.n 256 _ c.read_words.new.out (omega (arith, c.requires.0.columns)) c.read_words.auto.out
 
 slice_bounds-put_factors-end : tie.Need-slice_bounds-put_factors-end
 slice_bounds-put_factors-end c =
-    sym (part_again c.args.n 256 _ c.read_words.last.1.0 (omega (arith, c.requires.duals.columns)) c.read_words.kept.1.0)
+    sym (part_again c.args.n 256 _ c.read_words.new.out (omega (arith, c.requires.0.columns)) c.read_words.auto.out)
 
 slice_bounds-marks-end-2 : tie.Need-slice_bounds-marks-end-2
 slice_bounds-marks-end-2 c =
-    part_within c.args.n 256 _ c.mark_rows.last.1.1.0 (omega (arith, c.requires.duals.columns)) c.mark_rows.kept.1.1.0
+    part_within c.args.n 256 _ c.mark_rows.new.work (omega (arith, c.requires.0.columns)) c.mark_rows.auto.work
 
 slice_bounds-put_factors-end-2 : tie.Need-slice_bounds-put_factors-end-2
 slice_bounds-put_factors-end-2 c =
-    sym (part_again c.args.n 256 _ c.mark_rows.last.1.1.0 (omega (arith, c.requires.duals.columns)) c.mark_rows.kept.1.1.0)
+    sym (part_again c.args.n 256 _ c.mark_rows.new.work (omega (arith, c.requires.0.columns)) c.mark_rows.auto.work)
 
 put_factors-requires : tie.Need-put_factors-requires
 put_factors-requires c κs =
-    let few = c.requires.duals.columns in (
-      c.requires.duals,
+    let few = c.requires.0.columns in (
+      c.requires.0,
       (
-        (part_again c.args.n 256 _ c.read_words.last.1.0 (omega (arith, few)) c.read_words.kept.1.0, c.requires.factors_len.0),
-        subst (Marked c.args.n _ c.args.n) (sym (part_holds c.args.n 256 _ c.mark_rows.last.1.1.0 (omega (arith, few))
-            c.mark_rows.kept.1.1.0 (λ (k : ℕ). c.mark_rows.last.1.1.0) refl)) c.mark_rows.ensures,
+        (part_again c.args.n 256 _ c.read_words.new.out (omega (arith, few)) c.read_words.auto.out, c.requires.1.1.0),
+        subst (Marked c.args.n _ c.args.n) (sym (part_holds c.args.n 256 _ c.mark_rows.new.work (omega (arith, few))
+            c.mark_rows.auto.work (λ (k : ℕ). c.mark_rows.new.work) refl)) c.mark_rows.ensures,
       ),
     )
 
 overflow_sub-n : tie.Need-overflow_sub-n
 overflow_sub-n c =
-    let l = part_again c.args.n 256 _ c.read_words.last.1.0 (omega (arith, c.requires.duals.columns)) c.read_words.kept.1.0 in
+    let l = part_again c.args.n 256 _ c.read_words.new.out (omega (arith, c.requires.0.columns)) c.read_words.auto.out in
     let z = c.if-fault-ne-ACCEPTED.false in
     omega (arith, (pairs_fit_lem _ _ _ l (sym c.matching_fault-fault.ensures ∙ z)).0)
 
 put_u32-requires : tie.Need-put_u32-requires
 put_u32-requires c κs =
-    omega (arith, c.requires.factors_len.1)
+    omega (arith, c.requires.1.1.1)
 
 shape_of-factors : tie.Need-shape_of-factors
 shape_of-factors c = search rules
@@ -118,14 +118,14 @@ shape_of-unmatched c = search rules
 returns : tie.Need-returns
 returns c =
     let args = c.args in
-    let holds = part_holds args.n 256 _ c.read_words.last.1.0 (omega (arith, c.requires.duals.columns)) c.read_words.kept.1.0
+    let holds = part_holds args.n 256 _ c.read_words.new.out (omega (arith, c.requires.0.columns)) c.read_words.auto.out
     (words args.perm.now) c.read_words.ensures in
     pairs_laid args.n args.matched args.perm.now args.u.now args.v.now args.cmax.now _ _
     (c.matching_fault-fault.ensures ∙ ap (matching_fault args.n args.matched) holds)
     c.if-fault-ne-ACCEPTED.false
     (c.put_factors.ensures ∙ ap (λ (p : List ℕ). double_bytes (symmetric_factors args.n
     (match_of p (doubles args.u.now args.n) (doubles args.v.now args.n) (doubles args.cmax.now args.n)))) holds)
-    (c.put_u32.ensures ∙ one_laid _ _ c.requires.factors_len.1)
+    (c.put_u32.ensures ∙ one_laid _ _ c.requires.1.1.1)
 
 pub read_factors_spec : {M : Type 1} → statement M
 read_factors_spec =

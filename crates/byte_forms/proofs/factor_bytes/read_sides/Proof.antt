@@ -32,7 +32,7 @@ loop-i-init : tie.Need-loop-i-init invariant-loop-i decreases-loop-i
 loop-i-init c =
     let a = c.args in
     let pre = c.requires in
-    (omega arith, pre.row_factors_len.0, pre.row_factors_len.1, laid_none (row_at a.n a.u.now) a.n _, laid_none (column_at a.n a.v.now a.cmax.now) a.n _)
+    (omega arith, pre.1.0, pre.1.1, laid_none (row_at a.n a.u.now) a.n _, laid_none (column_at a.n a.v.now a.cmax.now) a.n _)
 
 overflow_mul-at : tie.Need-overflow_mul-at invariant-loop-i decreases-loop-i
 overflow_mul-at c = omega arith
@@ -71,13 +71,13 @@ loop-i-preserved c =
     let h : l.i < a.n = c.loop-i-test.true in
     (
       omega arith,
-      c.put_double.auto.out ∙ l.inv.1,
-      c.put_double-in-loop-i.auto.out ∙ l.inv.2,
-      c.put_double.ensures ∙ laid_more (row_at a.n a.u.now) a.n _ l.i _ h l.inv.1 l.inv.3
+      c.put_double.auto.out ∙ l.invariant.1,
+      c.put_double-in-loop-i.auto.out ∙ l.invariant.2,
+      c.put_double.ensures ∙ laid_more (row_at a.n a.u.now) a.n _ l.i _ h l.invariant.1 l.invariant.3
           (c.hold.ensures ∙ ap held (c.get_double-row.ensures
           ∙ sym (double_at_lem a.u.now a.n l.i h))),
       c.put_double-in-loop-i.ensures ∙ laid_more (column_at a.n a.v.now a.cmax.now) a.n _ l.i _ h
-          l.inv.2 l.inv.4
+          l.invariant.2 l.invariant.4
           (c.hold-in-loop-i.ensures ∙ ap₂ (λ (x y : Float). held (sub binary64 x y))
           (c.get_double.ensures ∙ sym (double_at_lem a.v.now a.n l.i h))
           (c.get_double-in-loop-i.ensures ∙ sym (double_at_lem a.cmax.now a.n l.i h))),
@@ -97,8 +97,8 @@ returns c =
     let l = c.loop-i in
     let e : l.i ≡ a.n = omega arith in
     ap₂ (λ (x y : List ℕ). outcome_is 0 (factor_bytes x y))
-    (l.invariant.3 ∙ laid_all (row_at a.n a.u.now) a.n _ l.i e pre.row_factors_len.0)
-    (l.invariant.4 ∙ laid_all (column_at a.n a.v.now a.cmax.now) a.n _ l.i e pre.row_factors_len.1)
+    (l.invariant.3 ∙ laid_all (row_at a.n a.u.now) a.n _ l.i e pre.1.0)
+    (l.invariant.4 ∙ laid_all (column_at a.n a.v.now a.cmax.now) a.n _ l.i e pre.1.1)
 
 pub read_sides_spec : {M : Type 1} → statement M
 read_sides_spec =

@@ -15,8 +15,8 @@ enum_known-outcome c = search rules
 put_match-requires : tie.Need-put_match-requires
 put_match-requires c κs =
     let pre = c.requires in
-    laying pre.roomy (c.hungarian_match-outcome.kept.1.1.1.1.0 ∙ pre.fact.perm)
-    (c.hungarian_match-outcome.kept.1.1.1.1.1.0 ∙ pre.fact.u) (c.hungarian_match-outcome.kept.1.1.1.1.1.1.0 ∙ pre.fact.v)
+    laying pre.1 (c.hungarian_match-outcome.auto.perm ∙ pre.0.perm)
+    (c.hungarian_match-outcome.auto.u ∙ pre.0.u) (c.hungarian_match-outcome.auto.v ∙ pre.0.v)
 
 enum_known-outcome-in-Refused-1 : tie.Need-enum_known-outcome-in-Refused-1
 enum_known-outcome-in-Refused-1 c = search rules
@@ -49,8 +49,8 @@ shape_of-answer : tie.Need-shape_of-answer
 shape_of-answer c = search rules
 
 returns-in-Matched : tie.Need-returns-in-Matched
-returns-in-Matched c = matched_bytes c.requires.fact _ c.hungarian_match-outcome.ensures.outcome
-    c.outcome-1.given.1 c.put_match.ensures
+returns-in-Matched c = matched_bytes c.requires.0 _ c.hungarian_match-outcome.ensures.outcome
+    c.in-Matched.is c.put_match.ensures
 
 shape_of-rows_of-in-Refused : tie.Need-shape_of-rows_of-in-Refused
 shape_of-rows_of-in-Refused c = search rules
@@ -68,8 +68,8 @@ shape_of-fwork-in-Refused : tie.Need-shape_of-fwork-in-Refused
 shape_of-fwork-in-Refused c = search rules
 
 returns-in-Refused : tie.Need-returns-in-Refused
-returns-in-Refused c = refused_bytes c.requires.fact _ c.hungarian_match-outcome.ensures.outcome
-    c.outcome-in-Refused-1.given.1
+returns-in-Refused c = refused_bytes c.requires.0 _ c.hungarian_match-outcome.ensures.outcome
+    c.in-Refused.is
 
 pub match_in_spec : {M : Type 1} → statement M
 match_in_spec =

@@ -11,19 +11,19 @@ slice_bounds-rows_of-end : tie.Need-slice_bounds-rows_of-end
 slice_bounds-rows_of-end c = search rules
 
 slice_bounds-match_in-end : tie.Need-slice_bounds-match_in-end
-slice_bounds-match_in-end c = sym (part_length _ 256 _ (omega (arith, c.requires.small.columns)))
+slice_bounds-match_in-end c = sym (part_length _ 256 _ (omega (arith, c.requires.0.columns)))
 
 slice_bounds-row_duals-end : tie.Need-slice_bounds-row_duals-end
 slice_bounds-row_duals-end c = search rules
 
 slice_bounds-match_in-end-2 : tie.Need-slice_bounds-match_in-end-2
-slice_bounds-match_in-end-2 c = sym (part_length _ 256 _ (omega (arith, c.requires.small.columns)))
+slice_bounds-match_in-end-2 c = sym (part_length _ 256 _ (omega (arith, c.requires.0.columns)))
 
 slice_bounds-col_duals-end : tie.Need-slice_bounds-col_duals-end
 slice_bounds-col_duals-end c = search rules
 
 slice_bounds-match_in-end-3 : tie.Need-slice_bounds-match_in-end-3
-slice_bounds-match_in-end-3 c = sym (part_length _ 256 _ (omega (arith, c.requires.small.columns)))
+slice_bounds-match_in-end-3 c = sym (part_length _ 256 _ (omega (arith, c.requires.0.columns)))
 
 overflow_mul-work : tie.Need-overflow_mul-work
 overflow_mul-work c = search rules
@@ -35,7 +35,7 @@ slice_bounds-work-end : tie.Need-slice_bounds-work-end
 slice_bounds-work-end c = search rules
 
 slice_bounds-match_in-end-4 : tie.Need-slice_bounds-match_in-end-4
-slice_bounds-match_in-end-4 c = sym (part_length _ 3073 _ (omega (arith, c.requires.small.columns)))
+slice_bounds-match_in-end-4 c = sym (part_length _ 3073 _ (omega (arith, c.requires.0.columns)))
 
 overflow_mul-fwork : tie.Need-overflow_mul-fwork
 overflow_mul-fwork c = search rules
@@ -44,19 +44,19 @@ slice_bounds-fwork-end : tie.Need-slice_bounds-fwork-end
 slice_bounds-fwork-end c = search rules
 
 slice_bounds-match_in-end-5 : tie.Need-slice_bounds-match_in-end-5
-slice_bounds-match_in-end-5 c = sym (part_length _ 512 _ (omega (arith, c.requires.small.columns)))
+slice_bounds-match_in-end-5 c = sym (part_length _ 512 _ (omega (arith, c.requires.0.columns)))
 
 match_in-requires : tie.Need-match_in-requires
 match_in-requires c κs = (
   record {
-    graph = c.requires.small.lengths;
-    perm = part_length _ 256 _ (omega (arith, c.requires.small.columns));
-    u = part_length _ 256 _ (omega (arith, c.requires.small.columns));
-    v = part_length _ 256 _ (omega (arith, c.requires.small.columns));
-    work = part_length _ 3073 _ (omega (arith, c.requires.small.columns));
-    fwork = part_length _ 512 _ (omega (arith, c.requires.small.columns));
+    graph = c.requires.0.lengths;
+    perm = part_length _ 256 _ (omega (arith, c.requires.0.columns));
+    u = part_length _ 256 _ (omega (arith, c.requires.0.columns));
+    v = part_length _ 256 _ (omega (arith, c.requires.0.columns));
+    work = part_length _ 3073 _ (omega (arith, c.requires.0.columns));
+    fwork = part_length _ 512 _ (omega (arith, c.requires.0.columns));
   },
-  c.requires.roomy,
+  c.requires.1,
 )
 
 shape_of-perm : tie.Need-shape_of-perm

@@ -19,70 +19,70 @@ slice_bounds-starts-end : tie.Need-slice_bounds-starts-end
 slice_bounds-starts-end c = search rules
 
 slice_bounds-read_words-end : tie.Need-slice_bounds-read_words-end
-slice_bounds-read_words-end c = sym (part_length _ 257 _ (omega (arith, c.requires.sized.columns)))
+slice_bounds-read_words-end c = sym (part_length _ 257 _ (omega (arith, c.requires.0.columns)))
 
 read_words-requires : tie.Need-read_words-requires
 read_words-requires c κs =
     let pre = c.requires in
-    pre.sized.col_ptr ∙ ap (λ (k : ℕ). 4 * k) (sym (part_length _ 257 _ (omega (arith, pre.sized.columns))))
+    pre.0.col_ptr ∙ ap (λ (k : ℕ). 4 * k) (sym (part_length _ 257 _ (omega (arith, pre.0.columns))))
 
 slice_bounds-entries-end : tie.Need-slice_bounds-entries-end
 slice_bounds-entries-end c = search rules
 
 slice_bounds-read_words-end-2 : tie.Need-slice_bounds-read_words-end-2
-slice_bounds-read_words-end-2 c = sym (part_length _ 2048 _ (omega (arith, c.requires.sized.entries)))
+slice_bounds-read_words-end-2 c = sym (part_length _ 2048 _ (omega (arith, c.requires.0.entries)))
 
 read_words-requires-2 : tie.Need-read_words-requires-2
 read_words-requires-2 c κs =
     let pre = c.requires in
-    pre.sized.rows ∙ ap (λ (k : ℕ). 4 * k) (sym (part_length _ 2048 _ (omega (arith, pre.sized.entries))))
+    pre.0.rows ∙ ap (λ (k : ℕ). 4 * k) (sym (part_length _ 2048 _ (omega (arith, pre.0.entries))))
 
 slice_bounds-costs-end : tie.Need-slice_bounds-costs-end
 slice_bounds-costs-end c = search rules
 
 slice_bounds-read_doubles-end : tie.Need-slice_bounds-read_doubles-end
-slice_bounds-read_doubles-end c = sym (part_length _ 2048 _ (omega (arith, c.requires.sized.entries)))
+slice_bounds-read_doubles-end c = sym (part_length _ 2048 _ (omega (arith, c.requires.0.entries)))
 
 read_doubles-requires : tie.Need-read_doubles-requires
 read_doubles-requires c κs =
     let pre = c.requires in
-    pre.sized.cost ∙ ap (λ (k : ℕ). 8 * k) (sym (part_length _ 2048 _ (omega (arith, pre.sized.entries))))
+    pre.0.cost ∙ ap (λ (k : ℕ). 8 * k) (sym (part_length _ 2048 _ (omega (arith, pre.0.entries))))
 
 slice_bounds-starts-end-2 : tie.Need-slice_bounds-starts-end-2
 slice_bounds-starts-end-2 c =
-    part_within (c.args.n + 1) 257 _ c.read_words.last.1.0 (omega (arith, c.requires.sized.columns))
-    c.read_words.kept.1.0
+    part_within (c.args.n + 1) 257 _ c.read_words.new.out (omega (arith, c.requires.0.columns))
+    c.read_words.auto.out
 
 slice_bounds-match_small-end : tie.Need-slice_bounds-match_small-end
 slice_bounds-match_small-end c =
-    sym (part_again (c.args.n + 1) 257 _ c.read_words.last.1.0 (omega (arith, c.requires.sized.columns))
-    c.read_words.kept.1.0)
+    sym (part_again (c.args.n + 1) 257 _ c.read_words.new.out (omega (arith, c.requires.0.columns))
+    c.read_words.auto.out)
 
 slice_bounds-entries-end-2 : tie.Need-slice_bounds-entries-end-2
 slice_bounds-entries-end-2 c =
-    part_within (word_count (length c.args.row-idx.now)) 2048 _
-    c.read_words-2.last.1.0 (omega (arith, c.requires.sized.entries))
-    c.read_words-2.kept.1.0
+    part_within (word_count (length c.args.row_idx.now)) 2048 _
+    c.read_words-2.new.out (omega (arith, c.requires.0.entries))
+    c.read_words-2.auto.out
 
 slice_bounds-match_small-end-2 : tie.Need-slice_bounds-match_small-end-2
 slice_bounds-match_small-end-2 c =
-    sym (part_again (word_count (length c.args.row-idx.now)) 2048 _
-    c.read_words-2.last.1.0 (omega (
+    sym (part_again (word_count (length c.args.row_idx.now)) 2048 _
+    c.read_words-2.new.out (omega (
       arith,
-      c.requires.sized.entries,
-    )) c.read_words-2.kept.1.0)
+      c.requires.0.entries,
+    )) c.read_words-2.auto.out)
 
 slice_bounds-costs-end-2 : tie.Need-slice_bounds-costs-end-2
-slice_bounds-costs-end-2 c = part_within (word_count (length c.args.row-idx.now)) 2048 _
+slice_bounds-costs-end-2 c = part_within (word_count (length c.args.row_idx.now)) 2048 _
     c.read_doubles.new.out
-    (omega (arith, c.requires.sized.entries))
+    (omega (arith, c.requires.0.entries))
     c.read_doubles.auto.out
 
 slice_bounds-match_small-end-3 : tie.Need-slice_bounds-match_small-end-3
 slice_bounds-match_small-end-3 c = sym (part_again (word_count (length
-    c.args.row-idx.now)) 2048 _
+    c.args.row_idx.now)) 2048 _
     c.read_doubles.new.out (omega
-    (arith, c.requires.sized.entries))
+    (arith, c.requires.0.entries))
     c.read_doubles.auto.out)
 
 match_small-requires : tie.Need-match_small-requires
@@ -90,13 +90,13 @@ match_small-requires c κs =
     let args = c.args in
     let pre = c.requires in
     (
-      small (word_count (length args.row-idx.now)) pre.sized.columns
-          (part_again (args.n + 1) 257 _ c.read_words.last.1.0 (omega (arith, pre.sized.columns))
-          c.read_words.kept.1.0) (part_again (word_count (length args.row-idx.now)) 2048 _
-          c.read_words-2.last.1.0 (omega (arith, pre.sized.entries)) c.read_words-2.kept.1.0)
-          (part_again (word_count (length args.row-idx.now)) 2048 _ c.read_doubles.last.1.0
-          (omega (arith, pre.sized.entries)) c.read_doubles.kept.1.0),
-      pre.roomy,
+      small (word_count (length args.row_idx.now)) pre.0.columns
+          (part_again (args.n + 1) 257 _ c.read_words.new.out (omega (arith, pre.0.columns))
+          c.read_words.auto.out) (part_again (word_count (length args.row_idx.now)) 2048 _
+          c.read_words-2.new.out (omega (arith, pre.0.entries)) c.read_words-2.auto.out)
+          (part_again (word_count (length args.row_idx.now)) 2048 _ c.read_doubles.new.out
+          (omega (arith, pre.0.entries)) c.read_doubles.auto.out),
+      pre.1,
     )
 
 shape_of-perm : tie.Need-shape_of-perm
@@ -115,15 +115,15 @@ returns : tie.Need-returns
 returns c =
     let args = c.args in
     let pre = c.requires in
-    result_read (graph_bytes args.n args.col-ptr.now args.row-idx.now args.cost.now)
+    result_read (graph_bytes args.n args.col_ptr.now args.row_idx.now args.cost.now)
     (match_bytes args.perm.now args.u.now args.v.now args.answer.now)
     c.match_small.ensures (part_holds (args.n + 1) 257 _
-    c.read_words.last.1.0 (omega (arith, pre.sized.columns)) c.read_words.kept.1.0
-    (words args.col-ptr.now) c.read_words.ensures)
-    (part_holds (word_count (length args.row-idx.now)) 2048 _ c.read_words-2.last.1.0
-    (omega (arith, pre.sized.entries)) c.read_words-2.kept.1.0 (words args.row-idx.now)
-    c.read_words-2.ensures) (part_holds (word_count (length args.row-idx.now)) 2048 _
-    c.read_doubles.last.1.0 (omega (arith, pre.sized.entries)) c.read_doubles.kept.1.0
+    c.read_words.new.out (omega (arith, pre.0.columns)) c.read_words.auto.out
+    (words args.col_ptr.now) c.read_words.ensures)
+    (part_holds (word_count (length args.row_idx.now)) 2048 _ c.read_words-2.new.out
+    (omega (arith, pre.0.entries)) c.read_words-2.auto.out (words args.row_idx.now)
+    c.read_words-2.ensures) (part_holds (word_count (length args.row_idx.now)) 2048 _
+    c.read_doubles.new.out (omega (arith, pre.0.entries)) c.read_doubles.auto.out
     (doubles args.cost.now) c.read_doubles.ensures)
 
 pub read_and_match_spec : {M : Type 1} → statement M

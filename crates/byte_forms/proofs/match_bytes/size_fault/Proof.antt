@@ -16,7 +16,7 @@ returns-then-row_idx-gt-MAX_ENTRIES : tie.Need-returns-then-row_idx-gt-MAX_ENTRI
 unfolding byte_sizes
 returns-then-row_idx-gt-MAX_ENTRIES c = rw (
   le-leb c.args.n byte_columns c.if-n-gt-MAX_COLUMNS.false,
-  lt-leb (word_count c.args.row-idx) byte_entries c.if-row_idx-gt-MAX_ENTRIES.true,
+  lt-leb (word_count c.args.row_idx) byte_entries c.if-row_idx-gt-MAX_ENTRIES.true,
 )
 
 lengths_fit-requires : tie.Need-lengths_fit-requires
@@ -27,7 +27,7 @@ unfolding byte_sizes
 returns-then-lengths_fit c = rw (
   le-leb c.args.n byte_columns c.if-n-gt-MAX_COLUMNS.false,
   le-leb
-      (word_count c.args.row-idx) byte_entries c.if-row_idx-gt-MAX_ENTRIES.false,
+      (word_count c.args.row_idx) byte_entries c.if-row_idx-gt-MAX_ENTRIES.false,
   sym
       c.lengths_fit.ensures,
   c.if-lengths_fit.true,
@@ -38,7 +38,7 @@ unfolding byte_sizes
 returns-else-lengths_fit c = rw (
   le-leb c.args.n byte_columns c.if-n-gt-MAX_COLUMNS.false,
   le-leb
-      (word_count c.args.row-idx) byte_entries c.if-row_idx-gt-MAX_ENTRIES.false,
+      (word_count c.args.row_idx) byte_entries c.if-row_idx-gt-MAX_ENTRIES.false,
   sym
       c.lengths_fit.ensures,
   c.if-lengths_fit.false,

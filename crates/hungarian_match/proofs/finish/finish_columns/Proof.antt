@@ -17,7 +17,7 @@ abbrev decreases-loop-j : tie.decreases-loop-j
 decreases-loop-j n rows cost u work perm₀ v₀ j₀ perm v j = n - j
 
 loop-j-init : tie.Need-loop-j-init invariant-loop-j decreases-loop-j
-loop-j-init c = (omega arith, c.requires.fact_2, c.requires.fact_3, copy_begins)
+loop-j-init c = (omega arith, c.requires.1.0, c.requires.1.1, copy_begins)
 
 overflow_add-entry : tie.Need-overflow_add-entry invariant-loop-j decreases-loop-j
 overflow_add-entry c = omega arith
@@ -54,20 +54,20 @@ loop-j-preserved-then-entry c = let l = c.loop-j in
       simp length-set l.invariant.1,
       simp length-set l.invariant.2,
       copy_free
-          (omega (arith, column_count_lem c.requires.fact_1))
-          (l.invariant.1 ∙ sym (column_count_lem c.requires.fact_1))
-          (l.invariant.2 ∙ sym (column_count_lem c.requires.fact_1)) l.invariant.3 (eq-eqb _ _ (e ∙ c.if-entry.true)),
+          (omega (arith, column_count_lem c.requires.0))
+          (l.invariant.1 ∙ sym (column_count_lem c.requires.0))
+          (l.invariant.2 ∙ sym (column_count_lem c.requires.0)) l.invariant.3 (eq-eqb _ _ (e ∙ c.if-entry.true)),
     )
 
 overflow_cast-k : tie.Need-overflow_cast-k invariant-loop-j decreases-loop-j
-overflow_cast-k c = omega (arith, entry_inside c.requires.fact_1 c.loop-j.j (omega arith) c.if-entry.false)
+overflow_cast-k c = omega (arith, entry_inside c.requires.0 c.loop-j.j (omega arith) c.if-entry.false)
 
 offset_bounds-row_idx-k : tie.Need-offset_bounds-row_idx-k invariant-loop-j decreases-loop-j
-offset_bounds-row_idx-k c = omega (arith, entry_inside c.requires.fact_1 c.loop-j.j (omega arith) c.if-entry.false)
+offset_bounds-row_idx-k c = omega (arith, entry_inside c.requires.0 c.loop-j.j (omega arith) c.if-entry.false)
 
 bounds-row_idx-k : tie.Need-bounds-row_idx-k invariant-loop-j decreases-loop-j
 bounds-row_idx-k c =
-    omega (arith, entry_inside c.requires.fact_1 c.loop-j.j (omega arith) c.if-entry.false)
+    omega (arith, entry_inside c.requires.0 c.loop-j.j (omega arith) c.if-entry.false)
 
 offset_bounds-perm-j-in-loop-j : tie.Need-offset_bounds-perm-j-in-loop-j invariant-loop-j decreases-loop-j
 offset_bounds-perm-j-in-loop-j c = omega arith
@@ -76,23 +76,23 @@ bounds-perm-j-in-loop-j : tie.Need-bounds-perm-j-in-loop-j invariant-loop-j decr
 bounds-perm-j-in-loop-j c = omega arith
 
 offset_bounds-cost-k : tie.Need-offset_bounds-cost-k invariant-loop-j decreases-loop-j
-offset_bounds-cost-k c = omega (arith, entry_inside c.requires.fact_1 c.loop-j.j (omega arith) c.if-entry.false)
+offset_bounds-cost-k c = omega (arith, entry_inside c.requires.0 c.loop-j.j (omega arith) c.if-entry.false)
 
 bounds-cost-k : tie.Need-bounds-cost-k invariant-loop-j decreases-loop-j
 bounds-cost-k c = omega
-    (arith, entry_inside c.requires.fact_1 c.loop-j.j (omega arith) c.if-entry.false)
+    (arith, entry_inside c.requires.0 c.loop-j.j (omega arith) c.if-entry.false)
 
 overflow_cast-v : tie.Need-overflow_cast-v invariant-loop-j decreases-loop-j
 overflow_cast-v c = omega (
   arith,
-  entry_inside c.requires.fact_1 c.loop-j.j (omega arith)
+  entry_inside c.requires.0 c.loop-j.j (omega arith)
       c.if-entry.false,
 )
 
 offset_bounds-u-row : tie.Need-offset_bounds-u-row invariant-loop-j decreases-loop-j
 offset_bounds-u-row c = omega (
   arith,
-  entry_inside c.requires.fact_1 c.loop-j.j (omega arith)
+  entry_inside c.requires.0 c.loop-j.j (omega arith)
       c.if-entry.false,
 )
 
@@ -100,7 +100,7 @@ bounds-u-row : tie.Need-bounds-u-row invariant-loop-j decreases-loop-j
 bounds-u-row c =
     omega (
       arith,
-      entry_inside c.requires.fact_1 c.loop-j.j (omega arith)
+      entry_inside c.requires.0 c.loop-j.j (omega arith)
           c.if-entry.false,
     )
 
@@ -124,9 +124,9 @@ loop-j-preserved c = let l = c.loop-j in
       simp length-set l.inv.1,
       simp length-set l.inv.2,
       rw (← e)
-          (copy_matched (omega (arith, column_count_lem c.requires.fact_1))
-          (l.inv.1 ∙ sym (column_count_lem c.requires.fact_1))
-          (l.inv.2 ∙ sym (column_count_lem c.requires.fact_1)) l.inv.3
+          (copy_matched (omega (arith, column_count_lem c.requires.0))
+          (l.inv.1 ∙ sym (column_count_lem c.requires.0))
+          (l.inv.2 ∙ sym (column_count_lem c.requires.0)) l.inv.3
           (ne_eqb _ _ (λ z. c.if-entry.false (sym e ∙ z)))),
     )
 
@@ -137,7 +137,7 @@ shape_of-v : tie.Need-shape_of-v invariant-loop-j decreases-loop-j
 shape_of-v c = omega arith
 
 returns : tie.Need-returns invariant-loop-j decreases-loop-j
-returns c = let l = c.loop-j in copy_ends (column_count_lem c.requires.fact_1) l.invariant.1 l.invariant.2 l.j (omega arith) l.invariant.3
+returns c = let l = c.loop-j in copy_ends (column_count_lem c.requires.0) l.invariant.1 l.invariant.2 l.j (omega arith) l.invariant.3
 
 pub finish_columns_spec : {M : Type 1} → statement M
 finish_columns_spec =

@@ -18,7 +18,7 @@ abbrev decreases-loop-i : tie.decreases-loop-i
 decreases-loop-i n work u₀ i₀ u i = n - i
 
 loop-i-init : tie.Need-loop-i-init invariant-loop-i decreases-loop-i
-loop-i-init c = (omega arith, c.requires.fact_2, refl)
+loop-i-init c = (omega arith, c.requires.1, refl)
 
 offset_bounds-work-i : tie.Need-offset_bounds-work-i invariant-loop-i decreases-loop-i
 offset_bounds-work-i c = omega arith
@@ -42,7 +42,7 @@ loop-i-preserved : tie.Need-loop-i-preserved invariant-loop-i decreases-loop-i
 loop-i-preserved c =
     let l = c.loop-i in
     let js = region iperm_at c.args.n c.args.work.now in
-    let r = row_count c.args.n c.args.work.now c.requires.fact_1 in
+    let r = row_count c.args.n c.args.work.now c.requires.0 in
     let e = column_at_lem c.args.n c.args.work.now l.i (omega arith) in
     ⊎_elim
     (λ x. (
@@ -63,7 +63,7 @@ shape_of-u c = omega arith
 returns : tie.Need-returns invariant-loop-i decreases-loop-i
 returns c = let l = c.loop-i in
     sym (rows_done l.i (region iperm_at c.args.n c.args.work.now) l.u
-    (omega (arith, row_count c.args.n c.args.work.now c.requires.fact_1))
+    (omega (arith, row_count c.args.n c.args.work.now c.requires.0))
     (omega arith)) ∙ l.invariant.2
 
 pub finish_rows_spec : {M : Type 1} → statement M

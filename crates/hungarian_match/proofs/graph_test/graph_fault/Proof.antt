@@ -20,10 +20,10 @@ returns-then-sizes-ne-ACCEPTED c = answer_first _ c.size_fault-sizes.ensures c.i
 
 pointer_fault-pointers-requires : tie.Need-pointer_fault-pointers-requires
 pointer_fault-pointers-requires c κs = let s : size_fault c.args.n max_general
-    (length c.args.row-idx.now)
+    (length c.args.row_idx.now)
     c.args.lengths ≡ 0 = sym c.size_fault-sizes.ensures ∙ c.if-sizes-ne-ACCEPTED.false in
     let l = c.requires ((sizes_accepted c.args.n
-    max_general (length c.args.row-idx.now)
+    max_general (length c.args.row_idx.now)
     c.args.lengths).0 s).2 in
     l
 
@@ -34,17 +34,17 @@ returns-then-pointers-ne-ACCEPTED c = answer_second c.size_fault-sizes.ensures c
 
 columns_fault-columns-requires : tie.Need-columns_fault-columns-requires
 columns_fault-columns-requires c κs = let s : size_fault c.args.n max_general
-    (length c.args.row-idx.now)
+    (length c.args.row_idx.now)
     c.args.lengths ≡ 0 = sym
     c.size_fault-sizes.ensures ∙ c.if-sizes-ne-ACCEPTED.false in
     let l = c.requires
     ((sizes_accepted c.args.n max_general
-    (length c.args.row-idx.now)
+    (length c.args.row_idx.now)
     c.args.lengths).0 s).2 in (
       l,
       (pointers_accepted c.args.n
-          c.args.col-ptr.now
-          (length c.args.row-idx.now)).0
+          c.args.col_ptr.now
+          (length c.args.row_idx.now)).0
           (sym c.pointer_fault-pointers.ensures ∙ c.if-pointers-ne-ACCEPTED.false),
     )
 

@@ -30,13 +30,13 @@ overflow_cast-row c = omega (arith, c.shared_slice_known-1.given c.loop-k.k)
 returns-then-row-n : tie.Need-returns-then-row-n invariant-loop-k decreases-loop-k
 returns-then-row-n c =
     let a = c.args in let l = c.loop-k in
-    (found _ _ l.k l.invariant c.loop-k-test.true (lower_range a.n a.row-idx.now l.k a.j c.if-row-n.true) (omega arith))
+    (found _ _ l.k l.invariant c.loop-k-test.true (lower_range a.n a.row_idx.now l.k a.j c.if-row-n.true) (omega arith))
 
 returns-then-row-j : tie.Need-returns-then-row-j invariant-loop-k decreases-loop-k
 returns-then-row-j c =
     let a = c.args in let l = c.loop-k in
-    (found _ _ l.k l.inv c.loop-k-test.true
-    (lower_above a.n a.row-idx.now l.k a.j c.if-row-n.false c.if-row-j.true) (omega arith))
+    (found _ _ l.k l.invariant c.loop-k-test.true
+    (lower_above a.n a.row_idx.now l.k a.j c.if-row-n.false c.if-row-j.true) (omega arith))
 
 overflow_add-k : tie.Need-overflow_add-k invariant-loop-k decreases-loop-k
 overflow_add-k c = omega arith
@@ -47,7 +47,7 @@ loop-k-smaller c = omega arith
 loop-k-preserved : tie.Need-loop-k-preserved invariant-loop-k decreases-loop-k
 loop-k-preserved c =
     let a = c.args in let l = c.loop-k in
-    pass _ _ l.k l.inv c.loop-k-test.true (lower_right a.n a.row-idx.now l.k a.j c.if-row-n.false c.if-row-j.false)
+    pass _ _ l.k l.invariant c.loop-k-test.true (lower_right a.n a.row_idx.now l.k a.j c.if-row-n.false c.if-row-j.false)
 
 returns : tie.Need-returns invariant-loop-k decreases-loop-k
 returns c = (done _ _ c.loop-k.k c.loop-k.invariant c.loop-k-test.false)

@@ -16,7 +16,7 @@ decreases-loop-k rows from to k₀ k = to - k
 
 loop-k-init : tie.Need-loop-k-init invariant-loop-k decreases-loop-k
 unfolding rising_column
-loop-k-init c = (c.requires.from_le_to, refl)
+loop-k-init c = (c.requires.0, refl)
 
 overflow_add-k : tie.Need-overflow_add-k invariant-loop-k decreases-loop-k
 overflow_add-k c = omega arith
@@ -39,7 +39,7 @@ bounds-row_idx-k-in-loop-k c = omega arith
 returns-then-row_idx-k : tie.Need-returns-then-row_idx-k invariant-loop-k decreases-loop-k
 returns-then-row_idx-k c =
     let a = c.args in let l = c.loop-k in
-    (found _ _ l.k l.inv.1 (omega (arith, c.loop-k-test.true)) (pair_falls a.row-idx.now l.k c.if-row_idx-k.true) (omega arith))
+    (found _ _ l.k l.invariant.1 (omega (arith, c.loop-k-test.true)) (pair_falls a.row_idx.now l.k c.if-row_idx-k.true) (omega arith))
 
 overflow_add-k-in-loop-k-2 : tie.Need-overflow_add-k-in-loop-k-2 invariant-loop-k decreases-loop-k
 overflow_add-k-in-loop-k-2 c = omega arith
@@ -50,7 +50,7 @@ loop-k-smaller c = omega arith
 loop-k-preserved : tie.Need-loop-k-preserved invariant-loop-k decreases-loop-k
 loop-k-preserved c =
     let a = c.args in let l = c.loop-k in
-    (omega arith, pass _ _ l.k l.inv.1 (omega (arith, c.loop-k-test.true)) (pair_rises a.row-idx.now l.k c.if-row_idx-k.false))
+    (omega arith, pass _ _ l.k l.invariant.1 (omega (arith, c.loop-k-test.true)) (pair_rises a.row_idx.now l.k c.if-row_idx-k.false))
 
 returns : tie.Need-returns invariant-loop-k decreases-loop-k
 returns c = (done _ _ c.loop-k.k c.loop-k.invariant.1 (omega (arith, c.loop-k-test.false)))

@@ -38,7 +38,7 @@ bounds-cols-k c = omega arith
 returns-then-cols-k : tie.Need-returns-then-cols-k invariant-loop-k decreases-loop-k
 returns-then-cols-k c =
     let a = c.args in let l = c.loop-k in
-    found _ _ l.k l.inv c.loop-k-test.true
+    found _ _ l.k l.invariant c.loop-k-test.true
     (rw (
       lt-ltb (get_or a.rows.now l.k 0) a.n c.if-rows-k.false,
       le-ltb (get_or a.cols.now l.k 0)
@@ -60,7 +60,7 @@ bounds-cols-k-in-loop-k c = omega arith
 returns-then-rows-k-2 : tie.Need-returns-then-rows-k-2 invariant-loop-k decreases-loop-k
 returns-then-rows-k-2 c =
     let a = c.args in let l = c.loop-k in
-    found _ _ l.k l.inv c.loop-k-test.true
+    found _ _ l.k l.invariant c.loop-k-test.true
     (rw (
       lt-ltb (get_or a.rows.now l.k 0) a.n c.if-rows-k.false,
       lt-ltb
@@ -78,7 +78,7 @@ loop-k-smaller c = omega arith
 loop-k-preserved : tie.Need-loop-k-preserved invariant-loop-k decreases-loop-k
 loop-k-preserved c =
     let a = c.args in let l = c.loop-k in
-    pass _ _ l.k l.inv c.loop-k-test.true
+    pass _ _ l.k l.invariant c.loop-k-test.true
     (rw (
       lt-ltb (get_or a.rows.now l.k 0) a.n c.if-rows-k.false,
       lt-ltb

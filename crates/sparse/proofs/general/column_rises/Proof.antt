@@ -22,7 +22,7 @@ overflow_add-k : tie.Need-overflow_add-k invariant-loop-k decreases-loop-k
 overflow_add-k c = omega arith
 
 loop-k-init : tie.Need-loop-k-init invariant-loop-k decreases-loop-k
-loop-k-init c = (omega arith, omega arith, (λ t. rises_first c.args.row-idx.now _, λ r. refl))
+loop-k-init c = (omega arith, omega arith, (λ t. rises_first c.args.row_idx.now _, λ r. refl))
 
 overflow_sub-fine : tie.Need-overflow_sub-fine invariant-loop-k decreases-loop-k
 overflow_sub-fine c = omega arith
@@ -50,9 +50,9 @@ loop-k-preserved c = (
   omega arith,
   omega arith,
   (
-    λ t. rises_more c.args.row-idx.now _
+    λ t. rises_more c.args.row_idx.now _
         c.loop-k.k c.loop-k.fine c.loop-k.invariant.2.0 t,
-    λ r. more_rises c.args.row-idx.now _
+    λ r. more_rises c.args.row_idx.now _
         c.loop-k.k c.loop-k.fine c.loop-k.invariant.0
         c.loop-k.invariant.2.1 r,
   ),

@@ -42,7 +42,7 @@ overflow_cast-col_ptr-in-loop-j : tie.Need-overflow_cast-col_ptr-in-loop-j invar
 overflow_cast-col_ptr-in-loop-j c = omega (arith, c.shared_slice_known-in-loop-j-2-1.given (c.loop-j.j + 1))
 
 column_fault-fault-requires : tie.Need-column_fault-fault-requires invariant-loop-j decreases-loop-j
-column_fault-fault-requires c κs = let p = c.requires.pointers in (
+column_fault-fault-requires c κs = let p = c.requires.1 in (
   rw add-one (p.rises c.loop-j.j c.loop-j-test.true),
   pointer_below p
       (c.loop-j.j + 1) (omega arith),

@@ -17,7 +17,7 @@ decreases-loop-k n rows from to least₀ k₀ least k = to - k
 
 loop-k-init : tie.Need-loop-k-init invariant-loop-k decreases-loop-k
 unfolding general_column
-loop-k-init c = (omega arith, sym (Entries.least_first c.args.row-idx.now c.args.from), refl)
+loop-k-init c = (omega arith, sym (Entries.least_first c.args.row_idx.now c.args.from), refl)
 
 offset_bounds-row_idx-k : tie.Need-offset_bounds-row_idx-k invariant-loop-k decreases-loop-k
 offset_bounds-row_idx-k c = omega arith
@@ -32,13 +32,13 @@ returns-then-row-n : tie.Need-returns-then-row-n invariant-loop-k decreases-loop
 returns-then-row-n c =
     let a = c.args in let l = c.loop-k in
     (found _ _ l.k l.invariant.2 c.loop-k-test.true
-    (Entries.general_range a.n a.row-idx.now l.k a.from c.if-row-n.true) (omega arith))
+    (Entries.general_range a.n a.row_idx.now l.k a.from c.if-row-n.true) (omega arith))
 
 returns-then-row-least : tie.Need-returns-then-row-least invariant-loop-k decreases-loop-k
 returns-then-row-least c =
     let a = c.args in let l = c.loop-k in
-    (found _ _ l.k l.inv.2 c.loop-k-test.true
-    (Entries.general_falls a.n a.row-idx.now l.k a.from c.if-row-n.false (rw (← l.inv.1) c.if-row-least.true))
+    (found _ _ l.k l.invariant.2 c.loop-k-test.true
+    (Entries.general_falls a.n a.row_idx.now l.k a.from c.if-row-n.false (rw (← l.invariant.1) c.if-row-least.true))
     (omega arith))
 
 overflow_add-least : tie.Need-overflow_add-least invariant-loop-k decreases-loop-k
@@ -54,9 +54,9 @@ loop-k-preserved : tie.Need-loop-k-preserved invariant-loop-k decreases-loop-k
 loop-k-preserved c =
     let a = c.args in let l = c.loop-k in (
       omega arith,
-      sym (Entries.least_next a.row-idx.now a.from l.k l.inv.0),
-      pass _ _ l.k l.inv.2 c.loop-k-test.true
-          (Entries.general_right a.n a.row-idx.now l.k a.from c.if-row-n.false (rw (← l.inv.1) c.if-row-least.false)),
+      sym (Entries.least_next a.row_idx.now a.from l.k l.invariant.0),
+      pass _ _ l.k l.invariant.2 c.loop-k-test.true
+          (Entries.general_right a.n a.row_idx.now l.k a.from c.if-row-n.false (rw (← l.invariant.1) c.if-row-least.false)),
     )
 
 returns : tie.Need-returns invariant-loop-k decreases-loop-k

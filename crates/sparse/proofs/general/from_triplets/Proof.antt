@@ -17,24 +17,24 @@ returns-then-sizes-ne-ACCEPTED : tie.Need-returns-then-sizes-ne-ACCEPTED
 unfolding general_assembly triplet_fault
 returns-then-sizes-ne-ACCEPTED c = let a = c.args in
     refused a.n (triplets a.rows.now a.cols.now a.vals.now)
-    (slices a.col-ptr.now a.row-idx.now a.values.now a.work.now) _ _
+    (slices a.col_ptr.now a.row_idx.now a.values.now a.work.now) _ _
     (general_fault_listed a.n (triplets a.rows.now a.cols.now a.vals.now)
-    (slices a.col-ptr.now a.row-idx.now a.values.now a.work.now))
+    (slices a.col_ptr.now a.row_idx.now a.values.now a.work.now))
     (answer_first _ c.triplet_sizes-sizes.ensures c.if-sizes-ne-ACCEPTED.true) c.if-sizes-ne-ACCEPTED.true
 
 triplets_fault-fault-requires : tie.Need-triplets_fault-fault-requires
 triplets_fault-fault-requires c κs = let a = c.args in
     pairs_are max_general a.n (triplets a.rows.now a.cols.now a.vals.now)
-    (slices a.col-ptr.now a.row-idx.now a.values.now a.work.now) (omega arith)
+    (slices a.col_ptr.now a.row_idx.now a.values.now a.work.now) (omega arith)
     (sym c.triplet_sizes-sizes.ensures ∙ c.if-sizes-ne-ACCEPTED.false)
 
 returns-then-fault-ne-ACCEPTED : tie.Need-returns-then-fault-ne-ACCEPTED
 unfolding general_assembly triplet_fault
 returns-then-fault-ne-ACCEPTED c = let a = c.args in
     refused a.n (triplets a.rows.now a.cols.now a.vals.now)
-    (slices a.col-ptr.now a.row-idx.now a.values.now a.work.now) _ _
+    (slices a.col_ptr.now a.row_idx.now a.values.now a.work.now) _ _
     (general_fault_listed a.n (triplets a.rows.now a.cols.now a.vals.now)
-    (slices a.col-ptr.now a.row-idx.now a.values.now a.work.now))
+    (slices a.col_ptr.now a.row_idx.now a.values.now a.work.now))
     (answer_second c.triplet_sizes-sizes.ensures c.if-sizes-ne-ACCEPTED.false
     c.triplets_fault-fault.ensures) c.if-fault-ne-ACCEPTED.true
 
@@ -45,9 +45,9 @@ assemble-kept-requires c κs =
     let i = general_inside a.n a.rows.now a.cols.now
     (sym c.triplets_fault-fault.ensures ∙ c.if-fault-ne-ACCEPTED.false) in
     let e = pairs_are max_general a.n (triplets a.rows.now a.cols.now a.vals.now)
-    (slices a.col-ptr.now a.row-idx.now a.values.now a.work.now) (omega arith) z in
+    (slices a.col_ptr.now a.row_idx.now a.values.now a.work.now) (omega arith) z in
     ready max_general a.n (triplets a.rows.now a.cols.now a.vals.now)
-    (slices a.col-ptr.now a.row-idx.now a.values.now a.work.now) (omega arith) z (λ k h. (i k h).0) (λ k h. (i k (omega (arith, h, e))).1)
+    (slices a.col_ptr.now a.row_idx.now a.values.now a.work.now) (omega arith) z (λ k h. (i k h).0) (λ k h. (i k (omega (arith, h, e))).1)
 
 shape_of-col_ptr : tie.Need-shape_of-col_ptr
 shape_of-col_ptr c = c.assemble-kept.auto.col_ptr
@@ -66,9 +66,9 @@ unfolding general_assembly triplet_fault
 returns c =
     let a = c.args in
     accepted a.n (triplets a.rows.now a.cols.now a.vals.now)
-    (slices a.col-ptr.now a.row-idx.now a.values.now a.work.now) _ c.assemble-kept.result _
+    (slices a.col_ptr.now a.row_idx.now a.values.now a.work.now) _ c.assemble-kept.result _
     (general_fault_listed a.n (triplets a.rows.now a.cols.now a.vals.now)
-    (slices a.col-ptr.now a.row-idx.now a.values.now a.work.now))
+    (slices a.col_ptr.now a.row_idx.now a.values.now a.work.now))
     (sym c.if-fault-ne-ACCEPTED.false ∙ answer_second c.triplet_sizes-sizes.ensures
     c.if-sizes-ne-ACCEPTED.false c.triplets_fault-fault.ensures)
     c.assemble-kept.ensures

@@ -12,11 +12,11 @@ use Rattle.sparse.proofs.general.pattern_fault.Statement.{statement}
 use Rattle.sparse.proofs.general.pattern_fault.Tie as tie
 
 -- the slices have their lengths where the sizes pass
-fit : (c : tie.Else-sizes-ne-ACCEPTED) → let a = c.args in length a.col-ptr.now ≡ a.n + 1
+fit : (c : tie.Else-sizes-ne-ACCEPTED) → let a = c.args in length a.col_ptr.now ≡ a.n + 1
 fit c =
     let a = c.args in
-    let s : size_fault a.n max_general (length a.row-idx.now) a.lengths ≡ 0 = sym c.size_fault-sizes.ensures ∙ c.if-sizes-ne-ACCEPTED.false in
-    c.requires ((sizes_accepted a.n max_general (length a.row-idx.now) a.lengths).0 s).2
+    let s : size_fault a.n max_general (length a.row_idx.now) a.lengths ≡ 0 = sym c.size_fault-sizes.ensures ∙ c.if-sizes-ne-ACCEPTED.false in
+    c.requires ((sizes_accepted a.n max_general (length a.row_idx.now) a.lengths).0 s).2
 
 size_fault-sizes-requires : tie.Need-size_fault-sizes-requires
 size_fault-sizes-requires c κs = search rules
@@ -36,7 +36,7 @@ returns-then-pointers-ne-ACCEPTED c = answer_second c.size_fault-sizes.ensures c
 columns_fault-requires : tie.Need-columns_fault-requires
 columns_fault-requires c κs =
     let a = c.args in
-    (fit c.before.before, (pointers_accepted a.n a.col-ptr.now (length a.row-idx.now)).0 (sym c.pointer_fault-pointers.ensures ∙ c.if-pointers-ne-ACCEPTED.false))
+    (fit c.before.before, (pointers_accepted a.n a.col_ptr.now (length a.row_idx.now)).0 (sym c.pointer_fault-pointers.ensures ∙ c.if-pointers-ne-ACCEPTED.false))
 
 returns : tie.Need-returns
 unfolding pattern_fault

@@ -38,7 +38,7 @@ bounds-cols-k c = omega arith
 returns-then-cols-k : tie.Need-returns-then-cols-k invariant-loop-k decreases-loop-k
 returns-then-cols-k c =
     let a = c.args in let l = c.loop-k in
-    found _ _ l.k l.inv c.loop-k-test.true
+    found _ _ l.k l.invariant c.loop-k-test.true
     (rw (
       lt-ltb (get_or a.rows.now l.k 0) a.n c.if-rows-k.false,
       le-ltb (get_or a.cols.now l.k 0)
@@ -54,7 +54,7 @@ loop-k-smaller c = omega arith
 loop-k-preserved : tie.Need-loop-k-preserved invariant-loop-k decreases-loop-k
 loop-k-preserved c =
     let a = c.args in let l = c.loop-k in
-    pass _ _ l.k l.inv c.loop-k-test.true
+    pass _ _ l.k l.invariant c.loop-k-test.true
     (rw (lt-ltb (get_or a.rows.now l.k 0) a.n c.if-rows-k.false, lt-ltb (get_or a.cols.now l.k 0) a.n c.if-cols-k.false))
 
 returns : tie.Need-returns invariant-loop-k decreases-loop-k

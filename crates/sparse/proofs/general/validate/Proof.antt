@@ -18,13 +18,13 @@ frame_fault-frame-requires c κs = omega arith
 
 returns-then-frame-ne-ACCEPTED : tie.Need-returns-then-frame-ne-ACCEPTED
 unfolding general_fault
-returns-then-frame-ne-ACCEPTED c = let a = c.args in refuses (general_listed (matrix a.n a.col-ptr.now a.row-idx.now a.values.now))
+returns-then-frame-ne-ACCEPTED c = let a = c.args in refuses (general_listed (matrix a.n a.col_ptr.now a.row_idx.now a.values.now))
     (answer_first _ c.frame_fault-frame.ensures c.if-frame-ne-ACCEPTED.true) c.if-frame-ne-ACCEPTED.true
 
 columns_fault-requires : tie.Need-columns_fault-requires
 columns_fault-requires c κs =
     let a = c.args in
-    let s = (frame_accepted max_general (matrix a.n a.col-ptr.now a.row-idx.now a.values.now)).0
+    let s = (frame_accepted max_general (matrix a.n a.col_ptr.now a.row_idx.now a.values.now)).0
     (sym c.frame_fault-frame.ensures ∙ c.if-frame-ne-ACCEPTED.false) in
     (s.0.colptrs, s.1)
 
@@ -33,7 +33,7 @@ validity_of-requires c κs = search rules
 
 returns : tie.Need-returns
 unfolding general_fault
-returns c = let a = c.args in answers (general_listed (matrix a.n a.col-ptr.now a.row-idx.now a.values.now))
+returns c = let a = c.args in answers (general_listed (matrix a.n a.col_ptr.now a.row_idx.now a.values.now))
     c.validity_of.ensures
     (answer_second c.frame_fault-frame.ensures c.if-frame-ne-ACCEPTED.false c.columns_fault.ensures)
 

@@ -14,16 +14,16 @@ use Rattle.sparse.proofs.layout.frame_fault.Statement.{statement}
 use Rattle.sparse.proofs.layout.frame_fault.Tie as tie
 
 lengths_are : (c : tie.Joined-col_ptr-size) → let a = c.args in
-    c.if-col_ptr-size.lengths ≡ matrix_lengths a.n a.col-ptr.now a.row-idx.now a.values.now
+    c.if-col_ptr-size.lengths ≡ matrix_lengths a.n a.col_ptr.now a.row_idx.now a.values.now
 lengths_are c =
     let a = c.args in
     ⊎_elim (λ w. w.1 ∙ rw (eq-eqb _ _ w.0.taken)) (λ w. w.1 ∙ rw (ne_eqb _ _ w.0.left)) c.if-col_ptr-size.branch
 
 sizes-are : (c : tie.After-size_fault-sizes) → let a = c.args in
-    c.size_fault-sizes.result ≡ size_fault a.n a.limit (length a.row-idx.now) (matrix_lengths a.n a.col-ptr.now a.row-idx.now a.values.now)
+    c.size_fault-sizes.result ≡ size_fault a.n a.limit (length a.row_idx.now) (matrix_lengths a.n a.col_ptr.now a.row_idx.now a.values.now)
 sizes-are c =
     let a = c.args in
-    c.size_fault-sizes.ensures ∙ ap (size_fault a.n a.limit (length a.row-idx.now)) (lengths_are c.before)
+    c.size_fault-sizes.ensures ∙ ap (size_fault a.n a.limit (length a.row_idx.now)) (lengths_are c.before)
 
 overflow_add-size : tie.Need-overflow_add-size
 overflow_add-size c = omega arith
@@ -38,9 +38,9 @@ returns-then-sizes-ne-ACCEPTED c = answer_first _ (sizes-are c.before) c.if-size
 pointer_fault-requires : tie.Need-pointer_fault-requires
 pointer_fault-requires c κs =
     let a = c.args in
-    let s = (sizes_accepted a.n a.limit (length a.row-idx.now) (matrix_lengths a.n a.col-ptr.now a.row-idx.now a.values.now)).0
+    let s = (sizes_accepted a.n a.limit (length a.row_idx.now) (matrix_lengths a.n a.col_ptr.now a.row_idx.now a.values.now)).0
     (sym (sizes-are c.before) ∙ c.if-sizes-ne-ACCEPTED.false) in
-    eqb-true (length a.col-ptr.now) (a.n + 1) (both (eqb (length a.col-ptr.now) (a.n + 1)) _ s.2).0
+    eqb-true (length a.col_ptr.now) (a.n + 1) (both (eqb (length a.col_ptr.now) (a.n + 1)) _ s.2).0
 
 returns : tie.Need-returns
 unfolding frame_fault

@@ -23,7 +23,7 @@ returns-then-col_ptr-n c = let a = c.args in
     rw (
       eq-eqb a.cols a.count c.if-cols-count.false,
       eq-eqb a.vals a.count c.if-vals-count.false,
-      ne_eqb a.col-ptr (a.n + 1)
+      ne_eqb a.col_ptr (a.n + 1)
           c.if-col_ptr-n.true,
     )
 
@@ -34,8 +34,8 @@ returns-then-row_idx-count c = let a = c.args in
       eq-eqb a.cols a.count c.if-cols-count.false,
       eq-eqb a.vals a.count
           c.if-vals-count.false,
-      eq-eqb a.col-ptr (a.n + 1) c.if-col_ptr-n.false,
-      ne_eqb a.row-idx a.count
+      eq-eqb a.col_ptr (a.n + 1) c.if-col_ptr-n.false,
+      ne_eqb a.row_idx a.count
           c.if-row_idx-count.true,
     )
 
@@ -46,8 +46,8 @@ returns-then-values-count c = let a = c.args in
       eq-eqb a.cols a.count c.if-cols-count.false,
       eq-eqb a.vals a.count
           c.if-vals-count.false,
-      eq-eqb a.col-ptr (a.n + 1) c.if-col_ptr-n.false,
-      eq-eqb a.row-idx
+      eq-eqb a.col_ptr (a.n + 1) c.if-col_ptr-n.false,
+      eq-eqb a.row_idx
           a.count c.if-row_idx-count.false,
       ne_eqb a.values a.count c.if-values-count.true,
     )
@@ -68,8 +68,8 @@ returns c = let a = c.args in
       eq-eqb a.cols a.count c.if-cols-count.false,
       eq-eqb a.vals a.count
           c.if-vals-count.false,
-      eq-eqb a.col-ptr (a.n + 1) c.if-col_ptr-n.false,
-      eq-eqb a.row-idx
+      eq-eqb a.col_ptr (a.n + 1) c.if-col_ptr-n.false,
+      eq-eqb a.row_idx
           a.count c.if-row_idx-count.false,
       eq-eqb a.values a.count c.if-values-count.false,
     )

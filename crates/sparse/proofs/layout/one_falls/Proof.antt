@@ -30,7 +30,7 @@ falls-here col_ptr j = rw (add-one j) (go (ltb (get_or col_ptr (suc j) 0) (get_o
     go false e = rw (le-leb _ _ (ltb-false _ _ e)) refl
 
 loop-j-init : tie.Need-loop-j-init invariant-loop-j decreases-loop-j
-loop-j-init c = from_zero (fall_at c.args.col-ptr.now) c.args.n
+loop-j-init c = from_zero (fall_at c.args.col_ptr.now) c.args.n
 
 overflow_add-fell : tie.Need-overflow_add-fell invariant-loop-j decreases-loop-j
 overflow_add-fell c = omega arith
@@ -57,13 +57,13 @@ loop-j-preserved : tie.Need-loop-j-preserved invariant-loop-j decreases-loop-j
 loop-j-preserved c =
     let at = c.loop-j in
     let a = c.args in
-    gather _ _ (fall_at a.col-ptr.now) a.n at.j at.fell _ (omega arith) c.loop-j-test.true
-    (falls-here a.col-ptr.now at.j) at.invariant
+    gather _ _ (fall_at a.col_ptr.now) a.n at.j at.fell _ (omega arith) c.loop-j-test.true
+    (falls-here a.col_ptr.now at.j) at.invariant
 
 returns : tie.Need-returns invariant-loop-j decreases-loop-j
 returns c =
     let a = c.args in
-    gathered _ _ (fall_at a.col-ptr.now) a.n c.loop-j.j c.loop-j.fell c.loop-j-test.false c.loop-j.invariant
+    gathered _ _ (fall_at a.col_ptr.now) a.n c.loop-j.j c.loop-j.fell c.loop-j-test.false c.loop-j.invariant
 
 pub one_falls_spec : {M : Type 1} → statement M
 one_falls_spec =

@@ -17,7 +17,7 @@ unfolding pointer_fault
 ends-right n col_ptr count first last = rw (eq-eqb (get_or col_ptr 0 0) 0 first, eq-eqb (get_or col_ptr n 0) count last)
 
 tested : (c : tie.After-one_falls) → let a = c.args in
-    pointer_fault a.n a.col-ptr.now a.count ≡ first_of a.n (fall_at a.col-ptr.now) 0
+    pointer_fault a.n a.col_ptr.now a.count ≡ first_of a.n (fall_at a.col_ptr.now) 0
 tested c = ends-right _ _ _ c.if-col_ptr-ne0.false c.if-col_ptr-n.false
 
 bounds-col_ptr-0 : tie.Need-bounds-col_ptr-0
@@ -25,7 +25,7 @@ bounds-col_ptr-0 c = omega arith
 
 returns-then-col_ptr-ne0 : tie.Need-returns-then-col_ptr-ne0
 unfolding pointer_fault
-returns-then-col_ptr-ne0 c = rw (ne_eqb (get_or c.args.col-ptr.now 0 0) 0 c.if-col_ptr-ne0.true)
+returns-then-col_ptr-ne0 c = rw (ne_eqb (get_or c.args.col_ptr.now 0 0) 0 c.if-col_ptr-ne0.true)
 
 offset_bounds-col_ptr-n : tie.Need-offset_bounds-col_ptr-n
 offset_bounds-col_ptr-n c = omega arith
@@ -40,7 +40,7 @@ returns-then-col_ptr-n : tie.Need-returns-then-col_ptr-n
 unfolding pointer_fault
 returns-then-col_ptr-n c =
     let a = c.args in
-    rw (eq-eqb (get_or a.col-ptr.now 0 0) 0 c.if-col_ptr-ne0.false, ne_eqb (get_or a.col-ptr.now a.n 0) a.count c.if-col_ptr-n.true)
+    rw (eq-eqb (get_or a.col_ptr.now 0 0) 0 c.if-col_ptr-ne0.false, ne_eqb (get_or a.col_ptr.now a.n 0) a.count c.if-col_ptr-n.true)
 
 one_falls-requires : tie.Need-one_falls-requires
 one_falls-requires c κs = c.requires

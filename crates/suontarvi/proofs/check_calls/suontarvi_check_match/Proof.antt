@@ -17,10 +17,10 @@ enum_known-verdict : tie.Need-enum_known-verdict
 enum_known-verdict c = search rules
 
 returns-in-Accepted : tie.Need-returns-in-Accepted
-returns-in-Accepted c = check_number _ _ c.check_match-verdict.ensures (ap number_of c.enum_told-1.given.1)
+returns-in-Accepted c = check_number _ _ c.check_match-verdict.ensures (ap number_of c.in-Accepted.is)
 
 returns-in-Refused : tie.Need-returns-in-Refused
-returns-in-Refused c = check_number _ _ c.check_match-verdict.ensures (ap number_of c.verdict-1.given.1)
+returns-in-Refused c = check_number _ _ c.check_match-verdict.ensures (ap number_of c.in-Refused.is)
 
 pub suontarvi_check_match_spec : {M : Type 1} → statement M
 suontarvi_check_match_spec =

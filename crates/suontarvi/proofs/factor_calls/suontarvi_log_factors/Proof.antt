@@ -39,8 +39,8 @@ shape_of-unmatched-in-Applied : tie.Need-shape_of-unmatched-in-Applied
 shape_of-unmatched-in-Applied c = search rules
 
 returns-in-Applied : tie.Need-returns-in-Applied
-returns-in-Applied c = with_number _ _ _ _ _ (applied _ _ _ _ _ c.if-unmatched-ne1.left
-    c.log_factors-answer.ensures.outcome c.enum_told-1.given.1)
+returns-in-Applied c = with_number _ _ _ _ _ (applied _ _ _ _ _ c.if-unmatched-ne1.false
+    c.log_factors-answer.ensures.outcome c.in-Applied.is)
 
 shape_of-factors-in-PartialSingular : tie.Need-shape_of-factors-in-PartialSingular
 shape_of-factors-in-PartialSingular c = search rules
@@ -52,8 +52,8 @@ shape_of-unmatched-in-PartialSingular : tie.Need-shape_of-unmatched-in-PartialSi
 shape_of-unmatched-in-PartialSingular c = search rules
 
 returns-in-PartialSingular : tie.Need-returns-in-PartialSingular
-returns-in-PartialSingular c = with_number _ _ _ _ _ (partial _ _ _ _ _ c.if-unmatched-ne1.left c.log_factors-answer.ensures.outcome
-    c.answer-1.given.1)
+returns-in-PartialSingular c = with_number _ _ _ _ _ (partial _ _ _ _ _ c.if-unmatched-ne1.false c.log_factors-answer.ensures.outcome
+    c.in-PartialSingular.is)
 
 shape_of-factors-in-Refused : tie.Need-shape_of-factors-in-Refused
 shape_of-factors-in-Refused c = search rules
@@ -62,8 +62,8 @@ shape_of-work-in-Refused : tie.Need-shape_of-work-in-Refused
 shape_of-work-in-Refused c = search rules
 
 returns-in-Refused : tie.Need-returns-in-Refused
-returns-in-Refused c = with_number _ _ _ _ _ (refused _ _ _ _ _ c.if-unmatched-ne1.left c.log_factors-answer.ensures.outcome
-    c.answer-in-Refused-1.given.1)
+returns-in-Refused c = with_number _ _ _ _ _ (refused _ _ _ _ _ c.if-unmatched-ne1.false c.log_factors-answer.ensures.outcome
+    c.in-Refused.is)
 
 pub suontarvi_log_factors_spec : {M : Type 1} → statement M
 suontarvi_log_factors_spec =

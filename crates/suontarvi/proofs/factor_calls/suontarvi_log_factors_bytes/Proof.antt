@@ -30,9 +30,7 @@ shape_of-unmatched : tie.Need-shape_of-unmatched
 shape_of-unmatched c = search rules
 
 returns : tie.Need-returns
-returns c = factors_number _ _ _ _ _ _ _ _ (factors_result _ _ _ _ _ _ _ _ (size-fault-of-read-factors
-    c.before.before.before.before).size-fault.ensures (Else1-of-read-factors
-    c.before.before.before.before).if1.left c.read_factors.ensures)
+returns c = factors_number _ _ _ _ _ _ _ _ (factors_result _ _ _ _ _ _ _ _ c.size_fault-sizes.ensures c.if-sizes-ne-ACCEPTED.false c.read_factors.ensures)
 
 pub suontarvi_log_factors_bytes_spec : {M : Type 1} → statement M
 suontarvi_log_factors_bytes_spec =

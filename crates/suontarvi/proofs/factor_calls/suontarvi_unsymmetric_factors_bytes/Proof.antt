@@ -18,8 +18,8 @@ returns-then-sizes-ne-ACCEPTED c = sides_number _ _ _ _ _ _ (sides_refused _ _ _
 read_sides-requires : tie.Need-read_sides-requires
 read_sides-requires c κs =
     let args = c.args in
-    let s = sides_sized args.n args.u.now args.v.now args.cmax.now args.row-factors.now
-    args.column-factors.now c.size_fault-sizes.ensures c.if-sizes-ne-ACCEPTED.false in
+    let s = sides_sized args.n args.u.now args.v.now args.cmax.now args.row_factors.now
+    args.column_factors.now c.size_fault-sizes.ensures c.if-sizes-ne-ACCEPTED.false in
     (s.0, (s.1, s.2))
 
 shape_of-row_factors : tie.Need-shape_of-row_factors
@@ -30,7 +30,7 @@ shape_of-column_factors c = search rules
 
 returns : tie.Need-returns
 returns c = sides_number _ _ _ _ _ _ (sides_result _ _ _ _ _ _ c.size_fault-sizes.ensures
-    c.if-sizes-ne-ACCEPTED.left c.read_sides.ensures)
+    c.if-sizes-ne-ACCEPTED.false c.read_sides.ensures)
 
 pub suontarvi_unsymmetric_factors_bytes_spec : {M : Type 1} → statement M
 suontarvi_unsymmetric_factors_bytes_spec =

@@ -20,13 +20,13 @@ shape_of-gap-in-Found : tie.Need-shape_of-gap-in-Found
 shape_of-gap-in-Found c = search rules
 
 returns-in-Found : tie.Need-returns-in-Found
-returns-in-Found c = gap_number _ _ _ _ c.match_gap-found.ensures (ap number_of c.enum_told-1.given.1)
+returns-in-Found c = gap_number _ _ _ _ c.match_gap-found.ensures (ap number_of c.in-Found.is)
 
 shape_of-gap-in-Refused : tie.Need-shape_of-gap-in-Refused
 shape_of-gap-in-Refused c = search rules
 
 returns-in-Refused : tie.Need-returns-in-Refused
-returns-in-Refused c = gap_number _ _ _ _ c.match_gap-found.ensures (ap number_of c.found-1.given.1)
+returns-in-Refused c = gap_number _ _ _ _ c.match_gap-found.ensures (ap number_of c.in-Refused.is)
 
 pub suontarvi_match_gap_spec : {M : Type 1} → statement M
 suontarvi_match_gap_spec =

@@ -33,7 +33,7 @@ shape_of-work-in-Kept c = search rules
 returns-in-Kept : tie.Need-returns-in-Kept
 returns-in-Kept c =
     let e = c.build_general_graph-answer.ensures in
-    record { graph = graph_number e.outcome c.enum_told-1.given.1; number = in_list graph_numbers e.number c.enum_told-1.given.1 }
+    record { graph = graph_number e.outcome c.in-Kept.is; number = in_list graph_numbers e.number c.in-Kept.is }
 
 shape_of-graph_ptr-in-Refused : tie.Need-shape_of-graph_ptr-in-Refused
 shape_of-graph_ptr-in-Refused c = search rules
@@ -53,7 +53,7 @@ shape_of-work-in-Refused c = search rules
 returns-in-Refused : tie.Need-returns-in-Refused
 returns-in-Refused c =
     let e = c.build_general_graph-answer.ensures in
-    record { graph = graph_number e.outcome c.answer-1.given.1; number = in_list graph_numbers e.number c.answer-1.given.1 }
+    record { graph = graph_number e.outcome c.in-Refused.is; number = in_list graph_numbers e.number c.in-Refused.is }
 
 pub suontarvi_general_graph_spec : {M : Type 1} → statement M
 suontarvi_general_graph_spec =

@@ -27,7 +27,7 @@ shape_of-matched-in-Accepted c = search rules
 
 returns-in-Accepted : tie.Need-returns-in-Accepted
 returns-in-Accepted c = largest_number _ _ _ c.check_largest-verdict.ensures
-    (ap number_of c.enum_told-1.given.1)
+    (ap number_of c.in-Accepted.is)
 
 shape_of-columns-in-Refused : tie.Need-shape_of-columns-in-Refused
 shape_of-columns-in-Refused c = search rules
@@ -40,7 +40,7 @@ shape_of-matched-in-Refused c = search rules
 
 returns-in-Refused : tie.Need-returns-in-Refused
 returns-in-Refused c = largest_number _ _ _ c.check_largest-verdict.ensures
-    (ap number_of c.verdict-1.given.1)
+    (ap number_of c.in-Refused.is)
 
 pub suontarvi_check_largest_spec : {M : Type 1} → statement M
 suontarvi_check_largest_spec =

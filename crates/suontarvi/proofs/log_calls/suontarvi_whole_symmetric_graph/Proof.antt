@@ -34,9 +34,9 @@ returns-in-Kept : tie.Need-returns-in-Kept
 returns-in-Kept c =
     let e = c.whole_symmetric_graph-answer.ensures in
     record {
-      graph = graph_number e.outcome c.enum_told-1.given.1;
-      optimal = by_number e.optimal c.enum_told-1.given.1;
-      number = in_list whole_symmetric_numbers e.number c.enum_told-1.given.1;
+      graph = graph_number e.outcome c.in-Kept.is;
+      optimal = by_number e.optimal c.in-Kept.is;
+      number = in_list whole_symmetric_numbers e.number c.in-Kept.is;
     }
 
 shape_of-graph_ptr-in-Refused : tie.Need-shape_of-graph_ptr-in-Refused
@@ -58,9 +58,9 @@ returns-in-Refused : tie.Need-returns-in-Refused
 returns-in-Refused c =
     let e = c.whole_symmetric_graph-answer.ensures in
     record {
-      graph = graph_number e.outcome c.answer-1.given.1;
-      optimal = by_number e.optimal c.answer-1.given.1;
-      number = in_list whole_symmetric_numbers e.number c.answer-1.given.1;
+      graph = graph_number e.outcome c.in-Refused.is;
+      optimal = by_number e.optimal c.in-Refused.is;
+      number = in_list whole_symmetric_numbers e.number c.in-Refused.is;
     }
 
 pub suontarvi_whole_symmetric_graph_spec : {M : Type 1} → statement M

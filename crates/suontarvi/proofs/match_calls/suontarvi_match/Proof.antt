@@ -44,7 +44,7 @@ shape_of-answer c = search rules
 returns-in-Matched : tie.Need-returns-in-Matched
 returns-in-Matched c =
     rw c.put_counts.ensures
-    (matched _ _ _ c.if-answer-ne-ANSWER_LENGTH.left c.hungarian_match-outcome.ensures c.outcome-1.given.1)
+    (matched _ _ _ c.if-answer-ne-ANSWER_LENGTH.false c.hungarian_match-outcome.ensures c.in-Matched.is)
 
 shape_of-perm-in-Refused : tie.Need-shape_of-perm-in-Refused
 shape_of-perm-in-Refused c = search rules
@@ -63,7 +63,7 @@ shape_of-fwork-in-Refused c = search rules
 
 returns-in-Refused : tie.Need-returns-in-Refused
 returns-in-Refused c =
-    refused _ _ _ c.if-answer-ne-ANSWER_LENGTH.left c.hungarian_match-outcome.ensures c.outcome-in-Refused-1.given.1
+    refused _ _ _ c.if-answer-ne-ANSWER_LENGTH.false c.hungarian_match-outcome.ensures c.in-Refused.is
 
 pub suontarvi_match_spec : {M : Type 1} → statement M
 suontarvi_match_spec =

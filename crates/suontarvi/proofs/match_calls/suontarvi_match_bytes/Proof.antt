@@ -29,7 +29,7 @@ shape_of-answer : tie.Need-shape_of-answer
 shape_of-answer c = search rules
 
 returns : tie.Need-returns
-returns c = match_number_lem _ _ (sized _ _ c.size_fault-sizes.ensures c.if-sizes-ne-ACCEPTED.left
+returns c = match_number_lem _ _ (sized _ _ c.size_fault-sizes.ensures c.if-sizes-ne-ACCEPTED.false
     c.read_and_match.ensures)
 
 pub suontarvi_match_bytes_spec : {M : Type 1} → statement M

@@ -28,7 +28,7 @@ shape_of-work-in-Kept : tie.Need-shape_of-work-in-Kept
 shape_of-work-in-Kept c = search rules
 
 returns-in-Kept : tie.Need-returns-in-Kept
-returns-in-Kept c = let e = c.from_triplets-answer.ensures in case_number general_triplet_numbers e.outcome e.number c.enum_told-1.given.1
+returns-in-Kept c = let e = c.from_triplets-answer.ensures in case_number general_triplet_numbers e.0 e.1.1 c.in-Kept.is
 
 shape_of-col_ptr-in-Refused : tie.Need-shape_of-col_ptr-in-Refused
 shape_of-col_ptr-in-Refused c = search rules
@@ -43,8 +43,8 @@ shape_of-work-in-Refused : tie.Need-shape_of-work-in-Refused
 shape_of-work-in-Refused c = search rules
 
 returns-in-Refused : tie.Need-returns-in-Refused
-returns-in-Refused c = let e = c.from_triplets-answer.ensures in case_number general_triplet_numbers e.outcome e.number
-    c.answer-1.given.1
+returns-in-Refused c = let e = c.from_triplets-answer.ensures in case_number general_triplet_numbers e.0 e.1.1
+    c.in-Refused.is
 
 pub suontarvi_triplets_general_spec : {M : Type 1} → statement M
 suontarvi_triplets_general_spec =

@@ -16,7 +16,7 @@ number_of-requires c κs = search rules
 returns : tie.Need-returns
 returns c =
     let e = c.validate.ensures in
-    record { answer = number_told c.number_of.ensures e.answer; number = subst (OneOf symmetric_numbers) (sym c.number_of.ensures) e.number }
+    record { answer = number_told c.number_of.ensures e.0; number = subst (OneOf symmetric_numbers) (sym c.number_of.ensures) e.1 }
 
 pub suontarvi_validate_symmetric_spec : {M : Type 1} → statement M
 suontarvi_validate_symmetric_spec =

@@ -62,7 +62,7 @@ returns-in-Read c =
     let E = c.read_canonical_sheet-outcome.ensures in
     as_canonical _ _ _ (was_read canonical_sheet_numbers (Holds a.sheet.now) (λ (n : ℕ) (m : Match ℕ). sheet_bytes n m ≡ a.sheet.now) _ _ _ _
     c.if-answer-ne2.false
-    E.outcome E.number E.holds E.again c.outcome-1.given.1)
+    E.outcome E.number E.holds E.again c.in-Read.is)
 
 shape_of-perm-in-Refused : tie.Need-shape_of-perm-in-Refused
 shape_of-perm-in-Refused c = search rules
@@ -82,7 +82,7 @@ returns-in-Refused c =
     let E = c.read_canonical_sheet-outcome.ensures in
     as_canonical _ _ _ (read_refused canonical_sheet_numbers (Holds a.sheet.now) (λ (n : ℕ) (m : Match ℕ). sheet_bytes n m ≡ a.sheet.now) _ _ _ _
     c.if-answer-ne2.false
-    E.outcome E.number c.outcome-in-Refused-1.given.1)
+    E.outcome E.number c.in-Refused.is)
 
 pub suontarvi_read_canonical_sheet_spec : {M : Type 1} → statement M
 suontarvi_read_canonical_sheet_spec =

@@ -54,7 +54,7 @@ returns-in-Read c =
     let a = c.args in
     let E = c.read_sheet-outcome.ensures in
     as_read _ _ _ (was_read read_sheet_numbers (Holds a.sheet.now) Rewritten _ _ _ _ c.if-answer-ne2.false
-    E.outcome E.number E.holds E.rewritten c.outcome-1.given.1)
+    E.outcome E.number E.holds E.rewritten c.in-Read.is)
 
 shape_of-perm-in-Refused : tie.Need-shape_of-perm-in-Refused
 shape_of-perm-in-Refused c = search rules
@@ -73,7 +73,7 @@ returns-in-Refused c =
     let a = c.args in
     let E = c.read_sheet-outcome.ensures in
     as_read _ _ _ (read_refused read_sheet_numbers (Holds a.sheet.now) Rewritten _ _ _ _ c.if-answer-ne2.false
-    E.outcome E.number c.outcome-in-Refused-1.given.1)
+    E.outcome E.number c.in-Refused.is)
 
 pub suontarvi_read_sheet_spec : {M : Type 1} → statement M
 suontarvi_read_sheet_spec =

@@ -32,7 +32,7 @@ shape_of-used c = search rules
 returns-in-Used : tie.Need-returns-in-Used
 returns-in-Used c =
     let E = c.write_sheet-answer.ensures in
-    used _ _ _ _ _ c.if-used-ne1.false E c.answer-1.given.1
+    used _ _ _ _ _ c.if-used-ne1.false E c.in-Used.is
 
 shape_of-sheet-in-Refused : tie.Need-shape_of-sheet-in-Refused
 shape_of-sheet-in-Refused c = search rules
@@ -40,7 +40,7 @@ shape_of-sheet-in-Refused c = search rules
 returns-in-Refused : tie.Need-returns-in-Refused
 returns-in-Refused c =
     let E = c.write_sheet-answer.ensures in
-    write_refused _ _ _ _ _ c.if-used-ne1.false E c.answer-in-Refused-1.given.1
+    write_refused _ _ _ _ _ c.if-used-ne1.false E c.in-Refused.is
 
 pub suontarvi_write_sheet_spec : {M : Type 1} → statement M
 suontarvi_write_sheet_spec =

@@ -1,4 +1,6 @@
 -- `banner::is_banner` meets its contract: each name that is found leaves the names behind it.
+use mathlib.Core.Path.{ap}
+use mathlib.Core.Bool.{not}
 use Rattle.std.proofs.Common.{rules}
 use mathlib.Core.Path.{sym, ◌∙◌}
 use mathlib.Core.List.{List, [], ◌∷◌}
@@ -15,7 +17,7 @@ begins_percent-requires : tie.Need-begins_percent-requires
 begins_percent-requires c κs = search rules
 
 returns-then-not-begins_percent : tie.Need-returns-then-not-begins_percent
-returns-then-not-begins_percent c = no_percent _ _ c.args.line.now (sym c.begins_percent.ensures ∙ not-true _ c.if-not-begins_percent.true)
+returns-then-not-begins_percent c = no_percent _ _ c.args.line.now (sym c.begins_percent.ensures ∙ not-true _ c.if-not-begins_percent.true  )
 
 next_is-requires : tie.Need-next_is-requires
 next_is-requires c κs = search rules
@@ -34,16 +36,16 @@ abbrev symmetry_at : tie.Start → List ℕ
 symmetry_at c = c.args.symmetry.now
 
 begun : (c : tie.After-next_is-arg-1) → At c.before.before.before.before.before.before (banner_words (field_at c.before.before.before.before.before.before) (symmetry_at c.before.before.before.before.before.before)) 0
-begun c = percent _ _ c.args.line.now (sym c.begins_percent.ensures ∙ not-false _ c.if-not-begins_percent.false)
+begun c = percent _ _ c.args.line.now (sym c.begins_percent.ensures ∙ not-false _ c.if-not-begins_percent.false  )
 
 returns-in_default : tie.Need-returns-in_default
 returns-in_default c = misnamed _ _ c.args.line.now (omega arith) (begun c.before.before.before.before)
-    (sym c.next_is.ensures ∙ c.enum_told-1.given.1)
+    (sym c.next_is.ensures ∙ c.in_default.is)
 
 past_first : (c : tie.In-Past) → 
-    At c.before.before.before.before.before.before.before.before.before.before.before (codes "matrix" ∷ codes "coordinate" ∷ field_at c.before.before.before.before.before.before.before.before.before.before.before ∷ symmetry_at c.before.before.before.before.before.before.before.before.before.before.before ∷ []) c.first-1.given.0.0
+    At c.before.before.before.before.before.before.before.before.before.before.before (codes "matrix" ∷ codes "coordinate" ∷ field_at c.before.before.before.before.before.before.before.before.before.before.before ∷ symmetry_at c.before.before.before.before.before.before.before.before.before.before.before ∷ []) c.in-Past.first
 past_first c = named _ _ c.args.line.now (omega arith) (begun c.before.before.before.before.before)
-    (sym c.next_is.ensures ∙ c.first-1.given.1)
+    (sym c.next_is.ensures ∙ c.in-Past.is)
 
 next_is-requires-2 : tie.Need-next_is-requires-2
 next_is-requires-2 c κs = (past_first c.before.before).within
@@ -56,12 +58,12 @@ enum_told-in_default-next_is c = search rules
 
 returns-in_default-next_is : tie.Need-returns-in_default-next_is
 returns-in_default-next_is c = misnamed _ _ c.args.line.now (omega arith) (past_first c.before.before.before.before.before)
-    (sym c.next_is-2.ensures ∙ c.enum_told-in_default-next_is-1.given.1)
+    (sym c.next_is-2.ensures ∙ c.in_default-next_is.is)
 
 past-second : (c : tie.In-Past-next_is) → 
-    At c.before.before.before.before.before.before.before.before.before.before.before.before.before.before.before.before.before (codes "coordinate" ∷ field_at c.before.before.before.before.before.before.before.before.before.before.before.before.before.before.before.before.before ∷ symmetry_at c.before.before.before.before.before.before.before.before.before.before.before.before.before.before.before.before.before ∷ []) c.second-1.given.0.0
+    At c.before.before.before.before.before.before.before.before.before.before.before.before.before.before.before.before.before (codes "coordinate" ∷ field_at c.before.before.before.before.before.before.before.before.before.before.before.before.before.before.before.before.before ∷ symmetry_at c.before.before.before.before.before.before.before.before.before.before.before.before.before.before.before.before.before ∷ []) c.in-Past-next_is.second
 past-second c = named _ _ c.args.line.now (omega arith) (past_first c.before.before.before.before.before.before)
-    (sym c.next_is-2.ensures ∙ c.second-1.given.1)
+    (sym c.next_is-2.ensures ∙ c.in-Past-next_is.is)
 
 next_is-requires-3 : tie.Need-next_is-requires-3
 next_is-requires-3 c κs = (past-second c.before.before).within
@@ -74,11 +76,11 @@ enum_told-in_default-next_is-2 c = search rules
 
 returns-in_default-next_is-2 : tie.Need-returns-in_default-next_is-2
 returns-in_default-next_is-2 c = misnamed _ _ c.args.line.now (omega arith) (past-second c.before.before.before.before.before)
-    (sym c.next_is-3.ensures ∙ c.enum_told-in_default-next_is-2-1.given.1)
+    (sym c.next_is-3.ensures ∙ c.in_default-next_is-2.is)
 
-past-third : (c : tie.In-Past-next_is-2) → At c.before.before.before.before.before.before.before.before.before.before.before.before.before.before.before.before.before.before.before.before.before.before.before (field_at c.before.before.before.before.before.before.before.before.before.before.before.before.before.before.before.before.before.before.before.before.before.before.before ∷ symmetry_at c.before.before.before.before.before.before.before.before.before.before.before.before.before.before.before.before.before.before.before.before.before.before.before ∷ []) c.third-1.given.0.0
+past-third : (c : tie.In-Past-next_is-2) → At c.before.before.before.before.before.before.before.before.before.before.before.before.before.before.before.before.before.before.before.before.before.before.before (field_at c.before.before.before.before.before.before.before.before.before.before.before.before.before.before.before.before.before.before.before.before.before.before.before ∷ symmetry_at c.before.before.before.before.before.before.before.before.before.before.before.before.before.before.before.before.before.before.before.before.before.before.before ∷ []) c.in-Past-next_is-2.third
 past-third c = named _ _ c.args.line.now (omega arith) (past-second c.before.before.before.before.before.before)
-    (sym c.next_is-3.ensures ∙ c.third-1.given.1)
+    (sym c.next_is-3.ensures ∙ c.in-Past-next_is-2.is)
 
 next_is-requires-4 : tie.Need-next_is-requires-4
 next_is-requires-4 c κs = (past-third c).within
@@ -90,12 +92,12 @@ enum_told-in_default-next_is-3 : tie.Need-enum_told-in_default-next_is-3
 enum_told-in_default-next_is-3 c = search rules
 
 returns-in_default-next_is-3 : tie.Need-returns-in_default-next_is-3
-returns-in_default-next_is-3 c = misnamed _ _ c.args.line.now c.requires.fact_1 (past-third c.before.before.before)
-    (sym c.next_is-4.ensures ∙ c.enum_told-in_default-next_is-3-1.given.1)
+returns-in_default-next_is-3 c = misnamed _ _ c.args.line.now c.requires.0 (past-third c.before.before.before)
+    (sym c.next_is-4.ensures ∙ c.in_default-next_is-3.is)
 
-past-fourth : (c : tie.In-Past-next_is-3) → At c.before.before.before.before.before.before.before.before.before.before.before.before.before.before.before.before.before.before.before.before.before.before.before.before.before.before.before (symmetry_at c.before.before.before.before.before.before.before.before.before.before.before.before.before.before.before.before.before.before.before.before.before.before.before.before.before.before.before ∷ []) c.fourth-1.given.0.0
-past-fourth c = named _ _ c.args.line.now c.requires.fact_1 (past-third c.before.before.before.before)
-    (sym c.next_is-4.ensures ∙ c.fourth-1.given.1)
+past-fourth : (c : tie.In-Past-next_is-3) → At c.before.before.before.before.before.before.before.before.before.before.before.before.before.before.before.before.before.before.before.before.before.before.before.before.before.before.before (symmetry_at c.before.before.before.before.before.before.before.before.before.before.before.before.before.before.before.before.before.before.before.before.before.before.before.before.before.before.before ∷ []) c.in-Past-next_is-3.fourth
+past-fourth c = named _ _ c.args.line.now c.requires.0 (past-third c.before.before.before.before)
+    (sym c.next_is-4.ensures ∙ c.in-Past-next_is-3.is)
 
 next_is-requires-5 : tie.Need-next_is-requires-5
 next_is-requires-5 c κs = (past-fourth c).within
@@ -107,12 +109,12 @@ enum_told-in_default-next_is-4 : tie.Need-enum_told-in_default-next_is-4
 enum_told-in_default-next_is-4 c = search rules
 
 returns-in_default-next_is-4 : tie.Need-returns-in_default-next_is-4
-returns-in_default-next_is-4 c = misnamed _ _ c.args.line.now c.requires.fact_2 (past-fourth c.before.before.before)
-    (sym c.next_is-5.ensures ∙ c.enum_told-in_default-next_is-4-1.given.1)
+returns-in_default-next_is-4 c = misnamed _ _ c.args.line.now c.requires.1 (past-fourth c.before.before.before)
+    (sym c.next_is-5.ensures ∙ c.in_default-next_is-4.is)
 
-past-fifth : (c : tie.In-Past-next_is-4) → At c.before.before.before.before.before.before.before.before.before.before.before.before.before.before.before.before.before.before.before.before.before.before.before.before.before.before.before.before.before.before.before [] c.fifth-1.given.0.0
-past-fifth c = named _ _ c.args.line.now c.requires.fact_2 (past-fourth c.before.before.before.before)
-    (sym c.next_is-5.ensures ∙ c.fifth-1.given.1)
+past-fifth : (c : tie.In-Past-next_is-4) → At c.before.before.before.before.before.before.before.before.before.before.before.before.before.before.before.before.before.before.before.before.before.before.before.before.before.before.before.before.before.before.before [] c.in-Past-next_is-4.fifth
+past-fifth c = named _ _ c.args.line.now c.requires.1 (past-fourth c.before.before.before.before)
+    (sym c.next_is-5.ensures ∙ c.in-Past-next_is-4.is)
 
 word_start-requires : tie.Need-word_start-requires
 word_start-requires c κs = (past-fifth c).within

@@ -5,8 +5,8 @@ use lib.ListN.{length, drop}
 use Rattle.text_matrix_market.specs.Banner.{same_word}
 use Rattle.text_matrix_market.proofs.Names.{same_length_lem, same_turn, same_differ, same_end}
 use native.Mathlib.Omega.{arith}
-use Rattle.text_matrix_market.proofs.banner.same_word_lem.Statement.{statement}
-use Rattle.text_matrix_market.proofs.banner.same_word_lem.Tie as tie
+use Rattle.text_matrix_market.proofs.banner.same_word.Statement.{statement}
+use Rattle.text_matrix_market.proofs.banner.same_word.Tie as tie
 
 abbrev invariant-loop-i : tie.invariant-loop-i
 invariant-loop-i word name i₀ i = (length word ≡ length name) × (i ≤ length word) × (same_word word name ≡ same_word (drop i word) (drop i name))

@@ -20,10 +20,10 @@ enum_told-1 c = search rules
 returns-in_default : tie.Need-returns-in_default
 returns-in_default c =
     let args = c.args in
-    no_first args.kind args.line.now (lost args.line.now 0 (sym c.next_number.ensures ∙ c.enum_told-1.given.1))
+    no_first args.kind args.line.now (lost args.line.now 0 (sym c.next_number.ensures ∙ c.in_default.is))
 
-first : (c : tie.In-Is) → Found number_read c.args.line.now 0 c.a-1.given.0.0 c.a-1.given.0.1.0
-first c = found c.args.line.now 0 (omega arith) (sym c.next_number.ensures ∙ c.a-1.given.1)
+first : (c : tie.In-Is) → Found number_read c.args.line.now 0 c.in-Is.a c.in-Is.past_a
+first c = found c.args.line.now 0 (omega arith) (sym c.next_number.ensures ∙ c.in-Is.is)
 
 next_number-requires-2 : tie.Need-next_number-requires-2
 next_number-requires-2 c κs = (first c).within
@@ -38,13 +38,13 @@ returns-in_default-next_number : tie.Need-returns-in_default-next_number
 returns-in_default-next_number c =
     let args = c.args in
     no_second args.kind args.line.now (first c.before.before.before)
-    (lost args.line.now c.a-1.given.0.1.0
-    (sym c.next_number-2.ensures ∙ c.enum_told-in_default-next_number-1.given.1))
+    (lost args.line.now c.in-Is.past_a
+    (sym c.next_number-2.ensures ∙ c.in_default-next_number.is))
 
 second : (c : tie.In-Is-next_number) → Found number_read c.args.line.now
-    c.a-1.given.0.1.0 c.b-1.given.0.0 c.b-1.given.0.1.0
-second c = found c.args.line.now c.a-1.given.0.1.0
-    (first c.before.before.before.before).within (sym c.next_number-2.ensures ∙ c.b-1.given.1)
+    c.in-Is.past_a c.in-Is-next_number.b c.in-Is-next_number.past_b
+second c = found c.args.line.now c.in-Is.past_a
+    (first c.before.before.before.before).within (sym c.next_number-2.ensures ∙ c.in-Is-next_number.is)
 
 next_weight-requires : tie.Need-next_weight-requires
 next_weight-requires c κs = (second c).within
@@ -60,25 +60,25 @@ returns-in_default-next_weight c =
     let args = c.args in
     no_third args.kind args.line.now (first c.before.before.before.before.before.before.before)
     (second c.before.before.before)
-    (sym c.next_weight.ensures ∙ c.enum_told-in_default-next_weight-1.given.1)
+    (sym c.next_weight.ensures ∙ c.in_default-next_weight.is)
 
 word_start-requires : tie.Need-word_start-requires
 word_start-requires c κs =
     let args = c.args in
-    weighed_within args.kind args.line.now c.b-1.given.0.1.0 (second c.before.before.before.before).within
-    (sym c.next_weight.ensures ∙ c.c-1.given.1)
+    weighed_within args.kind args.line.now c.in-Is-next_number.past_b (second c.before.before.before.before).within
+    (sym c.next_weight.ensures ∙ c.in-Is-next_weight.is)
 
 returns-then-word_start-line : tie.Need-returns-then-word_start-line
 returns-then-word_start-line c =
     let args = c.args in
     one_more args.line.now (first c.before.before.before.before.before.before.before.before.before.before) (second c.before.before.before.before.before.before) args.kind
-    (sym c.next_weight.ensures ∙ c.c-1.given.1) (omega arith)
+    (sym c.next_weight.ensures ∙ c.in-Is-next_weight.is) (omega arith)
 
 returns : tie.Need-returns
 returns c =
     let args = c.args in
     all_three args.line.now (first c.before.before.before.before.before.before.before.before.before.before) (second c.before.before.before.before.before.before) args.kind
-    (sym c.next_weight.ensures ∙ c.c-1.given.1) (omega arith)
+    (sym c.next_weight.ensures ∙ c.in-Is-next_weight.is) (omega arith)
 
 pub line_numbers_spec : {M : Type 1} → statement M
 line_numbers_spec =

@@ -60,7 +60,7 @@ enum_told-1 c = search rules
 returns-in-Is : tie.Need-returns-in-Is
 returns-in-Is c =
     let args = c.args in
-    ap (λ (x : Number). field_of x c.word_end-end.result) (sym c.found-1.given.1) ∙ ap₂ field_of
+    ap (λ (x : Number). field_of x c.word_end-end.result) (sym c.in-Is.is) ∙ ap₂ field_of
     (c.read_word-found.ensures ∙ ap (word_read args.signed)
     (found_word args.line.now args.from c.word_start-start.ensures c.word_end-end.ensures))
     (found_past args.line.now args.from c.word_start-start.ensures c.word_end-end.ensures)
@@ -68,7 +68,7 @@ returns-in-Is c =
 returns-in-Misshapen : tie.Need-returns-in-Misshapen
 returns-in-Misshapen c =
     let args = c.args in
-    ap (λ (x : Number). field_of x c.word_end-end.result) (sym c.enum_told-1.given.1) ∙ ap₂ field_of
+    ap (λ (x : Number). field_of x c.word_end-end.result) (sym c.in-Misshapen.is) ∙ ap₂ field_of
     (c.read_word-found.ensures ∙ ap (word_read args.signed) (found_word args.line.now args.from
     c.word_start-start.ensures c.word_end-end.ensures))
     (found_past args.line.now args.from c.word_start-start.ensures c.word_end-end.ensures)

@@ -23,15 +23,15 @@ enum_told-in-Pattern c = search rules
 
 returns-in-General : tie.Need-returns-in-General
 unfolding weight_field
-returns-in-General c = rw c.enum_told-1.given.1 c.next_number.ensures
+returns-in-General c = rw c.in-General.is c.next_number.ensures
 
 returns-in-Symmetric : tie.Need-returns-in-Symmetric
 unfolding weight_field
-returns-in-Symmetric c = rw c.enum_told-in-Symmetric-1.given.1 c.next_number-in-Symmetric.ensures
+returns-in-Symmetric c = rw c.in-Symmetric.is c.next_number-in-Symmetric.ensures
 
 returns-in-Pattern : tie.Need-returns-in-Pattern
 unfolding weight_field
-returns-in-Pattern c = rw c.enum_told-in-Pattern-1.given.1 refl
+returns-in-Pattern c = rw c.in-Pattern.is refl
 
 pub next_weight_spec : {M : Type 1} → statement M
 next_weight_spec =

@@ -18,16 +18,16 @@ enum_known-stage : tie.Need-enum_known-stage
 enum_known-stage c = search rules
 
 returns-in-Start : tie.Need-returns-in-Start
-returns-in-Start c = λ l. rw c.enum_told-1.given.1 refl
+returns-in-Start c = λ l. rw c.in-Start.is refl
 
 returns-in-Sizing : tie.Need-returns-in-Sizing
-returns-in-Sizing c = λ l. rw c.enum_told-in-Sizing-1.given.1 refl
+returns-in-Sizing c = λ l. rw c.in-Sizing.is refl
 
 returns-in-Entering : tie.Need-returns-in-Entering
-returns-in-Entering c = λ l. rw c.enum_told-in-Entering-1.given.1 refl
+returns-in-Entering c = λ l. rw c.in-Entering.is refl
 
 returns-in-Refused : tie.Need-returns-in-Refused
-returns-in-Refused c = λ l. rw c.stage-1.given.1 refl
+returns-in-Refused c = λ l. rw c.in-Refused.is refl
 
 pub after_long_line_spec : {M : Type 1} → statement M
 after_long_line_spec =

@@ -16,10 +16,10 @@ enum_told-1 : tie.Need-enum_told-1
 enum_told-1 c = search rules
 
 returns-in-Is : tie.Need-returns-in-Is
-returns-in-Is c = λ l. banner_there _ (sym c.read_banner-found.ensures ∙ c.found-1.given.1)
+returns-in-Is c = λ l. banner_there _ (sym c.read_banner-found.ensures ∙ c.in-Is.is)
 
 returns-in-Other : tie.Need-returns-in-Other
-returns-in-Other c = λ l. banner_lacks _ (sym c.read_banner-found.ensures ∙ c.enum_told-1.given.1)
+returns-in-Other c = λ l. banner_lacks _ (sym c.read_banner-found.ensures ∙ c.in-Other.is)
 
 pub banner_line_spec : {M : Type 1} → statement M
 banner_line_spec =

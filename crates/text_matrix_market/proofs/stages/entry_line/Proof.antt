@@ -51,11 +51,11 @@ overflow_add-result c = search rules
 
 returns-in-Misshapen : tie.Need-returns-in-Misshapen
 returns-in-Misshapen c = misshapen_left _ _ _ _ _ _ (sym c.is_blank_line.ensures ∙ c.if-is_blank_line.false)
-    c.if-read-count.false (sym c.read_entry-found.ensures ∙ c.enum_told-1.given.1)
+    c.if-read-count.false (sym c.read_entry-found.ensures ∙ c.in-Misshapen.is)
 
 returns-in-Upper : tie.Need-returns-in-Upper
 returns-in-Upper c = above_left _ _ _ _ _ _ (sym c.is_blank_line.ensures ∙ c.if-is_blank_line.false)
-    c.if-read-count.false (sym c.read_entry-found.ensures ∙ c.enum_told-in-Upper-1.given.1)
+    c.if-read-count.false (sym c.read_entry-found.ensures ∙ c.in-Upper.is)
 
 shape_of-rows : tie.Need-shape_of-rows
 shape_of-rows c = search rules
@@ -71,7 +71,7 @@ returns-in-Is c =
     let a = c.args in
     added_left a.kind a.n a.count a.read (lists a.rows.now a.columns.now a.weights.now) a.line.now
     (sym c.is_blank_line.ensures ∙ c.if-is_blank_line.false) c.if-read-count.false c.requires
-    (sym c.read_entry-found.ensures ∙ c.found-1.given.1)
+    (sym c.read_entry-found.ensures ∙ c.in-Is.is)
 
 pub entry_line_spec : {M : Type 1} → statement M
 entry_line_spec =

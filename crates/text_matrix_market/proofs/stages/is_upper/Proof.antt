@@ -15,13 +15,13 @@ enum_told-in-Pattern : tie.Need-enum_told-in-Pattern
 enum_told-in-Pattern c = search rules
 
 returns-in-General : tie.Need-returns-in-General
-returns-in-General c = rw c.enum_told-1.given.1 refl
+returns-in-General c = rw c.in-General.is refl
 
 returns-in-Symmetric : tie.Need-returns-in-Symmetric
-returns-in-Symmetric c = rw c.enum_told-in-Symmetric-1.given.1 refl
+returns-in-Symmetric c = rw c.in-Symmetric.is refl
 
 returns-in-Pattern : tie.Need-returns-in-Pattern
-returns-in-Pattern c = rw c.enum_told-in-Pattern-1.given.1 refl
+returns-in-Pattern c = rw c.in-Pattern.is refl
 
 pub is_upper_spec : {M : Type 1} → statement M
 is_upper_spec =

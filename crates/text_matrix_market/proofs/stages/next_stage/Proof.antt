@@ -29,16 +29,16 @@ enum_known-stage-in-Entering-1 c = search rules
 
 entry_line-requires : tie.Need-entry_line-requires
 entry_line-requires c κs =
-    rw c.stage-in-Entering-1.given.1 at c.requires
+    rw c.in-Entering.is at c.requires
 
 enum_known-stage-in-Refused-1 : tie.Need-enum_known-stage-in-Refused-1
 enum_known-stage-in-Refused-1 c = search rules
 
 returns-in-Start : tie.Need-returns-in-Start
-returns-in-Start c = rw c.enum_told-1.given.1 (start_left _ (omega arith) _ (c.banner_line.ensures _))
+returns-in-Start c = rw c.in-Start.is (start_left _ (omega arith) _ (c.banner_line.ensures _))
 
 returns-in-Sizing : tie.Need-returns-in-Sizing
-returns-in-Sizing c = rw c.stage-1.given.1 (above_size_left _ (omega arith) _ _ (c.size_line.ensures _))
+returns-in-Sizing c = rw c.in-Sizing.is (above_size_left _ (omega arith) _ _ (c.size_line.ensures _))
 
 shape_of-rows : tie.Need-shape_of-rows
 shape_of-rows c = search rules
@@ -50,10 +50,10 @@ shape_of-weights : tie.Need-shape_of-weights
 shape_of-weights c = search rules
 
 returns-in-Entering : tie.Need-returns-in-Entering
-returns-in-Entering c = rw c.stage-in-Entering-1.given.1 (short_left _ (omega arith) _ _ _ c.entry_line.ensures)
+returns-in-Entering c = rw c.in-Entering.is (short_left _ (omega arith) _ _ _ c.entry_line.ensures)
 
 returns-in-Refused : tie.Need-returns-in-Refused
-returns-in-Refused c = rw c.stage-in-Refused-1.given.1 (still_left _ (omega arith) _ _)
+returns-in-Refused c = rw c.in-Refused.is (still_left _ (omega arith) _ _)
 
 pub next_stage_spec : {M : Type 1} → statement M
 next_stage_spec =

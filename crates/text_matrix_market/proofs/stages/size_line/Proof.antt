@@ -33,19 +33,19 @@ returns-in_default : tie.Need-returns-in_default
 returns-in_default c = λ l. no_size _ c.args.line.now
     (sym c.is_blank_line.ensures ∙
     c.if-is_blank_line.false) (sym c.begins_percent.ensures ∙ c.if-begins_percent.false)
-    (sym c.line_numbers.ensures ∙ c.enum_told-1.given.1)
+    (sym c.line_numbers.ensures ∙ c.in_default.is)
 
 returns-then-m-n : tie.Need-returns-then-m-n
 returns-then-m-n c = λ l. not_square _ c.args.line.now
     (sym c.is_blank_line.ensures ∙ c.if-is_blank_line.false)
     (sym c.begins_percent.ensures ∙ c.if-begins_percent.false)
-    (sym c.line_numbers.ensures ∙ c.m-1.given.1) c.if-m-n.true
+    (sym c.line_numbers.ensures ∙ c.in-Three.is) c.if-m-n.true
 
 returns-then-n-gt-MAX_ORDER : tie.Need-returns-then-n-gt-MAX_ORDER
 returns-then-n-gt-MAX_ORDER c = λ l. too_wide _ c.args.line.now
     (sym c.is_blank_line.ensures ∙
     c.if-is_blank_line.false) (sym c.begins_percent.ensures ∙ c.if-begins_percent.false)
-    (sym c.line_numbers.ensures ∙ c.m-1.given.1)
+    (sym c.line_numbers.ensures ∙ c.in-Three.is)
     c.if-m-n.false (omega arith)
 
 returns-then-count-gt-MAX_ENTRIES : tie.Need-returns-then-count-gt-MAX_ENTRIES
@@ -55,7 +55,7 @@ returns-then-count-gt-MAX_ENTRIES c = λ l. too_full _ c.args.line.now
     c.begins_percent.ensures ∙
     c.if-begins_percent.false) (sym
     c.line_numbers.ensures ∙
-    c.m-1.given.1) c.if-m-n.false (omega arith)
+    c.in-Three.is) c.if-m-n.false (omega arith)
 
 overflow_cast-result : tie.Need-overflow_cast-result
 overflow_cast-result c = search rules
@@ -71,7 +71,7 @@ returns c = λ l. a_size _ c.args.line.now
     c.begins_percent.ensures ∙
     c.if-begins_percent.false) (sym
     c.line_numbers.ensures ∙
-    c.m-1.given.1) c.if-m-n.false (omega arith) (omega arith)
+    c.in-Three.is) c.if-m-n.false (omega arith) (omega arith)
 
 pub size_line_spec : {M : Type 1} → statement M
 size_line_spec =

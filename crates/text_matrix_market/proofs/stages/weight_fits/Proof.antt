@@ -22,13 +22,13 @@ nonzero_div-result-in-Pattern : tie.Need-nonzero_div-result-in-Pattern
 nonzero_div-result-in-Pattern c = search rules
 
 returns-in-General : tie.Need-returns-in-General
-returns-in-General c = rw c.enum_told-1.given.1 (general_fits _ _ c.requires)
+returns-in-General c = rw c.in-General.is (general_fits _ _ c.requires)
 
 returns-in-Symmetric : tie.Need-returns-in-Symmetric
-returns-in-Symmetric c = rw c.enum_told-in-Symmetric-1.given.1 refl
+returns-in-Symmetric c = rw c.in-Symmetric.is refl
 
 returns-in-Pattern : tie.Need-returns-in-Pattern
-returns-in-Pattern c = rw c.enum_told-in-Pattern-1.given.1 (general_fits _ _ c.requires)
+returns-in-Pattern c = rw c.in-Pattern.is (general_fits _ _ c.requires)
 
 pub weight_fits_spec : {M : Type 1} → statement M
 weight_fits_spec =
