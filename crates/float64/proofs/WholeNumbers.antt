@@ -89,8 +89,6 @@ ones_value s w h =
     over : (x : Float) → HasValue x s w 1 → HasValue x s (w * units_per_one) units_per_one
     over nan v = elim v [ ]
     over (inf _) v = elim v [ ]
-    over nan v = elim v [ ]
-    over (inf _) v = elim v [ ]
     over (fin t m e) v = (v.0, ap (λ (a : ℕ). a * units_per_one) (sym (mul-one (m * up e)) ∙ v.1) ∙ mul_right_comm w (down e) units_per_one)
 
 -- the exact sum's size, where the two keys add up to c's

@@ -1,5 +1,4 @@
 -- `columns_fault` meets its contract. The loop's invariant: no difference before j has a fault.
-use mathlib.Core.Bool.{not}
 use Rattle.std.proofs.Common.{rules}
 use mathlib.Core.Path.{◌≡◌, sym, ap, ◌∙◌}
 use mathlib.Core.Bool.{Bool}
@@ -65,7 +64,7 @@ tested c =
 returns-then-not-within_limit : tie.Need-returns-then-not-within_limit invariant-loop-j decreases-loop-j
 returns-then-not-within_limit c =
     found _ _ c.loop-j.j c.loop-j.invariant (omega (arith, c.loop-j-test.true, count c.before.before.before.before.before.before))
-    (ap (λ (t : Bool). unless t exponent_range) (tested c.before ∙ not-true c.within_limit.result c.if-not-within_limit.true  )) (omega arith)
+    (ap (λ (t : Bool). unless t exponent_range) (tested c.before ∙ c.if-not-within_limit.true)) (omega arith)
 
 overflow_add-j : tie.Need-overflow_add-j invariant-loop-j decreases-loop-j
 overflow_add-j c = search rules
@@ -76,7 +75,7 @@ loop-j-smaller c = search rules
 loop-j-preserved : tie.Need-loop-j-preserved invariant-loop-j decreases-loop-j
 loop-j-preserved c =
     pass _ _ c.loop-j.j c.loop-j.invariant (omega (arith, c.loop-j-test.true, count c.before.before.before.before.before.before))
-    (ap (λ (t : Bool). unless t exponent_range) (tested c.before ∙ not-false c.within_limit.result c.if-not-within_limit.false  ))
+    (ap (λ (t : Bool). unless t exponent_range) (tested c.before ∙ c.if-not-within_limit.false))
 
 returns : tie.Need-returns invariant-loop-j decreases-loop-j
 returns c = done _ _ c.loop-j.j c.loop-j.invariant (omega (arith, c.loop-j-test.false, count c.before))

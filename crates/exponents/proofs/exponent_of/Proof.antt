@@ -27,14 +27,14 @@ moved c = add binary64 c.args.factor middle
 place : (c : tie.Else-not-moved) → Counted (moved c.before)
 place c =
     let y = moved c.before in
-    let t = both (le least y) (le y most) (not-false (le least y && le y most) c.if-not-moved.false  ) in
+    let t = both (le least y) (le y most) c.if-not-moved.false in
     counted y (add-fits binary64 c.args.factor middle) t.0 t.1
 
 returns-then-not-moved : tie.Need-returns-then-not-moved
 returns-then-not-moved c =
     let x = c.args.factor in
     exponent_none x
-    (λ t. let p = passes x (double c.before) t in false≢true (sym (ap₂ (λ (a b : Bool). not (a && b)) p.0 p.1) ∙ c.if-not-moved.true  ))
+    (λ t. let p = passes x (double c.before) t in false≢true (sym (ap₂ (λ (a b : Bool). not (a && b)) p.0 p.1) ∙ (ap not c.if-not-moved.true)))
 
 returns-then-moved-factor : tie.Need-returns-then-moved-factor
 unfolding ne

@@ -1,5 +1,4 @@
 -- `rows_fault` meets its contract. The loop's invariant: no factor before i has a fault.
-use mathlib.Core.Bool.{not}
 use Rattle.std.proofs.Common.{rules}
 use mathlib.Core.Path.{◌≡◌, sym, ap, ◌∙◌}
 use mathlib.Core.Bool.{Bool}
@@ -50,7 +49,7 @@ tested c = sym (c.within_limit.ensures ∙ ap within_limit (read_is c.exponent_o
 returns-then-not-within_limit : tie.Need-returns-then-not-within_limit invariant-loop-i decreases-loop-i
 returns-then-not-within_limit c =
     found _ _ c.loop-i.i c.loop-i.invariant c.loop-i-test.true
-    (ap (λ (t : Bool). unless t exponent_range) (tested c.before ∙ not-true c.within_limit.result c.if-not-within_limit.true  )) (omega arith)
+    (ap (λ (t : Bool). unless t exponent_range) (tested c.before ∙ c.if-not-within_limit.true)) (omega arith)
 
 overflow_add-i : tie.Need-overflow_add-i invariant-loop-i decreases-loop-i
 overflow_add-i c = search rules
@@ -61,7 +60,7 @@ loop-i-smaller c = search rules
 loop-i-preserved : tie.Need-loop-i-preserved invariant-loop-i decreases-loop-i
 loop-i-preserved c =
     pass _ _ c.loop-i.i c.loop-i.invariant c.loop-i-test.true
-    (ap (λ (t : Bool). unless t exponent_range) (tested c.before ∙ not-false c.within_limit.result c.if-not-within_limit.false  ))
+    (ap (λ (t : Bool). unless t exponent_range) (tested c.before ∙ c.if-not-within_limit.false))
 
 returns : tie.Need-returns invariant-loop-i decreases-loop-i
 returns c = done _ _ c.loop-i.i c.loop-i.invariant c.loop-i-test.false

@@ -1,5 +1,4 @@
 -- `column_fault` meets its contract. The loop's invariant: no place before k has a fault.
-use mathlib.Core.Bool.{not}
 use mathlib.Core.Path.{◌≡◌, refl, sym, ap, ◌∙◌}
 use mathlib.Core.Bool.{Bool}
 use Prim.Native.Nat.{◌+◌, ◌-◌, ◌<◌}
@@ -90,7 +89,7 @@ returns-then-not-is_scalable : tie.Need-returns-then-not-is_scalable invariant-l
 returns-then-not-is_scalable c =
     let a = c.args in
     let e : place_fault a.row_idx.now a.row_exponents.now (to_z w32 (of_z w32 a.column_exponent)) a.values.now c.loop-k.k ≡ value_not_normal =
-    tested c.before ∙ ap (λ (t : Bool). unless t value_not_normal) (not-true c.is_scalable.result c.if-not-is_scalable.true  ) in
+    tested c.before ∙ ap (λ (t : Bool). unless t value_not_normal) c.if-not-is_scalable.true in
     let f : value_not_normal ≡ column_fault a.row_idx.now a.row_exponents.now (to_z w32 (of_z w32 a.column_exponent)) a.values.now a.from a.to =
     found _ _ c.loop-k.k c.loop-k.invariant c.loop-k-test.true e (omega arith) in
     f ∙ whole-search c.before.before.before.before.before.before
@@ -104,7 +103,7 @@ loop-k-smaller c = omega (arith, c.loop-k-test.true)
 loop-k-preserved : tie.Need-loop-k-preserved invariant-loop-k decreases-loop-k
 loop-k-preserved c =
     pass _ _ c.loop-k.k c.loop-k.invariant c.loop-k-test.true
-    (tested c.before ∙ ap (λ (t : Bool). unless t value_not_normal) (not-false c.is_scalable.result c.if-not-is_scalable.false  ))
+    (tested c.before ∙ ap (λ (t : Bool). unless t value_not_normal) c.if-not-is_scalable.false)
 
 returns : tie.Need-returns invariant-loop-k decreases-loop-k
 returns c =

@@ -1,5 +1,4 @@
 -- `limit_fault` meets its contract. The loop's invariant: no exponent before i has a fault.
-use mathlib.Core.Bool.{not}
 use Rattle.std.proofs.Common.{rules}
 use mathlib.Core.Path.{◌≡◌, sym, ap, ◌∙◌}
 use mathlib.Core.Bool.{Bool}
@@ -44,7 +43,7 @@ tested c = c.within_limit.ensures ∙ ap within_limit (read_is _ c.exponent-1.gi
 returns-then-not-within_limit : tie.Need-returns-then-not-within_limit invariant-loop-i decreases-loop-i
 returns-then-not-within_limit c =
     found _ _ c.loop-i.i c.loop-i.invariant c.loop-i-test.true
-    (ap (λ (t : Bool). unless t exponent_range) (sym (tested c.before) ∙ not-true _ c.if-not-within_limit.true  )) (omega arith)
+    (ap (λ (t : Bool). unless t exponent_range) (sym (tested c.before) ∙ c.if-not-within_limit.true)) (omega arith)
 
 overflow_add-i : tie.Need-overflow_add-i invariant-loop-i decreases-loop-i
 overflow_add-i c = search rules
@@ -55,7 +54,7 @@ loop-i-smaller c = search rules
 loop-i-preserved : tie.Need-loop-i-preserved invariant-loop-i decreases-loop-i
 loop-i-preserved c =
     pass _ _ c.loop-i.i c.loop-i.invariant c.loop-i-test.true
-    (ap (λ (t : Bool). unless t exponent_range) (sym (tested c.before) ∙ not-false _ c.if-not-within_limit.false  ))
+    (ap (λ (t : Bool). unless t exponent_range) (sym (tested c.before) ∙ c.if-not-within_limit.false))
 
 returns : tie.Need-returns invariant-loop-i decreases-loop-i
 returns c = done _ _ c.loop-i.i c.loop-i.invariant c.loop-i-test.false

@@ -1,6 +1,4 @@
 -- `matching_fault` meets its contract. The loop's invariant: no entry of perm before k has a fault.
-use mathlib.Core.Path.{ap}
-use mathlib.Core.Bool.{not}
 use mathlib.Core.Path.{refl}
 use Prim.Native.Nat.{◌-◌, ◌≤◌}
 use native.Mathlib.Omega.{arith}
@@ -42,8 +40,7 @@ returns-then-not-fine c = rw (le-leb _ _ c.if-matched-n.false)
     (found _ _ c.loop-k.k c.loop-k.invariant.1
     c.loop-k-test.true (rw (
       ← c.row_or_none-fine.ensures,
-      not-true c.row_or_none-fine.result
-          c.if-not-fine.true  ,
+      c.if-not-fine.true,
     ) refl) (omega arith))
 
 overflow_step-k : tie.Need-overflow_step-k invariant-loop-k decreases-loop-k
@@ -57,7 +54,7 @@ loop-k-preserved c = (
   omega arith,
   pass _ _ c.loop-k.k
       c.loop-k.invariant.1 c.loop-k-test.true
-      (rw (← c.row_or_none-fine.ensures, not-false c.row_or_none-fine.result c.if-not-fine.false  ) refl),
+      (rw (← c.row_or_none-fine.ensures, c.if-not-fine.false) refl),
 )
 
 returns : tie.Need-returns invariant-loop-k decreases-loop-k

@@ -41,7 +41,7 @@ returns-then-not-far c =
     let args = c.args in
     round_last (matrix args.n args.col_ptr.now args.row_idx.now args.values.now) 10 c.loop-done.done c.loop-done.factors
     c.loop-done.invariant.3 c.loop-done-test.true
-    c.one_round-far.ensures.0 c.one_round-far.ensures.1 c.if-not-far.true  
+    c.one_round-far.ensures.0 c.one_round-far.ensures.1 (ap not c.if-not-far.true)
 
 overflow_add-done : tie.Need-overflow_add-done invariant-loop-done decreases-loop-done
 overflow_add-done c = omega (arith, c.loop-done-test.true)
@@ -59,7 +59,7 @@ loop-done-preserved c =
       c.one_round-far.auto.work ∙ c.loop-done.invariant.2,
       round_next (matrix args.n args.col_ptr.now args.row_idx.now args.values.now) 10 c.loop-done.done
           c.loop-done.factors c.loop-done.invariant.3 c.loop-done-test.true
-          c.one_round-far.ensures.0 c.one_round-far.ensures.1 c.if-not-far.false  ,
+          c.one_round-far.ensures.0 c.one_round-far.ensures.1 (ap not c.if-not-far.false),
     )
 
 shape_of-factors : tie.Need-shape_of-factors invariant-loop-done decreases-loop-done

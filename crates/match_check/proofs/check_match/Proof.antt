@@ -1,6 +1,4 @@
 -- `check_match` meets its contract: each answer is the first fault's, and the other clauses follow of any answer.
-use mathlib.Core.Path.{ap}
-use mathlib.Core.Bool.{not}
 use Rattle.std.proofs.Common.{rules}
 use mathlib.Core.Path.{sym, ◌∙◌}
 use borrow.Author.Rules.{rules}
@@ -30,7 +28,7 @@ returns-then-not-small_wholes c =
     (record { rows = c.shared_slice_known-5-1.given; columns = c.shared_slice_known-6-1.given })
     (by_cost _ _ c.graph_fault-graph.ensures c.lengths_fit-lengths.ensures c.if-graph-ne-ACCEPTED.false
     (λ k h. c.shared_slice_known-3-1.given k) c.small_wholes.ensures
-    (not-true _ c.if-not-small_wholes.true  ))
+    c.if-not-small_wholes.true)
 
 claim_fault-fault-requires : tie.Need-claim_fault-fault-requires
 claim_fault-fault-requires c κs = ready _ _ (passed_graph _ _ c.graph_fault-graph.ensures
@@ -42,7 +40,7 @@ returns-then-fault-ne-ACCEPTED c =
     (record { rows = c.shared_slice_known-5-1.given; columns = c.shared_slice_known-6-1.given })
     (by_claim _ _ c.graph_fault-graph.ensures c.lengths_fit-lengths.ensures c.if-graph-ne-ACCEPTED.false
     (λ k h. c.shared_slice_known-3-1.given k) c.small_wholes.ensures
-    (not-false _ c.if-not-small_wholes.false  ) c.claim_fault-fault.ensures c.if-fault-ne-ACCEPTED.true)
+    c.if-not-small_wholes.false c.claim_fault-fault.ensures c.if-fault-ne-ACCEPTED.true)
 
 returns : tie.Need-returns
 returns c =
@@ -50,7 +48,7 @@ returns c =
     (record { rows = c.shared_slice_known-5-1.given; columns = c.shared_slice_known-6-1.given })
     (by_none _ _ c.graph_fault-graph.ensures c.lengths_fit-lengths.ensures c.if-graph-ne-ACCEPTED.false
     (λ k h. c.shared_slice_known-3-1.given k) c.small_wholes.ensures
-    (not-false _ c.if-not-small_wholes.false  ) c.claim_fault-fault.ensures c.if-fault-ne-ACCEPTED.false)
+    c.if-not-small_wholes.false c.claim_fault-fault.ensures c.if-fault-ne-ACCEPTED.false)
 
 pub check_match_spec : {M : Type 1} → statement M
 check_match_spec =

@@ -1,6 +1,4 @@
 -- `claim_fault` meets its contract: each return is the first fault of the chain.
-use mathlib.Core.Path.{ap}
-use mathlib.Core.Bool.{not}
 use Rattle.std.proofs.Common.{rules}
 use borrow.Author.Rules.{rules}
 use borrow.Author.Tests.{not-true, not-false}
@@ -12,25 +10,25 @@ pairing_fits-requires : tie.Need-pairing_fits-requires
 pairing_fits-requires c κs = search rules
 
 returns-then-not-pairing_fits : tie.Need-returns-then-not-pairing_fits
-returns-then-not-pairing_fits c = by_pairing _ _ c.pairing_fits.ensures (not-true _ c.if-not-pairing_fits.true  )
+returns-then-not-pairing_fits c = by_pairing _ _ c.pairing_fits.ensures c.if-not-pairing_fits.true
 
 duals_hold-requires : tie.Need-duals_hold-requires
 duals_hold-requires c κs = search rules
 
 returns-then-not-duals_hold : tie.Need-returns-then-not-duals_hold
-returns-then-not-duals_hold c = by_duals _ _ c.pairing_fits.ensures (not-false _ c.if-not-pairing_fits.false  )
-    c.duals_hold.ensures (not-true _ c.if-not-duals_hold.true  )
+returns-then-not-duals_hold c = by_duals _ _ c.pairing_fits.ensures c.if-not-pairing_fits.false
+    c.duals_hold.ensures c.if-not-duals_hold.true
 
 sums_reached-requires : tie.Need-sums_reached-requires
 sums_reached-requires c κs = search rules
 
 returns-then-sums_reached : tie.Need-returns-then-sums_reached
-returns-then-sums_reached c = by_nothing _ _ c.pairing_fits.ensures (not-false _ c.if-not-pairing_fits.false  )
-    c.duals_hold.ensures (not-false _ c.if-not-duals_hold.false  ) c.sums_reached.ensures c.if-sums_reached.true
+returns-then-sums_reached c = by_nothing _ _ c.pairing_fits.ensures c.if-not-pairing_fits.false
+    c.duals_hold.ensures c.if-not-duals_hold.false c.sums_reached.ensures c.if-sums_reached.true
 
 returns-else-sums_reached : tie.Need-returns-else-sums_reached
-returns-else-sums_reached c = by_sums _ _ c.pairing_fits.ensures (not-false _ c.if-not-pairing_fits.false  )
-    c.duals_hold.ensures (not-false _ c.if-not-duals_hold.false  ) c.sums_reached.ensures c.if-sums_reached.false
+returns-else-sums_reached c = by_sums _ _ c.pairing_fits.ensures c.if-not-pairing_fits.false
+    c.duals_hold.ensures c.if-not-duals_hold.false c.sums_reached.ensures c.if-sums_reached.false
 
 pub claim_fault_spec : {M : Type 1} → statement M
 claim_fault_spec =

@@ -1,6 +1,4 @@
 -- `pairing_fits` meets its contract: the first of its three tests that fails decides.
-use mathlib.Core.Path.{ap}
-use mathlib.Core.Bool.{not}
 use Rattle.std.proofs.Common.{rules}
 use mathlib.Core.Path.{refl}
 use native.Mathlib.Omega.{arith}
@@ -14,7 +12,7 @@ rows_below-requires : tie.Need-rows_below-requires
 rows_below-requires c κs = search rules
 
 returns-then-not-rows_below : tie.Need-returns-then-not-rows_below
-returns-then-not-rows_below c = lacks_rows _ _ c.rows_below.ensures (not-true _ c.if-not-rows_below.true  )
+returns-then-not-rows_below c = lacks_rows _ _ c.rows_below.ensures c.if-not-rows_below.true
 
 slice_bounds-rows_once-end : tie.Need-slice_bounds-rows_once-end
 slice_bounds-rows_once-end c = search rules
@@ -22,18 +20,18 @@ slice_bounds-rows_once-end c = search rules
 rows_once-requires : tie.Need-rows_once-requires
 rows_once-requires c κs =
     let p = c.requires in
-    (rows_hold _ p.1 c.rows_below.ensures (not-false _ c.if-not-rows_below.false  ), (omega (arith, p.0.few, p.1), refl))
+    (rows_hold _ p.1 c.rows_below.ensures c.if-not-rows_below.false, (omega (arith, p.0.few, p.1), refl))
 
 returns-then-not-rows_once : tie.Need-returns-then-not-rows_once
-returns-then-not-rows_once c = lacks_once _ _ c.rows_below.ensures (not-false _ c.if-not-rows_below.false  ) c.requires.1
-    c.rows_once.ensures (not-true _ c.if-not-rows_once.true  )
+returns-then-not-rows_once c = lacks_once _ _ c.rows_below.ensures c.if-not-rows_below.false c.requires.1
+    c.rows_once.ensures c.if-not-rows_once.true
 
 pairs_stand-requires : tie.Need-pairs_stand-requires
 pairs_stand-requires c κs = search rules
 
 returns : tie.Need-returns
-returns c = stands _ _ c.rows_below.ensures (not-false _ c.if-not-rows_below.false  )
-    c.requires.1 c.rows_once.ensures (not-false _ c.if-not-rows_once.false  ) c.pairs_stand.ensures
+returns c = stands _ _ c.rows_below.ensures c.if-not-rows_below.false
+    c.requires.1 c.rows_once.ensures c.if-not-rows_once.false c.pairs_stand.ensures
 
 pub pairing_fits_spec : {M : Type 1} → statement M
 pairing_fits_spec =

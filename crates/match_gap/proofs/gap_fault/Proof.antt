@@ -1,6 +1,4 @@
 -- `gap_fault` meets its contract: each return is the first fault of the chain.
-use mathlib.Core.Path.{ap}
-use mathlib.Core.Bool.{not}
 use Rattle.std.proofs.Common.{rules}
 use borrow.Author.Rules.{rules}
 use borrow.Author.Tests.{not-true, not-false}
@@ -33,7 +31,7 @@ all_in_steps-requires c κs = search rules
 returns-then-not-all_in_steps : tie.Need-returns-then-not-all_in_steps
 returns-then-not-all_in_steps c = 
     by_costs _ _ _ _ c.if-digits-gt50.false (lengths_are _ _ _ c.lengths_fit.ensures) c.graph_fault-graph.ensures
-    c.if-graph-ne-ACCEPTED.false c.all_in_steps.ensures (not-true _ c.if-not-all_in_steps.true  )
+    c.if-graph-ne-ACCEPTED.false c.all_in_steps.ensures c.if-not-all_in_steps.true
 
 pairs_fault-requires : tie.Need-pairs_fault-requires
 pairs_fault-requires c κs = let r =
@@ -44,7 +42,7 @@ pairs_fault-requires c κs = let r =
 returns : tie.Need-returns
 returns c = 
     by_pairs _ _ _ _ c.if-digits-gt50.false (lengths_are _ _ _ c.lengths_fit.ensures) c.graph_fault-graph.ensures
-    c.if-graph-ne-ACCEPTED.false c.all_in_steps.ensures (not-false _ c.if-not-all_in_steps.false  )
+    c.if-graph-ne-ACCEPTED.false c.all_in_steps.ensures c.if-not-all_in_steps.false
     c.pairs_fault.ensures
 
 pub gap_fault_spec : {M : Type 1} → statement M

@@ -1,6 +1,4 @@
 -- `pairs_fault` meets its contract: each return is the first fault of the chain.
-use mathlib.Core.Path.{ap}
-use mathlib.Core.Bool.{not}
 use Rattle.std.proofs.Common.{rules}
 use borrow.Author.Rules.{rules}
 use borrow.Author.Tests.{not-true, not-false}
@@ -14,7 +12,7 @@ pairing_fits-requires : tie.Need-pairing_fits-requires
 pairing_fits-requires c κs = search rules
 
 returns-then-not-pairing_fits : tie.Need-returns-then-not-pairing_fits
-returns-then-not-pairing_fits c = by_pairing _ _ _ c.pairing_fits.ensures (not-true _ c.if-not-pairing_fits.true  )
+returns-then-not-pairing_fits c = by_pairing _ _ _ c.pairing_fits.ensures c.if-not-pairing_fits.true
 
 all_in_steps-rows-requires : tie.Need-all_in_steps-rows-requires
 all_in_steps-rows-requires c κs = search rules
@@ -24,12 +22,12 @@ all_in_steps-requires c κs = search rules
 
 returns-then-rows-all_in_steps : tie.Need-returns-then-rows-all_in_steps
 returns-then-rows-all_in_steps c = 
-    by_nothing _ _ _ c.pairing_fits.ensures (not-false _ c.if-not-pairing_fits.false  ) c.all_in_steps-rows.ensures
+    by_nothing _ _ _ c.pairing_fits.ensures c.if-not-pairing_fits.false c.all_in_steps-rows.ensures
     c.all_in_steps.ensures c.if-rows-all_in_steps.true
 
 returns-else-rows-all_in_steps : tie.Need-returns-else-rows-all_in_steps
 returns-else-rows-all_in_steps c = 
-    by_duals _ _ _ c.pairing_fits.ensures (not-false _ c.if-not-pairing_fits.false  ) c.all_in_steps-rows.ensures
+    by_duals _ _ _ c.pairing_fits.ensures c.if-not-pairing_fits.false c.all_in_steps-rows.ensures
     c.all_in_steps.ensures c.if-rows-all_in_steps.false
 
 pub pairs_fault_spec : {M : Type 1} → statement M

@@ -1,6 +1,4 @@
 -- `pairing_fault` meets its contract: each return is the first fault of the chain.
-use mathlib.Core.Path.{ap}
-use mathlib.Core.Bool.{not}
 use Rattle.std.proofs.Common.{rules}
 use mathlib.Core.Path.{refl, sym, ◌∙◌}
 use borrow.Author.Rules.{rules}
@@ -16,7 +14,7 @@ enter_pairs-requires : tie.Need-enter_pairs-requires
 enter_pairs-requires c κs = let p = c.requires in (p.0, (p.1.0, refl))
 
 returns-then-not-enter_pairs : tie.Need-returns-then-not-enter_pairs
-returns-then-not-enter_pairs c = by_pairs _ _ c.enter_pairs.ensures.0 (not-true _ c.if-not-enter_pairs.true  )
+returns-then-not-enter_pairs c = by_pairs _ _ c.enter_pairs.ensures.0 c.if-not-enter_pairs.true
 
 slice_bounds-search-end : tie.Need-slice_bounds-search-end
 slice_bounds-search-end c = search rules
@@ -28,7 +26,7 @@ search-requires c κs = let p = c.requires in (
     p.1.0,
     (
       (
-        sym c.enter_pairs.ensures.0 ∙ not-false _ c.if-not-enter_pairs.false  ,
+        sym c.enter_pairs.ensures.0 ∙ c.if-not-enter_pairs.false,
         c.enter_pairs.ensures.1,
       ),
       p.1.1,
@@ -53,7 +51,7 @@ shape_of-met-then-all_held c = search rules
 
 returns-then-all_held : tie.Need-returns-then-all_held
 returns-then-all_held c = by_nothing _ _ c.enter_pairs.ensures.0
-    (not-false _ c.if-not-enter_pairs.false  )
+    c.if-not-enter_pairs.false
     (c.all_held.ensures
     ∙ held_is c.enter_pairs.ensures.1
     c.search.ensures)
@@ -64,7 +62,7 @@ shape_of-met-else-all_held c = search rules
 
 returns-else-all_held : tie.Need-returns-else-all_held
 returns-else-all_held c = by_rows _ _ c.enter_pairs.ensures.0
-    (not-false _ c.if-not-enter_pairs.false  )
+    c.if-not-enter_pairs.false
     (c.all_held.ensures
     ∙ held_is c.enter_pairs.ensures.1
     c.search.ensures) c.if-all_held.false

@@ -1,6 +1,4 @@
 -- `compute_symmetric` meets its contract: a refusal changes nothing, and what the building leaves is matched and scaled.
-use mathlib.Core.Path.{ap}
-use mathlib.Core.Bool.{not}
 use Rattle.std.proofs.Common.{rules}
 use mathlib.Core.Path.{refl, sym}
 use borrow.Author.Rules.{rules}
@@ -39,7 +37,7 @@ shape_of-factor_work-then-not-fit c = refl
 
 returns-then-not-fit : tie.Need-returns-then-not-fit
 returns-then-not-fit c = promised _ _ _ (λ k h. c.shared_slice_known-4-1.given k)
-    (lengths_refused _ _ _ _ _ c.rest_fits-fit.ensures (not-true _ c.if-not-fit.true  ) c.size_fault-fault.ensures)
+    (lengths_refused _ _ _ _ _ c.rest_fits-fit.ensures c.if-not-fit.true c.size_fault-fault.ensures)
 
 build_cost_graph-built-requires : tie.Need-build_cost_graph-built-requires
 build_cost_graph-built-requires c κs = search rules
@@ -74,7 +72,7 @@ slice_bounds-match_and_scale-end-in-Kept-3 c = sym (length-take-le _ _ (cost_roo
 match_and_scale-requires : tie.Need-match_and_scale-requires
 match_and_scale-requires c κs = ready _ _ _ c.build_cost_graph-built.ensures.outcome
     c.in-Kept.is (λ k h. c.shared_slice_known-4-1.given k) _ _ c.rest_fits-fit.ensures
-    (not-false _ c.if-not-fit.false  )
+    c.if-not-fit.false
 
 enum_known-built-in-Refused-1 : tie.Need-enum_known-built-in-Refused-1
 enum_known-built-in-Refused-1 c = search rules
@@ -119,7 +117,7 @@ returns-in-Kept : tie.Need-returns-in-Kept
 returns-in-Kept c = promised _ _ _ (λ k h. c.shared_slice_known-4-1.given k)
     (complete _ _ _ c.build_cost_graph-built.ensures.outcome
     c.in-Kept.is (λ k h. c.shared_slice_known-4-1.given k) _
-    _ c.rest_fits-fit.ensures (not-false _ c.if-not-fit.false  )
+    _ c.rest_fits-fit.ensures c.if-not-fit.false
     c.match_and_scale.ensures)
 
 shape_of-graph_ptr-in-Refused : tie.Need-shape_of-graph_ptr-in-Refused
@@ -161,7 +159,7 @@ shape_of-factor_work-in-Refused c = refl
 returns-in-Refused : tie.Need-returns-in-Refused
 returns-in-Refused c = promised _ _ _ (λ k h. c.shared_slice_known-4-1.given k)
     (building_refused _ _ _ c.build_cost_graph-built.ensures.outcome _ _
-    c.rest_fits-fit.ensures (not-false _ c.if-not-fit.false  )
+    c.rest_fits-fit.ensures c.if-not-fit.false
     c.in-Refused.is)
 
 pub compute_symmetric_spec : {M : Type 1} → statement M

@@ -1,6 +1,4 @@
 -- `keep_column` meets its contract. The loop's invariant: the kept entries before place k are written, and `top` is the largest of their logs.
-use mathlib.Core.Path.{ap}
-use mathlib.Core.Bool.{not}
 use mathlib.Core.Path.{◌≡◌, refl, sym, ◌∙◌, subst}
 use Prim.Native.Nat.{ℕ, ◌≤◌, ◌<◌, ◌-◌}
 use native.Mathlib.Nat.{zero-add}
@@ -67,7 +65,7 @@ loop-k-preserved-then-not-is_kept c =
       c.loop-k.invariant.3,
       copied_dropped args.values.now args.from
           args.row_idx.now (entry_logs args.source args.logs.now) args.at args.graph_rows.now args.cost.now c.loop-k.k
-          c.loop-k.invariant.0 c.loop-k.invariant.4 (sym c.is_kept.ensures ∙ not-true _ c.if-not-is_kept.true  ),
+          c.loop-k.invariant.0 c.loop-k.invariant.4 (sym c.is_kept.ensures ∙ c.if-not-is_kept.true),
     )
 
 offset_bounds-logs-k : tie.Need-offset_bounds-logs-k invariant-loop-k decreases-loop-k
@@ -163,7 +161,7 @@ loop-k-preserved c =
           args.cost.now c.loop-k.k c.loop-k.invariant.0 c.loop-k.invariant.4
           (c.entry_log-log.ensures ∙ sym (entry_log_at args.source args.logs.now c.loop-k.k)) c.larger-top.ensures
           (omega (arith, next_below (c.before.before.before.before.before.before.before.before), pre.1.1.0)) (omega (arith, next_below (c.before.before.before.before.before.before.before.before), pre.1.1.0))
-          (sym c.is_kept.ensures ∙ not-false _ c.if-not-is_kept.false  ),
+          (sym c.is_kept.ensures ∙ c.if-not-is_kept.false),
     )
 
 shape_of-graph_rows : tie.Need-shape_of-graph_rows invariant-loop-k decreases-loop-k

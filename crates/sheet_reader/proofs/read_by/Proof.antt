@@ -1,6 +1,4 @@
 -- `read_by` meets its contract: the tests in their order, then the match.
-use mathlib.Core.Path.{ap}
-use mathlib.Core.Bool.{not}
 use Rattle.std.proofs.Common.{rules}
 use Rattle.matching.specs.Match.{match_of}
 use Rattle.sheet_reader.proofs.Storing.{lengths_are}
@@ -48,7 +46,7 @@ returns-then-not-fit c =
     let a = c.args in
     lengths_refuse (body_of a.canonical a.sheet.now) a.sheet.now (match_of a.perm.now a.u.now a.v.now a.cmax.now)
     c.head_fault-head.ensures c.if-head-ne-ACCEPTED.false c.get_two-n.ensures
-    c.lengths_fit-fit.ensures (not-true _ c.if-not-fit.true  )
+    c.lengths_fit-fit.ensures c.if-not-fit.true
 
 body_fault-fault-requires : tie.Need-body_fault-fault-requires
 body_fault-fault-requires c κs = omega (
@@ -77,7 +75,7 @@ returns-then-fault-ne-ACCEPTED c =
     c.head_fault-head.ensures c.if-head-ne-ACCEPTED.false
     c.get_two-n.ensures c.lengths_fit-fit.ensures
     (c.body_fault-fault.ensures ∙ body_is a.canonical a.sheet.now c.get_two-n.ensures) c.if-fault-ne-ACCEPTED.true
-    (not-false _ c.if-not-fit.false  )
+    c.if-not-fit.false
 
 fill_match-requires : tie.Need-fill_match-requires
 fill_match-requires c κs =
@@ -86,7 +84,7 @@ fill_match-requires c κs =
           ∙ sym c.body_fault-fault.ensures ∙ c.if-fault-ne-ACCEPTED.false),
       rw
           (← c.get_two-n.ensures)
-          (sym c.lengths_fit-fit.ensures ∙ not-false _ c.if-not-fit.false  ),
+          (sym c.lengths_fit-fit.ensures ∙ c.if-not-fit.false),
     )
 
 rows_present-requires : tie.Need-rows_present-requires
@@ -96,8 +94,7 @@ rows_present-requires c κs =
       arith,
       c.fill_match.auto.perm,
       (lengths_are c.get_two-n.result
-          (match_of a.perm.now a.u.now a.v.now a.cmax.now) (sym c.lengths_fit-fit.ensures ∙ not-false _
-          c.if-not-fit.false  )).perm,
+          (match_of a.perm.now a.u.now a.v.now a.cmax.now) (sym c.lengths_fit-fit.ensures ∙ c.if-not-fit.false)).perm,
       (head_passed a.sheet.now
           (sym c.head_fault-head.ensures
           ∙ c.if-head-ne-ACCEPTED.false)).1,
@@ -125,7 +122,7 @@ returns c =
     c.get_two-n.ensures c.lengths_fit-fit.ensures
     (c.body_fault-fault.ensures ∙ body_is a.canonical a.sheet.now
     c.get_two-n.ensures) c.if-fault-ne-ACCEPTED.false
-    (not-false _ c.if-not-fit.false  ) c.fill_match.ensures c.rows_present.ensures
+    c.if-not-fit.false c.fill_match.ensures c.rows_present.ensures
 
 pub read_by_spec : {M : Type 1} → statement M
 read_by_spec =

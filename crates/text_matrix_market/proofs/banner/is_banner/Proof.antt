@@ -1,6 +1,4 @@
 -- `banner::is_banner` meets its contract: each name that is found leaves the names behind it.
-use mathlib.Core.Path.{ap}
-use mathlib.Core.Bool.{not}
 use Rattle.std.proofs.Common.{rules}
 use mathlib.Core.Path.{sym, ◌∙◌}
 use mathlib.Core.List.{List, [], ◌∷◌}
@@ -17,7 +15,7 @@ begins_percent-requires : tie.Need-begins_percent-requires
 begins_percent-requires c κs = search rules
 
 returns-then-not-begins_percent : tie.Need-returns-then-not-begins_percent
-returns-then-not-begins_percent c = no_percent _ _ c.args.line.now (sym c.begins_percent.ensures ∙ not-true _ c.if-not-begins_percent.true  )
+returns-then-not-begins_percent c = no_percent _ _ c.args.line.now (sym c.begins_percent.ensures ∙ c.if-not-begins_percent.true)
 
 next_is-requires : tie.Need-next_is-requires
 next_is-requires c κs = search rules
@@ -36,7 +34,7 @@ abbrev symmetry_at : tie.Start → List ℕ
 symmetry_at c = c.args.symmetry.now
 
 begun : (c : tie.After-next_is-arg-1) → At c.before.before.before.before.before.before (banner_words (field_at c.before.before.before.before.before.before) (symmetry_at c.before.before.before.before.before.before)) 0
-begun c = percent _ _ c.args.line.now (sym c.begins_percent.ensures ∙ not-false _ c.if-not-begins_percent.false  )
+begun c = percent _ _ c.args.line.now (sym c.begins_percent.ensures ∙ c.if-not-begins_percent.false)
 
 returns-in_default : tie.Need-returns-in_default
 returns-in_default c = misnamed _ _ c.args.line.now (omega arith) (begun c.before.before.before.before)

@@ -1,6 +1,4 @@
 -- `stages::read_entry` meets its contract: by the tests that led there.
-use mathlib.Core.Path.{ap}
-use mathlib.Core.Bool.{not}
 use Rattle.std.proofs.Common.{rules}
 use mathlib.Core.Path.{sym, ◌∙◌}
 use Prim.Native.Nat.{◌≤◌}
@@ -32,7 +30,7 @@ returns-then-not-within : tie.Need-returns-then-not-within
 returns-then-not-within c =
     let a = c.args in
     row_out a.kind a.n a.line.now (sym c.line_numbers.ensures ∙ c.in-Three.is)
-    (sym c.within.ensures ∙ not-true _ c.if-not-within.true  )
+    (sym c.within.ensures ∙ c.if-not-within.true)
 
 within-requires-2 : tie.Need-within-requires-2
 within-requires-2 c κs = search rules
@@ -41,21 +39,21 @@ returns-then-not-within-2 : tie.Need-returns-then-not-within-2
 returns-then-not-within-2 c =
     let a = c.args in
     column_out a.kind a.n a.line.now (sym c.line_numbers.ensures ∙ c.in-Three.is)
-    (sym c.within.ensures ∙ not-false _ c.if-not-within.false  )
-    (sym c.within-2.ensures ∙ not-true _ c.if-not-within-2.true  )
+    (sym c.within.ensures ∙ c.if-not-within.false)
+    (sym c.within-2.ensures ∙ c.if-not-within-2.true)
 
 weight_fits-requires : tie.Need-weight_fits-requires
 weight_fits-requires c κs =
     some c.args.n c.in-Three.row
-    (sym c.within.ensures ∙ not-false _ c.if-not-within.false  )
+    (sym c.within.ensures ∙ c.if-not-within.false)
 
 returns-then-not-weight_fits : tie.Need-returns-then-not-weight_fits
 returns-then-not-weight_fits c =
     let a = c.args in
     weight_out a.kind a.n a.line.now (sym c.line_numbers.ensures ∙ c.in-Three.is)
-    (sym c.within.ensures ∙ not-false _ c.if-not-within.false  )
-    (sym c.within-2.ensures ∙ not-false _ c.if-not-within-2.false  )
-    (sym c.weight_fits.ensures ∙ not-true _ c.if-not-weight_fits.true  )
+    (sym c.within.ensures ∙ c.if-not-within.false)
+    (sym c.within-2.ensures ∙ c.if-not-within-2.false)
+    (sym c.weight_fits.ensures ∙ c.if-not-weight_fits.true)
 
 is_upper-requires : tie.Need-is_upper-requires
 is_upper-requires c κs = search rules
@@ -64,21 +62,21 @@ returns-then-is_upper : tie.Need-returns-then-is_upper
 returns-then-is_upper c =
     let a = c.args in
     upper_entry_lem a.kind a.n a.line.now (sym c.line_numbers.ensures ∙ c.in-Three.is)
-    (sym c.within.ensures ∙ not-false _ c.if-not-within.false  )
-    (sym c.within-2.ensures ∙ not-false _ c.if-not-within-2.false  )
-    (sym c.weight_fits.ensures ∙ not-false _ c.if-not-weight_fits.false  )
+    (sym c.within.ensures ∙ c.if-not-within.false)
+    (sym c.within-2.ensures ∙ c.if-not-within-2.false)
+    (sym c.weight_fits.ensures ∙ c.if-not-weight_fits.false)
     (sym c.is_upper.ensures ∙ c.if-is_upper.true)
 
 -- the row is one, and so is the column
 row_inside : (c : tie.Else-is_upper) → (1 ≤ c.in-Three.row) × (c.in-Three.row ≤ c.args.n)
 row_inside c =
     inside c.args.n c.in-Three.row
-    (sym c.within.ensures ∙ not-false _ c.if-not-within.false  )
+    (sym c.within.ensures ∙ c.if-not-within.false)
 
 column_inside : (c : tie.Else-is_upper) → (1 ≤ c.in-Three.column) × (c.in-Three.column ≤ c.args.n)
 column_inside c =
     inside c.args.n c.in-Three.column
-    (sym c.within-2.ensures ∙ not-false _ c.if-not-within-2.false  )
+    (sym c.within-2.ensures ∙ c.if-not-within-2.false)
 
 overflow_sub-result : tie.Need-overflow_sub-result
 overflow_sub-result c = omega (arith, row_inside c)
@@ -96,9 +94,9 @@ returns : tie.Need-returns
 returns c =
     let a = c.args in
     an_entry a.kind a.n a.line.now (sym c.line_numbers.ensures ∙ c.in-Three.is)
-    (sym c.within.ensures ∙ not-false _ c.if-not-within.false  )
-    (sym c.within-2.ensures ∙ not-false _ c.if-not-within-2.false  )
-    (sym c.weight_fits.ensures ∙ not-false _ c.if-not-weight_fits.false  )
+    (sym c.within.ensures ∙ c.if-not-within.false)
+    (sym c.within-2.ensures ∙ c.if-not-within-2.false)
+    (sym c.weight_fits.ensures ∙ c.if-not-weight_fits.false)
     (sym c.is_upper.ensures ∙ c.if-is_upper.false)
 
 pub read_entry_spec : {M : Type 1} → statement M

@@ -27,7 +27,7 @@ is_blank-requires c κs = omega arith
 
 returns-then-not-is_blank : tie.Need-returns-then-not-is_blank invariant-loop-at decreases-loop-at
 returns-then-not-is_blank c = sym (reach_hit _ c.args.line.now
-    c.loop-at.at (omega arith) (ap not (sym c.is_blank.ensures) ∙ c.if-not-is_blank.true  )) ∙
+    c.loop-at.at (omega arith) (ap not (sym c.is_blank.ensures) ∙ (ap not c.if-not-is_blank.true))) ∙
     c.loop-at.invariant.1
 
 overflow_add-at : tie.Need-overflow_add-at invariant-loop-at decreases-loop-at
@@ -40,7 +40,7 @@ loop-at-preserved : tie.Need-loop-at-preserved invariant-loop-at decreases-loop-
 loop-at-preserved c = (
   omega arith,
   reach_pass _ c.args.line.now
-      c.loop-at.at (omega arith) (ap not (sym c.is_blank.ensures) ∙ c.if-not-is_blank.false  ) ∙
+      c.loop-at.at (omega arith) (ap not (sym c.is_blank.ensures) ∙ (ap not c.if-not-is_blank.false)) ∙
       c.loop-at.invariant.1,
 )
 
