@@ -8,6 +8,16 @@ use Rattle.byte_numbers.proofs.Roots.{root_double, other_length, answered, no_ro
 use Rattle.byte_numbers.proofs.sqrt.Statement.{statement}
 use Rattle.byte_numbers.proofs.sqrt.Tie as tie
 
+-- places of the proof, each from a later one
+abbrev entry-of-put_u64-arg-1 : tie.After-put_u64-arg-1 → tie.Start
+entry-of-put_u64-arg-1 c = c.before.before.before.before.before
+
+abbrev entry-of-slice_known-in-Is-1 : tie.After-slice_known-in-Is-1 → tie.Start
+entry-of-slice_known-in-Is-1 c = c.before.before.before.before.before.before.before.before
+
+abbrev entry-of-in-Refused : tie.In-Refused → tie.Start
+entry-of-in-Refused c = c.before.before.before.before
+
 double : (c : tie.Start) → T (fits binary64 c.args.x)
 double c = subst T (sym c.well_formed.0.1) tt
 
@@ -22,7 +32,7 @@ enum_known-answer c = search rules
 
 float_to_bits-y : tie.Need-float_to_bits-y
 float_to_bits-y c = (root_double c.args.x
-    c.in-Is.y (double c.before.before.before.before.before.before.before)
+    c.in-Is.y (double (entry-of-put_u64-arg-1 c))
     (sym c.sqrt-answer.ensures.0 ∙ c.in-Is.is)).not_nan
 
 put_u64-requires : tie.Need-put_u64-requires
@@ -38,7 +48,7 @@ returns-in-Is : tie.Need-returns-in-Is
 returns-in-Is c = let a = answered c.args.x
     c.args.root.now
     c.in-Is.y
-    (double c.before.before.before.before.before.before.before.before.before.before)
+    (double (entry-of-slice_known-in-Is-1 c))
     c.if-root-ne8.false
     (sym c.sqrt-answer.ensures.0 ∙
     c.in-Is.is) in
@@ -47,7 +57,7 @@ returns-in-Is c = let a = answered c.args.x
 returns-in-Refused : tie.Need-returns-in-Refused
 returns-in-Refused c =
     let args = c.args in
-    no_root_lem args.x args.root.now c.in-Refused.number (double c.before.before.before.before.before.before)
+    no_root_lem args.x args.root.now c.in-Refused.number (double (entry-of-in-Refused c))
     c.if-root-ne8.false (sym c.sqrt-answer.ensures.0 ∙
     c.in-Refused.is)
 

@@ -26,6 +26,13 @@ invariant-loop-j v cmax j₀ j = Passed (factors_fault (differences v cmax)) (λ
 abbrev decreases-loop-j : tie.decreases-loop-j
 decreases-loop-j v cmax j₀ j = length v - j
 
+-- places of the proof, each from a later one
+abbrev loop-j-of-then-not-within_limit : tie.Then-not-within_limit invariant-loop-j decreases-loop-j → tie.At-loop-j invariant-loop-j decreases-loop-j
+loop-j-of-then-not-within_limit c = c.before.before.before.before.before.before
+
+abbrev loop-j-of-else-not-within_limit : tie.Else-not-within_limit invariant-loop-j decreases-loop-j → tie.At-loop-j invariant-loop-j decreases-loop-j
+loop-j-of-else-not-within_limit c = c.before.before.before.before.before.before
+
 count : (c : tie.At-loop-j invariant-loop-j decreases-loop-j) → length (differences c.args.v.now c.args.cmax.now) ≡ length
     c.args.v.now
 count c = differences_length c.args.v.now c.args.cmax.now c.requires
@@ -63,7 +70,7 @@ tested c =
 
 returns-then-not-within_limit : tie.Need-returns-then-not-within_limit invariant-loop-j decreases-loop-j
 returns-then-not-within_limit c =
-    found _ _ c.loop-j.j c.loop-j.invariant (omega (arith, c.loop-j-test.true, count c.before.before.before.before.before.before))
+    found _ _ c.loop-j.j c.loop-j.invariant (omega (arith, c.loop-j-test.true, count (loop-j-of-then-not-within_limit c)))
     (ap (λ (t : Bool). unless t exponent_range) (tested c.before ∙ c.if-not-within_limit.true)) (omega arith)
 
 overflow_add-j : tie.Need-overflow_add-j invariant-loop-j decreases-loop-j
@@ -74,7 +81,7 @@ loop-j-smaller c = search rules
 
 loop-j-preserved : tie.Need-loop-j-preserved invariant-loop-j decreases-loop-j
 loop-j-preserved c =
-    pass _ _ c.loop-j.j c.loop-j.invariant (omega (arith, c.loop-j-test.true, count c.before.before.before.before.before.before))
+    pass _ _ c.loop-j.j c.loop-j.invariant (omega (arith, c.loop-j-test.true, count (loop-j-of-else-not-within_limit c)))
     (ap (λ (t : Bool). unless t exponent_range) (tested c.before ∙ c.if-not-within_limit.false))
 
 returns : tie.Need-returns invariant-loop-j decreases-loop-j

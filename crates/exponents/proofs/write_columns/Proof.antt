@@ -24,6 +24,10 @@ invariant-loop-j v cmax exponents₀ j₀ exponents j = (j ≤ length v) × (len
 abbrev decreases-loop-j : tie.decreases-loop-j
 decreases-loop-j v cmax exponents₀ j₀ exponents j = length v - j
 
+-- places of the proof, each from a later one
+abbrev loop-j-of-exponent_of : tie.After-exponent_of invariant-loop-j decreases-loop-j → tie.At-loop-j invariant-loop-j decreases-loop-j
+loop-j-of-exponent_of c = c.before.before.before.before
+
 abbrev factors : tie.At-loop-j invariant-loop-j decreases-loop-j → List Float
 factors c = differences c.args.v.now c.args.cmax.now
 
@@ -63,10 +67,10 @@ loop-j-smaller c = search rules
 loop-j-preserved : tie.Need-loop-j-preserved invariant-loop-j decreases-loop-j
 loop-j-preserved c =
     let a = c.args in
-    let d = factors c.before.before.before.before in
+    let d = factors (loop-j-of-exponent_of c) in
     let j = c.loop-j.j in
     let h = c.loop-j-test.true in
-    let b : j < length d = omega (arith, count c.before.before.before.before) in
+    let b : j < length d = omega (arith, count (loop-j-of-exponent_of c)) in
     let e : Exponent (get_or d j nan) c.exponent_of.result =
     subst (λ (x : Float). Exponent x c.exponent_of.result) (sym (difference_at a.v.now a.cmax.now c.requires.0.0 j h))
     c.exponent_of.ensures in

@@ -18,6 +18,46 @@ use Rattle.exponents_apply.proofs.Calling.{tested, refuses, accepts}
 use Rattle.exponents_apply.proofs.apply_exponents.Statement.{statement}
 use Rattle.exponents_apply.proofs.apply_exponents.Tie as tie
 
+-- places of the proof, each from a later one
+abbrev entry-of-else-matrix-ne-ACCEPTED : tie.Else-matrix-ne-ACCEPTED → tie.Start
+entry-of-else-matrix-ne-ACCEPTED c = c.before.before.before.before.before
+
+abbrev entry-of-else-rows-ne-ACCEPTED : tie.Else-rows-ne-ACCEPTED → tie.Start
+entry-of-else-rows-ne-ACCEPTED c = c.before.before.before.before.before.before.before
+
+abbrev entry-of-else-columns-ne-ACCEPTED : tie.Else-columns-ne-ACCEPTED → tie.Start
+entry-of-else-columns-ne-ACCEPTED c = c.before.before.before.before.before.before.before.before.before
+
+abbrev entry-of-else-fault-ne-ACCEPTED : tie.Else-fault-ne-ACCEPTED → tie.Start
+entry-of-else-fault-ne-ACCEPTED c = c.before.before.before.before.before.before.before.before.before.before.before
+
+abbrev else-matrix-ne-ACCEPTED-of-else-columns-ne-ACCEPTED : tie.Else-columns-ne-ACCEPTED → tie.Else-matrix-ne-ACCEPTED
+else-matrix-ne-ACCEPTED-of-else-columns-ne-ACCEPTED c = c.before.before.before.before
+
+abbrev else-matrix-ne-ACCEPTED-of-else-fault-ne-ACCEPTED : tie.Else-fault-ne-ACCEPTED → tie.Else-matrix-ne-ACCEPTED
+else-matrix-ne-ACCEPTED-of-else-fault-ne-ACCEPTED c = c.before.before.before.before.before.before
+
+abbrev else-rows-ne-ACCEPTED-of-else-fault-ne-ACCEPTED : tie.Else-fault-ne-ACCEPTED → tie.Else-rows-ne-ACCEPTED
+else-rows-ne-ACCEPTED-of-else-fault-ne-ACCEPTED c = c.before.before.before.before
+
+abbrev entry-of-then-matrix-ne-ACCEPTED : tie.Then-matrix-ne-ACCEPTED → tie.Start
+entry-of-then-matrix-ne-ACCEPTED c = c.before.before.before.before.before
+
+abbrev entry-of-then-rows-ne-ACCEPTED : tie.Then-rows-ne-ACCEPTED → tie.Start
+entry-of-then-rows-ne-ACCEPTED c = c.before.before.before.before.before.before.before
+
+abbrev entry-of-then-columns-ne-ACCEPTED : tie.Then-columns-ne-ACCEPTED → tie.Start
+entry-of-then-columns-ne-ACCEPTED c = c.before.before.before.before.before.before.before.before.before
+
+abbrev entry-of-then-fault-ne-ACCEPTED : tie.Then-fault-ne-ACCEPTED → tie.Start
+entry-of-then-fault-ne-ACCEPTED c = c.before.before.before.before.before.before.before.before.before.before.before
+
+abbrev entry-of-slice_known-2-1 : tie.After-slice_known-2-1 → tie.Start
+entry-of-slice_known-2-1 c = c.before.before.before.before.before.before.before.before.before.before.before.before.before.before.before
+
+abbrev else-fault-ne-ACCEPTED-of-slice_known-2-1 : tie.After-slice_known-2-1 → tie.Else-fault-ne-ACCEPTED
+else-fault-ne-ACCEPTED-of-slice_known-2-1 c = c.before.before.before.before
+
 -- ---- what is lent
 abbrev matrix : tie.Start → Pattern
 matrix s = pattern s.args.n s.args.col_ptr.now s.args.row_idx.now
@@ -30,25 +70,25 @@ values s = s.args.values.now
 
 -- ---- places, each from a later one
 -- ---- a test that was passed found nothing
-no-pattern-fault : (c : tie.Else-matrix-ne-ACCEPTED) → pattern_fault (matrix c.before.before.before.before.before) (lengths_fit (matrix c.before.before.before.before.before) (both-sets c.before.before.before.before.before) (length (values c.before.before.before.before.before))) ≡ 0
+no-pattern-fault : (c : tie.Else-matrix-ne-ACCEPTED) → pattern_fault (matrix (entry-of-else-matrix-ne-ACCEPTED c)) (lengths_fit (matrix (entry-of-else-matrix-ne-ACCEPTED c)) (both-sets (entry-of-else-matrix-ne-ACCEPTED c)) (length (values (entry-of-else-matrix-ne-ACCEPTED c)))) ≡ 0
 no-pattern-fault c = sym c.pattern_fault-matrix.ensures ∙ c.if-matrix-ne-ACCEPTED.false
 
-no-row-fault : (c : tie.Else-rows-ne-ACCEPTED) → limit_fault (both-sets c.before.before.before.before.before.before.before).rows ≡ 0
+no-row-fault : (c : tie.Else-rows-ne-ACCEPTED) → limit_fault (both-sets (entry-of-else-rows-ne-ACCEPTED c)).rows ≡ 0
 no-row-fault c = sym c.limit_fault-rows.ensures ∙ c.if-rows-ne-ACCEPTED.false
 
-no-column-fault : (c : tie.Else-columns-ne-ACCEPTED) → limit_fault (both-sets c.before.before.before.before.before.before.before.before.before).columns ≡ 0
+no-column-fault : (c : tie.Else-columns-ne-ACCEPTED) → limit_fault (both-sets (entry-of-else-columns-ne-ACCEPTED c)).columns ≡ 0
 no-column-fault c = sym c.limit_fault-columns.ensures ∙ c.if-columns-ne-ACCEPTED.false
 
-no-value-fault : (c : tie.Else-fault-ne-ACCEPTED) → values_fault (matrix c.before.before.before.before.before.before.before.before.before.before.before) (both-sets c.before.before.before.before.before.before.before.before.before.before.before) (values c.before.before.before.before.before.before.before.before.before.before.before) ≡ 0
+no-value-fault : (c : tie.Else-fault-ne-ACCEPTED) → values_fault (matrix (entry-of-else-fault-ne-ACCEPTED c)) (both-sets (entry-of-else-fault-ne-ACCEPTED c)) (values (entry-of-else-fault-ne-ACCEPTED c)) ≡ 0
 no-value-fault c = sym c.values_fault-fault.ensures ∙ c.if-fault-ne-ACCEPTED.false
 
-all_tested : (c : tie.Else-columns-ne-ACCEPTED) → Tested (matrix c.before.before.before.before.before.before.before.before.before) (both-sets c.before.before.before.before.before.before.before.before.before) (values c.before.before.before.before.before.before.before.before.before)
+all_tested : (c : tie.Else-columns-ne-ACCEPTED) → Tested (matrix (entry-of-else-columns-ne-ACCEPTED c)) (both-sets (entry-of-else-columns-ne-ACCEPTED c)) (values (entry-of-else-columns-ne-ACCEPTED c))
 all_tested c =
-    tested (matrix c.before.before.before.before.before.before.before.before.before) (both-sets c.before.before.before.before.before.before.before.before.before) (values c.before.before.before.before.before.before.before.before.before) (no-pattern-fault c.before.before.before.before) (no-row-fault c.before.before) (no-column-fault c)
+    tested (matrix (entry-of-else-columns-ne-ACCEPTED c)) (both-sets (entry-of-else-columns-ne-ACCEPTED c)) (values (entry-of-else-columns-ne-ACCEPTED c)) (no-pattern-fault (else-matrix-ne-ACCEPTED-of-else-columns-ne-ACCEPTED c)) (no-row-fault c.before.before) (no-column-fault c)
 
-no_fault : (c : tie.Else-fault-ne-ACCEPTED) → apply_fault (matrix c.before.before.before.before.before.before.before.before.before.before.before) (both-sets c.before.before.before.before.before.before.before.before.before.before.before) (values c.before.before.before.before.before.before.before.before.before.before.before) ≡ 0
+no_fault : (c : tie.Else-fault-ne-ACCEPTED) → apply_fault (matrix (entry-of-else-fault-ne-ACCEPTED c)) (both-sets (entry-of-else-fault-ne-ACCEPTED c)) (values (entry-of-else-fault-ne-ACCEPTED c)) ≡ 0
 unfolding apply_fault
-no_fault c = or-none (no-pattern-fault c.before.before.before.before.before.before) ∙ or-none (no-row-fault c.before.before.before.before) ∙ or-none
+no_fault c = or-none (no-pattern-fault (else-matrix-ne-ACCEPTED-of-else-fault-ne-ACCEPTED c)) ∙ or-none (no-row-fault (else-rows-ne-ACCEPTED-of-else-fault-ne-ACCEPTED c)) ∙ or-none
     (no-column-fault c.before.before) ∙ no-value-fault c
 
 overflow_add-lengths : tie.Need-overflow_add-lengths
@@ -61,7 +101,7 @@ pattern_fault-matrix-requires c κs = λ t. let a = c.args in eqb-true (length a
 returns-then-matrix-ne-ACCEPTED : tie.Need-returns-then-matrix-ne-ACCEPTED
 unfolding apply_fault
 returns-then-matrix-ne-ACCEPTED c =
-    refuses (matrix c.before.before.before.before.before) (both-sets c.before.before.before.before.before) (values c.before.before.before.before.before) (answer_first _ c.pattern_fault-matrix.ensures c.if-matrix-ne-ACCEPTED.true) c.if-matrix-ne-ACCEPTED.true
+    refuses (matrix (entry-of-then-matrix-ne-ACCEPTED c)) (both-sets (entry-of-then-matrix-ne-ACCEPTED c)) (values (entry-of-then-matrix-ne-ACCEPTED c)) (answer_first _ c.pattern_fault-matrix.ensures c.if-matrix-ne-ACCEPTED.true) c.if-matrix-ne-ACCEPTED.true
 
 limit_fault-rows-requires : tie.Need-limit_fault-rows-requires
 limit_fault-rows-requires c κs = search rules
@@ -69,7 +109,7 @@ limit_fault-rows-requires c κs = search rules
 returns-then-rows-ne-ACCEPTED : tie.Need-returns-then-rows-ne-ACCEPTED
 unfolding apply_fault
 returns-then-rows-ne-ACCEPTED c =
-    refuses (matrix c.before.before.before.before.before.before.before) (both-sets c.before.before.before.before.before.before.before) (values c.before.before.before.before.before.before.before) (answer_second c.pattern_fault-matrix.ensures c.if-matrix-ne-ACCEPTED.false
+    refuses (matrix (entry-of-then-rows-ne-ACCEPTED c)) (both-sets (entry-of-then-rows-ne-ACCEPTED c)) (values (entry-of-then-rows-ne-ACCEPTED c)) (answer_second c.pattern_fault-matrix.ensures c.if-matrix-ne-ACCEPTED.false
     (answer_first _ c.limit_fault-rows.ensures c.if-rows-ne-ACCEPTED.true)) c.if-rows-ne-ACCEPTED.true
 
 limit_fault-columns-requires : tie.Need-limit_fault-columns-requires
@@ -78,7 +118,7 @@ limit_fault-columns-requires c κs = search rules
 returns-then-columns-ne-ACCEPTED : tie.Need-returns-then-columns-ne-ACCEPTED
 unfolding apply_fault
 returns-then-columns-ne-ACCEPTED c =
-    refuses (matrix c.before.before.before.before.before.before.before.before.before) (both-sets c.before.before.before.before.before.before.before.before.before) (values c.before.before.before.before.before.before.before.before.before)
+    refuses (matrix (entry-of-then-columns-ne-ACCEPTED c)) (both-sets (entry-of-then-columns-ne-ACCEPTED c)) (values (entry-of-then-columns-ne-ACCEPTED c))
     (answer_second c.pattern_fault-matrix.ensures c.if-matrix-ne-ACCEPTED.false
     (answer_second c.limit_fault-rows.ensures c.if-rows-ne-ACCEPTED.false (answer_first _ c.limit_fault-columns.ensures c.if-columns-ne-ACCEPTED.true))) c.if-columns-ne-ACCEPTED.true
 
@@ -91,7 +131,7 @@ shape_of-values-then-fault-ne-ACCEPTED c = search rules
 returns-then-fault-ne-ACCEPTED : tie.Need-returns-then-fault-ne-ACCEPTED
 unfolding apply_fault
 returns-then-fault-ne-ACCEPTED c =
-    refuses (matrix c.before.before.before.before.before.before.before.before.before.before.before) (both-sets c.before.before.before.before.before.before.before.before.before.before.before) (values c.before.before.before.before.before.before.before.before.before.before.before)
+    refuses (matrix (entry-of-then-fault-ne-ACCEPTED c)) (both-sets (entry-of-then-fault-ne-ACCEPTED c)) (values (entry-of-then-fault-ne-ACCEPTED c))
     (answer_second c.pattern_fault-matrix.ensures c.if-matrix-ne-ACCEPTED.false
     (answer_second c.limit_fault-rows.ensures c.if-rows-ne-ACCEPTED.false
     (answer_second c.limit_fault-columns.ensures c.if-columns-ne-ACCEPTED.false c.values_fault-fault.ensures))) c.if-fault-ne-ACCEPTED.true
@@ -104,7 +144,7 @@ shape_of-values c = search rules
 
 returns : tie.Need-returns
 returns c =
-    accepts (matrix c.before.before.before.before.before.before.before.before.before.before.before.before.before.before.before) (both-sets c.before.before.before.before.before.before.before.before.before.before.before.before.before.before.before) (values c.before.before.before.before.before.before.before.before.before.before.before.before.before.before.before) _ (no_fault c.before.before.before.before) c.scale_values.ensures
+    accepts (matrix (entry-of-slice_known-2-1 c)) (both-sets (entry-of-slice_known-2-1 c)) (values (entry-of-slice_known-2-1 c)) _ (no_fault (else-fault-ne-ACCEPTED-of-slice_known-2-1 c)) c.scale_values.ensures
 
 pub apply_exponents_spec : {M : Type 1} → statement M
 apply_exponents_spec =

@@ -25,6 +25,13 @@ invariant-loop-k row-idx row-exponents column-exponent values from to k₀ k =
 abbrev decreases-loop-k : tie.decreases-loop-k
 decreases-loop-k row-idx row-exponents column-exponent values from to k₀ k = to - k
 
+-- places of the proof, each from a later one
+abbrev loop-k-of-then-not-is_scalable : tie.Then-not-is_scalable invariant-loop-k decreases-loop-k → tie.At-loop-k invariant-loop-k decreases-loop-k
+loop-k-of-then-not-is_scalable c = c.before.before.before.before.before.before
+
+abbrev in-loop-k-of-else-not-is_scalable : tie.Else-not-is_scalable invariant-loop-k decreases-loop-k → tie.In-loop-k invariant-loop-k decreases-loop-k
+in-loop-k-of-else-not-is_scalable c = c.before.before.before.before.before
+
 -- place k is one of the places, and its row has an exponent
 facts : (c : tie.In-loop-k invariant-loop-k decreases-loop-k) → let a = c.args in let k = c.loop-k.k in
     (k < length a.row_idx.now) × (k < length a.values.now) × (get_or a.row_idx.now k 0 < length a.row_exponents.now)
@@ -92,10 +99,10 @@ returns-then-not-is_scalable c =
     tested c.before ∙ ap (λ (t : Bool). unless t value_not_normal) c.if-not-is_scalable.true in
     let f : value_not_normal ≡ column_fault a.row_idx.now a.row_exponents.now (to_z w32 (of_z w32 a.column_exponent)) a.values.now a.from a.to =
     found _ _ c.loop-k.k c.loop-k.invariant c.loop-k-test.true e (omega arith) in
-    f ∙ whole-search c.before.before.before.before.before.before
+    f ∙ whole-search (loop-k-of-then-not-is_scalable c)
 
 overflow_add-k : tie.Need-overflow_add-k invariant-loop-k decreases-loop-k
-overflow_add-k c = omega (arith, facts c.before.before.before.before.before, c.well_formed.0.1)
+overflow_add-k c = omega (arith, facts (in-loop-k-of-else-not-is_scalable c), c.well_formed.0.1)
 
 loop-k-smaller : tie.Need-loop-k-smaller invariant-loop-k decreases-loop-k
 loop-k-smaller c = omega (arith, c.loop-k-test.true)

@@ -28,6 +28,13 @@ invariant-loop-k row-idx row-exponents column-exponent values₀ from to k₀ va
 abbrev decreases-loop-k : tie.decreases-loop-k
 decreases-loop-k row-idx row-exponents column-exponent values₀ from to k₀ values k = to - k
 
+-- places of the proof, each from a later one
+abbrev loop-k-of-slice_known-in-loop-k-1 : tie.After-slice_known-in-loop-k-1 invariant-loop-k decreases-loop-k → tie.At-loop-k invariant-loop-k decreases-loop-k
+loop-k-of-slice_known-in-loop-k-1 c = c.before.before.before.before
+
+abbrev in-loop-k-of-scaled : tie.After-scaled invariant-loop-k decreases-loop-k → tie.In-loop-k invariant-loop-k decreases-loop-k
+in-loop-k-of-scaled c = c.before.before.before.before
+
 -- place k is one of the places, and its row has an exponent
 facts : (c : tie.In-loop-k invariant-loop-k decreases-loop-k) → let a = c.args in let k = c.loop-k.k in
     (k < length a.row_idx.now) × (k < length a.values.now) × (get_or a.row_idx.now k 0 < length a.row_exponents.now)
@@ -81,18 +88,18 @@ scaled-requires c κs =
     let old : get_or c.loop-k.values k 0 ≡ get_or a.values.now k 0 = c.loop-k.invariant.2.over k (le_refl k) in
     let fine = place_scalable a.row_idx.now a.row_exponents.now a.column_exponent a.values.now a.from a.to c.requires.1.1 k
     c.loop-k.invariant.0 c.loop-k-test.true in (
-      (ap within_limit (row_read c.before) ∙ c.requires.0.within _ f.2, ap within_limit (column_read c.before.before.before.before) ∙ c.requires.1.0.1.1),
-      ap₂ scalable old (ap₂ ◌+ℤ◌ (row_read c.before) (column_read c.before.before.before.before)) ∙ fine,
+      (ap within_limit (row_read c.before) ∙ c.requires.0.within _ f.2, ap within_limit (column_read (loop-k-of-slice_known-in-loop-k-1 c)) ∙ c.requires.1.0.1.1),
+      ap₂ scalable old (ap₂ ◌+ℤ◌ (row_read c.before) (column_read (loop-k-of-slice_known-in-loop-k-1 c))) ∙ fine,
     )
 
 offset_bounds-values-k-in-loop-k : tie.Need-offset_bounds-values-k-in-loop-k invariant-loop-k decreases-loop-k
-offset_bounds-values-k-in-loop-k c = omega (arith, facts c.before.before.before.before, c.well_formed.1.1.1.0.1)
+offset_bounds-values-k-in-loop-k c = omega (arith, facts (in-loop-k-of-scaled c), c.well_formed.1.1.1.0.1)
 
 bounds-values-k-in-loop-k : tie.Need-bounds-values-k-in-loop-k invariant-loop-k decreases-loop-k
-bounds-values-k-in-loop-k c = omega (arith, facts c.before.before.before.before)
+bounds-values-k-in-loop-k c = omega (arith, facts (in-loop-k-of-scaled c))
 
 overflow_add-k : tie.Need-overflow_add-k invariant-loop-k decreases-loop-k
-overflow_add-k c = omega (arith, facts c.before.before.before.before, c.well_formed.0.1)
+overflow_add-k c = omega (arith, facts (in-loop-k-of-scaled c), c.well_formed.0.1)
 
 loop-k-smaller : tie.Need-loop-k-smaller invariant-loop-k decreases-loop-k
 loop-k-smaller c = omega (arith, c.loop-k-test.true)
@@ -102,7 +109,7 @@ loop-k-preserved c =
     let a = c.args in
     let k = c.loop-k.k in
     let i = c.loop-k.invariant in
-    let f = facts c.before.before.before.before in
+    let f = facts (in-loop-k-of-scaled c) in
     let e : c.scaled.result ≡ target a.row_idx.now a.row_exponents.now (to_z w32 (of_z w32 a.column_exponent)) a.values.now k =
     c.scaled.ensures
     ∙ ap₂ (λ (v : ℕ) (z : ℤ). scaled_bits v (z +ℤ to_z w32 (of_z w32 a.column_exponent))) (i.2.over k (le_refl k)) (row_read c.before.before) in

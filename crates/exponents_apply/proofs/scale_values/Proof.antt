@@ -24,6 +24,10 @@ invariant-loop-j n col-ptr row-idx row-exponents column-exponents values₀ j₀
 abbrev decreases-loop-j : tie.decreases-loop-j
 decreases-loop-j n col-ptr row-idx row-exponents column-exponents values₀ j₀ values j = n - j
 
+-- places of the proof, each from a later one
+abbrev column_exponent-1-of-slice_known-in-loop-j-1 : tie.After-slice_known-in-loop-j-1 invariant-loop-j decreases-loop-j → tie.After-column_exponent-1 invariant-loop-j decreases-loop-j
+column_exponent-1-of-slice_known-in-loop-j-1 c = c.before.before.before.before.before.before
+
 column_read : (c : tie.After-column_exponent-1 invariant-loop-j decreases-loop-j) → let e =
     exponent_at c.args.column_exponents.now c.loop-j.j in to_z w32 (of_z w32 e) ≡ e
 column_read c = read_is (exponent_at c.args.column_exponents.now c.loop-j.j) c.column_exponent-1.given
@@ -102,7 +106,7 @@ loop-j-preserved c =
     let h = c.loop-j-test.true in
     let m = pattern a.n a.col_ptr.now a.row_idx.now in
     let e = exponents a.row_exponents.now a.column_exponents.now in
-    let read = column_read c.before.before.before.before.before.before in
+    let read = column_read (column_exponent-1-of-slice_known-in-loop-j-1 c) in
     let rises : get_or a.col_ptr.now j 0 ≤ get_or a.col_ptr.now (j + 1) 0 = rw add-one (p.columns.pointers.rises j h) in (
       omega arith,
       stretch_more rises

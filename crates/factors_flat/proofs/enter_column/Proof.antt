@@ -24,6 +24,16 @@ invariant-loop-k j col-ptr row-idx values logs factors₀ work₀ k₀ k-end fac
 abbrev decreases-loop-k : tie.decreases-loop-k
 decreases-loop-k j col-ptr row-idx values logs factors₀ work₀ k₀ k-end factors work k = get_or col-ptr (j + 1) 0 - k
 
+-- places of the proof, each from a later one
+abbrev in-loop-k-of-shared_slice_known-in-loop-k-3-1 : tie.After-shared_slice_known-in-loop-k-3-1 invariant-loop-k decreases-loop-k → tie.In-loop-k invariant-loop-k decreases-loop-k
+in-loop-k-of-shared_slice_known-in-loop-k-3-1 c = c.before.before.before.before
+
+abbrev in-loop-k-of-enter-arg-in-loop-k-1 : tie.After-enter-arg-in-loop-k-1 invariant-loop-k decreases-loop-k → tie.In-loop-k invariant-loop-k decreases-loop-k
+in-loop-k-of-enter-arg-in-loop-k-1 c = c.before.before.before.before.before.before
+
+abbrev in-loop-k-of-slice_known-in-loop-k-2-1 : tie.After-slice_known-in-loop-k-2-1 invariant-loop-k decreases-loop-k → tie.In-loop-k invariant-loop-k decreases-loop-k
+in-loop-k-of-slice_known-in-loop-k-2-1 c = c.before.before.before.before.before.before.before.before.before.before.before
+
 -- the place k stands in column j
 in_column_lem : (c : tie.In-loop-k invariant-loop-k decreases-loop-k) → let a = c.args in
     InColumn (pattern (length a.factors.now) a.col_ptr.now a.row_idx.now) a.j c.loop-k.k
@@ -134,13 +144,13 @@ offset_bounds-logs-k c = (let f = facts c.before.before.before in
 
 bounds-logs-k : tie.Need-bounds-logs-k invariant-loop-k decreases-loop-k
 bounds-logs-k c =
-    (let f = facts c.before.before.before.before in omega (arith, f.place, f.row, f.few, f.same, f.column, f.valued, f.logged, f.small))
+    (let f = facts (in-loop-k-of-shared_slice_known-in-loop-k-3-1 c) in omega (arith, f.place, f.row, f.few, f.same, f.column, f.valued, f.logged, f.small))
 
 enter-requires : tie.Need-enter-requires invariant-loop-k decreases-loop-k
 enter-requires c κs = (
   (
-    (let f = facts c.before.before.before.before.before.before in omega (arith, f.place, f.row, f.few, f.same, f.column, f.valued, f.logged, f.small)),
-    (let f = facts c.before.before.before.before.before.before in omega (
+    (let f = facts (in-loop-k-of-enter-arg-in-loop-k-1 c) in omega (arith, f.place, f.row, f.few, f.same, f.column, f.valued, f.logged, f.small)),
+    (let f = facts (in-loop-k-of-enter-arg-in-loop-k-1 c) in omega (
       arith,
       f.place,
       f.row,
@@ -152,11 +162,11 @@ enter-requires c κs = (
       f.small,
     )),
   ),
-  (let f = facts c.before.before.before.before.before.before in omega (arith, f.place, f.row, f.few, f.same, f.column, f.valued, f.logged, f.small)),
+  (let f = facts (in-loop-k-of-enter-arg-in-loop-k-1 c) in omega (arith, f.place, f.row, f.few, f.same, f.column, f.valued, f.logged, f.small)),
 )
 
 overflow_step-k-in-loop-k : tie.Need-overflow_step-k-in-loop-k invariant-loop-k decreases-loop-k
-overflow_step-k-in-loop-k c = (let f = facts c.before.before.before.before.before.before.before.before.before.before.before in omega (arith, f.place, f.row, f.few, f.same, f.column, f.valued, f.logged, f.small))
+overflow_step-k-in-loop-k c = (let f = facts (in-loop-k-of-slice_known-in-loop-k-2-1 c) in omega (arith, f.place, f.row, f.few, f.same, f.column, f.valued, f.logged, f.small))
 
 loop-k-smaller : tie.Need-loop-k-smaller invariant-loop-k decreases-loop-k
 loop-k-smaller c = omega (arith, c.loop-k-test.true)
@@ -169,7 +179,7 @@ loop-k-preserved c =
       c.enter.auto.factors ∙ c.loop-k.invariant.2,
       c.enter.auto.work ∙ c.loop-k.invariant.3,
       enters_more p.1.triangle (in_column_lem
-          c.before.before.before.before.before.before.before.before.before.before.before) c.if-values-k.false c.enter.ensures
+          (in-loop-k-of-slice_known-in-loop-k-2-1 c)) c.if-values-k.false c.enter.ensures
           c.loop-k.invariant.4,
     )
 

@@ -11,6 +11,16 @@ use Rattle.factors_flat.proofs.Numbers.{no_rule, unfit, applied, partial, refuse
 use Rattle.factors_flat.proofs.factors_by_number.Statement.{statement}
 use Rattle.factors_flat.proofs.factors_by_number.Tie as tie
 
+-- places of the proof, each from a later one
+abbrev else-number-gt1-of-in-Applied : tie.In-Applied → tie.Else-number-gt1
+else-number-gt1-of-in-Applied c = c.before.before.before.before.before.before.before.before.before.before
+
+abbrev else-number-gt1-of-in-PartialSingular : tie.In-PartialSingular → tie.Else-number-gt1
+else-number-gt1-of-in-PartialSingular c = c.before.before.before.before.before.before.before.before.before.before
+
+abbrev else-number-gt1-of-in-Refused : tie.In-Refused → tie.Else-number-gt1
+else-number-gt1-of-in-Refused c = c.before.before.before.before.before.before.before.before.before.before
+
 low : (c : tie.Else-number-gt1) → c.args.number ≤ 1
 low c = omega (arith, c.if-number-gt1.false)
 
@@ -69,7 +79,7 @@ returns-in-Applied c =
     let g = input (match_of a.perm.now a.u.now a.v.now a.cmax.now) (matrix a.n a.col_ptr.now a.row_idx.now a.values.now)
     a.logs.now in
     let s = slices a.factors.now a.work.now in
-    applied a.number a.matched g s a.unmatched.now (low c.before.before.before.before.before.before.before.before.before.before.before)
+    applied a.number a.matched g s a.unmatched.now (low (else-number-gt1-of-in-Applied c))
     c.if-unmatched-ne1.false
     c.rule_for-rule.ensures
     c.log_factors_by_rule-answer.ensures c.in-Applied.is
@@ -89,7 +99,7 @@ returns-in-PartialSingular c =
     let g = input (match_of a.perm.now a.u.now a.v.now a.cmax.now) (matrix a.n a.col_ptr.now a.row_idx.now a.values.now)
     a.logs.now in
     let s = slices a.factors.now a.work.now in
-    partial a.number a.matched g s a.unmatched.now (low c.before.before.before.before.before.before.before.before.before.before.before.before)
+    partial a.number a.matched g s a.unmatched.now (low (else-number-gt1-of-in-PartialSingular c))
     c.if-unmatched-ne1.false c.rule_for-rule.ensures
     c.log_factors_by_rule-answer.ensures c.in-PartialSingular.is
 
@@ -105,7 +115,7 @@ returns-in-Refused c =
     let g = input (match_of a.perm.now a.u.now a.v.now a.cmax.now) (matrix a.n a.col_ptr.now a.row_idx.now a.values.now)
     a.logs.now in
     let s = slices a.factors.now a.work.now in
-    refused a.number a.matched g s a.unmatched.now (low c.before.before.before.before.before.before.before.before.before.before.before.before)
+    refused a.number a.matched g s a.unmatched.now (low (else-number-gt1-of-in-Refused c))
     c.if-unmatched-ne1.false c.rule_for-rule.ensures
     c.log_factors_by_rule-answer.ensures c.in-Refused.is
 

@@ -16,6 +16,25 @@ invariant-loop-k n col_ptr rows cost u work j start end first least best₀ free
 abbrev decreases-loop-k : tie.decreases-loop-k
 decreases-loop-k n col_ptr rows cost u work j start end first least best₀ free₀ limit₀ k₀ best free limit k = end - k
 
+-- places of the proof, each from a later one
+abbrev entry-of-shared_slice_known-4-1 : tie.After-shared_slice_known-4-1 invariant-loop-k decreases-loop-k → tie.Start invariant-loop-k decreases-loop-k
+entry-of-shared_slice_known-4-1 c = c.before.before.before.before
+
+abbrev entry-of-shared_slice_known-5-1 : tie.After-shared_slice_known-5-1 invariant-loop-k decreases-loop-k → tie.Start invariant-loop-k decreases-loop-k
+entry-of-shared_slice_known-5-1 c = c.before.before.before.before.before
+
+abbrev entry-of-shared_slice_known-6-1-unread : tie.After-shared_slice_known-6-1-unread invariant-loop-k decreases-loop-k → tie.Start invariant-loop-k decreases-loop-k
+entry-of-shared_slice_known-6-1-unread c = c.before.before.before.before.before.before
+
+abbrev entry-of-shared_slice_known-6-1 : tie.After-shared_slice_known-6-1 invariant-loop-k decreases-loop-k → tie.Start invariant-loop-k decreases-loop-k
+entry-of-shared_slice_known-6-1 c = c.before.before.before.before.before.before
+
+abbrev in-loop-k-of-shared_slice_known-in-loop-k-4-1-unread : tie.After-shared_slice_known-in-loop-k-4-1-unread invariant-loop-k decreases-loop-k → tie.In-loop-k invariant-loop-k decreases-loop-k
+in-loop-k-of-shared_slice_known-in-loop-k-4-1-unread c = c.before.before.before.before
+
+abbrev in-loop-k-of-joined-best-value : tie.Joined-best-value invariant-loop-k decreases-loop-k → tie.In-loop-k invariant-loop-k decreases-loop-k
+in-loop-k-of-joined-best-value c = c.before.before.before.before.before.before.before
+
 first-in : (c : tie.Start invariant-loop-k decreases-loop-k) → (get_or c.args.col_ptr.now c.args.j 0 < length c.args.row_idx.now)
     × (get_or c.args.row_idx.now (get_or c.args.col_ptr.now c.args.j 0) 0 < c.args.n)
 first-in c = entry_in _ _ _ c.requires.0.sound c.requires.1.0 c.requires.1.1
@@ -60,22 +79,22 @@ offset_bounds-cost-start : tie.Need-offset_bounds-cost-start invariant-loop-k de
 offset_bounds-cost-start c = omega (arith, first-in c.before.before.before)
 
 bounds-cost-start : tie.Need-bounds-cost-start invariant-loop-k decreases-loop-k
-bounds-cost-start c = omega (arith, first-in c.before.before.before.before)
+bounds-cost-start c = omega (arith, first-in (entry-of-shared_slice_known-4-1 c))
 
 offset_bounds-u-first : tie.Need-offset_bounds-u-first invariant-loop-k decreases-loop-k
-offset_bounds-u-first c = omega (arith, first-in c.before.before.before.before)
+offset_bounds-u-first c = omega (arith, first-in (entry-of-shared_slice_known-4-1 c))
 
 bounds-u-first : tie.Need-bounds-u-first invariant-loop-k decreases-loop-k
-bounds-u-first c = omega (arith, first-in c.before.before.before.before.before)
+bounds-u-first c = omega (arith, first-in (entry-of-shared_slice_known-5-1 c))
 
 offset_bounds-work-first : tie.Need-offset_bounds-work-first invariant-loop-k decreases-loop-k
-offset_bounds-work-first c = omega (arith, first-in c.before.before.before.before.before)
+offset_bounds-work-first c = omega (arith, first-in (entry-of-shared_slice_known-5-1 c))
 
 bounds-work-first : tie.Need-bounds-work-first invariant-loop-k decreases-loop-k
-bounds-work-first c = omega (arith, first-in c.before.before.before.before.before.before)
+bounds-work-first c = omega (arith, first-in (entry-of-shared_slice_known-6-1-unread c))
 
 overflow_step-k : tie.Need-overflow_step-k invariant-loop-k decreases-loop-k
-overflow_step-k c = omega (arith, first-in c.before.before.before.before.before.before)
+overflow_step-k c = omega (arith, first-in (entry-of-shared_slice_known-6-1 c))
 
 loop-k-init : tie.Need-loop-k-init invariant-loop-k decreases-loop-k
 loop-k-init c = let pre = c.requires in choosing_start pre.0.sound pre.1.0 _ _ pre.1.1
@@ -105,10 +124,10 @@ offset_bounds-work-row : tie.Need-offset_bounds-work-row invariant-loop-k decrea
 offset_bounds-work-row c = omega (arith, inside c.before.before.before)
 
 bounds-work-row : tie.Need-bounds-work-row invariant-loop-k decreases-loop-k
-bounds-work-row c = omega (arith, inside c.before.before.before.before)
+bounds-work-row c = omega (arith, inside (in-loop-k-of-shared_slice_known-in-loop-k-4-1-unread c))
 
 overflow_step-k-in-loop-k : tie.Need-overflow_step-k-in-loop-k invariant-loop-k decreases-loop-k
-overflow_step-k-in-loop-k c = omega (arith, inside c.before.before.before.before.before.before.before)
+overflow_step-k-in-loop-k c = omega (arith, inside (in-loop-k-of-joined-best-value c))
 
 loop-k-smaller : tie.Need-loop-k-smaller invariant-loop-k decreases-loop-k
 loop-k-smaller c = omega arith

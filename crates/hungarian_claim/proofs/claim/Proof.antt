@@ -8,6 +8,22 @@ use Rattle.hungarian_claim.proofs.Claims.{column_range, claimed_bare, claimed_he
 use Rattle.hungarian_claim.proofs.claim.Statement.{statement}
 use Rattle.hungarian_claim.proofs.claim.Tie as tie
 
+-- places of the proof, each from a later one
+abbrev else-column-of-shared_slice_known-2-1-unread : tie.After-shared_slice_known-2-1-unread → tie.Else-column
+else-column-of-shared_slice_known-2-1-unread c = c.before.before.before.before
+
+abbrev else-column-of-shared_slice_known-2-1 : tie.After-shared_slice_known-2-1 → tie.Else-column
+else-column-of-shared_slice_known-2-1 c = c.before.before.before.before
+
+abbrev else-column-of-else-col_len-n : tie.Else-col_len-n → tie.Else-column
+else-column-of-else-col_len-n c = c.before.before.before.before.before
+
+abbrev else-column-of-slice_known-3-1-unread : tie.After-slice_known-3-1-unread → tie.Else-column
+else-column-of-slice_known-3-1-unread c = c.before.before.before.before.before.before
+
+abbrev else-column-of-slice_known-3-1 : tie.After-slice_known-3-1 → tie.Else-column
+else-column-of-slice_known-3-1 c = c.before.before.before.before.before.before
+
 column-in : (c : tie.Else-column) → get_or c.args.work.now c.args.i 0 < c.args.n
 column-in c = column_range c.requires.0 c.requires.1.0 c.if-column.false
 
@@ -59,10 +75,10 @@ offset_bounds-col_ptr-j-2 : tie.Need-offset_bounds-col_ptr-j-2
 offset_bounds-col_ptr-j-2 c = omega (arith, column-in c.before.before.before)
 
 bounds-col_ptr-j-2 : tie.Need-bounds-col_ptr-j-2
-bounds-col_ptr-j-2 c = omega (arith, column-in c.before.before.before.before)
+bounds-col_ptr-j-2 c = omega (arith, column-in (else-column-of-shared_slice_known-2-1-unread c))
 
 overflow_sub-col_len : tie.Need-overflow_sub-col_len
-overflow_sub-col_len c = rw add-one (c.requires.0.rises _ (column-in c.before.before.before.before))
+overflow_sub-col_len c = rw add-one (c.requires.0.rises _ (column-in (else-column-of-shared_slice_known-2-1 c)))
 
 overflow_cast-col_len : tie.Need-overflow_cast-col_len
 overflow_cast-col_len c =
@@ -81,7 +97,7 @@ offset_bounds-work-i-3 : tie.Need-offset_bounds-work-i-3
 offset_bounds-work-i-3 c = omega arith
 
 bounds-work-i-3 : tie.Need-bounds-work-i-3
-bounds-work-i-3 c = simp length-set (omega (arith, column-in c.before.before.before.before.before))
+bounds-work-i-3 c = simp length-set (omega (arith, column-in (else-column-of-else-col_len-n c)))
 
 overflow_mul-work : tie.Need-overflow_mul-work
 overflow_mul-work c = omega arith
@@ -93,16 +109,16 @@ offset_bounds-work-n-2 : tie.Need-offset_bounds-work-n-2
 offset_bounds-work-n-2 c = omega arith
 
 bounds-work-n-2 : tie.Need-bounds-work-n-2
-bounds-work-n-2 c = simp length-set (omega (arith, column-in c.before.before.before.before.before.before))
+bounds-work-n-2 c = simp length-set (omega (arith, column-in (else-column-of-slice_known-3-1-unread c)))
 
 overflow_add-work-2 : tie.Need-overflow_add-work-2
-overflow_add-work-2 c = omega (arith, column-in c.before.before.before.before.before.before)
+overflow_add-work-2 c = omega (arith, column-in (else-column-of-slice_known-3-1 c))
 
 offset_bounds-work-n-3 : tie.Need-offset_bounds-work-n-3
-offset_bounds-work-n-3 c = omega (arith, column-in c.before.before.before.before.before.before)
+offset_bounds-work-n-3 c = omega (arith, column-in (else-column-of-slice_known-3-1 c))
 
 bounds-work-n-3 : tie.Need-bounds-work-n-3
-bounds-work-n-3 c = simp length-set (omega (arith, column-in c.before.before.before.before.before.before))
+bounds-work-n-3 c = simp length-set (omega (arith, column-in (else-column-of-slice_known-3-1 c)))
 
 overflow_add-result : tie.Need-overflow_add-result
 overflow_add-result c = omega arith

@@ -15,6 +15,25 @@ invariant-loop-k n col_ptr rows cost u₀ work₀ j least start end k₀ u work 
 abbrev decreases-loop-k : tie.decreases-loop-k
 decreases-loop-k n col_ptr rows cost u₀ work₀ j least start end k₀ u work k = end - k
 
+-- places of the proof, each from a later one
+abbrev in-loop-k-of-shared_slice_known-in-loop-k-2-1 : tie.After-shared_slice_known-in-loop-k-2-1 invariant-loop-k decreases-loop-k → tie.In-loop-k invariant-loop-k decreases-loop-k
+in-loop-k-of-shared_slice_known-in-loop-k-2-1 c = c.before.before.before.before
+
+abbrev in-loop-k-of-slice_known-in-loop-k-3-1 : tie.After-slice_known-in-loop-k-3-1 invariant-loop-k decreases-loop-k → tie.In-loop-k invariant-loop-k decreases-loop-k
+in-loop-k-of-slice_known-in-loop-k-3-1 c = c.before.before.before.before.before
+
+abbrev in-loop-k-of-lower-lowest : tie.After-lower-lowest invariant-loop-k decreases-loop-k → tie.In-loop-k invariant-loop-k decreases-loop-k
+in-loop-k-of-lower-lowest c = c.before.before.before.before.before.before
+
+abbrev in-loop-k-of-shared_slice_known-in-loop-k-3-1 : tie.After-shared_slice_known-in-loop-k-3-1 invariant-loop-k decreases-loop-k → tie.In-loop-k invariant-loop-k decreases-loop-k
+in-loop-k-of-shared_slice_known-in-loop-k-3-1 c = c.before.before.before.before.before.before.before
+
+abbrev in-loop-k-of-picked : tie.After-picked invariant-loop-k decreases-loop-k → tie.In-loop-k invariant-loop-k decreases-loop-k
+in-loop-k-of-picked c = c.before.before.before.before.before.before.before.before
+
+abbrev in-loop-k-of-picked-in-loop-k : tie.After-picked-in-loop-k invariant-loop-k decreases-loop-k → tie.In-loop-k invariant-loop-k decreases-loop-k
+in-loop-k-of-picked-in-loop-k c = c.before.before.before.before.before.before.before.before.before
+
 inside : (c : tie.In-loop-k invariant-loop-k decreases-loop-k) → (c.loop-k.k < length c.args.row_idx.now)
     × (get_or c.args.row_idx.now c.loop-k.k 0 < c.args.n)
 inside c =
@@ -76,58 +95,58 @@ offset_bounds-cost-k : tie.Need-offset_bounds-cost-k invariant-loop-k decreases-
 offset_bounds-cost-k c = omega (arith, inside c.before.before.before)
 
 bounds-cost-k : tie.Need-bounds-cost-k invariant-loop-k decreases-loop-k
-bounds-cost-k c = omega (arith, inside c.before.before.before.before)
+bounds-cost-k c = omega (arith, inside (in-loop-k-of-shared_slice_known-in-loop-k-2-1 c))
 
 offset_bounds-u-i : tie.Need-offset_bounds-u-i invariant-loop-k decreases-loop-k
-offset_bounds-u-i c = omega (arith, inside c.before.before.before.before)
+offset_bounds-u-i c = omega (arith, inside (in-loop-k-of-shared_slice_known-in-loop-k-2-1 c))
 
 bounds-u-i : tie.Need-bounds-u-i invariant-loop-k decreases-loop-k
-bounds-u-i c = omega (arith, inside c.before.before.before.before.before)
+bounds-u-i c = omega (arith, inside (in-loop-k-of-slice_known-in-loop-k-3-1 c))
 
 lower-lowest-requires : tie.Need-lower-lowest-requires invariant-loop-k decreases-loop-k
 lower-lowest-requires c κs = tt
 
 offset_bounds-cost-k-in-loop-k : tie.Need-offset_bounds-cost-k-in-loop-k invariant-loop-k decreases-loop-k
-offset_bounds-cost-k-in-loop-k c = omega (arith, inside c.before.before.before.before.before.before)
+offset_bounds-cost-k-in-loop-k c = omega (arith, inside (in-loop-k-of-lower-lowest c))
 
 bounds-cost-k-in-loop-k : tie.Need-bounds-cost-k-in-loop-k invariant-loop-k decreases-loop-k
-bounds-cost-k-in-loop-k c = omega (arith, inside c.before.before.before.before.before.before.before)
+bounds-cost-k-in-loop-k c = omega (arith, inside (in-loop-k-of-shared_slice_known-in-loop-k-3-1 c))
 
 offset_bounds-u-i-in-loop-k : tie.Need-offset_bounds-u-i-in-loop-k invariant-loop-k decreases-loop-k
-offset_bounds-u-i-in-loop-k c = omega (arith, inside c.before.before.before.before.before.before.before)
+offset_bounds-u-i-in-loop-k c = omega (arith, inside (in-loop-k-of-shared_slice_known-in-loop-k-3-1 c))
 
 bounds-u-i-in-loop-k : tie.Need-bounds-u-i-in-loop-k invariant-loop-k decreases-loop-k
-bounds-u-i-in-loop-k c = omega (arith, inside c.before.before.before.before.before.before.before)
+bounds-u-i-in-loop-k c = omega (arith, inside (in-loop-k-of-shared_slice_known-in-loop-k-3-1 c))
 
 overflow_cast-j : tie.Need-overflow_cast-j invariant-loop-k decreases-loop-k
-overflow_cast-j c = omega (arith, inside c.before.before.before.before.before.before.before)
+overflow_cast-j c = omega (arith, inside (in-loop-k-of-shared_slice_known-in-loop-k-3-1 c))
 
 picked-requires : tie.Need-picked-requires invariant-loop-k decreases-loop-k
 picked-requires c κs = tt
 
 offset_bounds-work-i-in-loop-k : tie.Need-offset_bounds-work-i-in-loop-k invariant-loop-k decreases-loop-k
-offset_bounds-work-i-in-loop-k c = omega (arith, inside c.before.before.before.before.before.before.before.before)
+offset_bounds-work-i-in-loop-k c = omega (arith, inside (in-loop-k-of-picked c))
 
 bounds-work-i-in-loop-k : tie.Need-bounds-work-i-in-loop-k invariant-loop-k decreases-loop-k
-bounds-work-i-in-loop-k c = omega (arith, inside c.before.before.before.before.before.before.before.before)
+bounds-work-i-in-loop-k c = omega (arith, inside (in-loop-k-of-picked c))
 
 overflow_cast-k : tie.Need-overflow_cast-k invariant-loop-k decreases-loop-k
-overflow_cast-k c = omega (arith, inside c.before.before.before.before.before.before.before.before)
+overflow_cast-k c = omega (arith, inside (in-loop-k-of-picked c))
 
 picked-requires-in-loop-k : tie.Need-picked-requires-in-loop-k invariant-loop-k decreases-loop-k
 picked-requires-in-loop-k c κs = tt
 
 overflow_add-work : tie.Need-overflow_add-work invariant-loop-k decreases-loop-k
-overflow_add-work c = omega (arith, inside c.before.before.before.before.before.before.before.before.before)
+overflow_add-work c = omega (arith, inside (in-loop-k-of-picked-in-loop-k c))
 
 offset_bounds-work-least-in-loop-k : tie.Need-offset_bounds-work-least-in-loop-k invariant-loop-k decreases-loop-k
-offset_bounds-work-least-in-loop-k c = omega (arith, inside c.before.before.before.before.before.before.before.before.before)
+offset_bounds-work-least-in-loop-k c = omega (arith, inside (in-loop-k-of-picked-in-loop-k c))
 
 bounds-work-least-in-loop-k : tie.Need-bounds-work-least-in-loop-k invariant-loop-k decreases-loop-k
-bounds-work-least-in-loop-k c = simp length-set (omega (arith, inside c.before.before.before.before.before.before.before.before.before))
+bounds-work-least-in-loop-k c = simp length-set (omega (arith, inside (in-loop-k-of-picked-in-loop-k c)))
 
 overflow_step-k : tie.Need-overflow_step-k invariant-loop-k decreases-loop-k
-overflow_step-k c = omega (arith, inside c.before.before.before.before.before.before.before.before.before)
+overflow_step-k c = omega (arith, inside (in-loop-k-of-picked-in-loop-k c))
 
 loop-k-smaller : tie.Need-loop-k-smaller invariant-loop-k decreases-loop-k
 loop-k-smaller c = omega arith

@@ -36,6 +36,49 @@ invariant-improve_assign n col_ptr rows cost u work₀ fwork₀ matched from num
 abbrev decreases-improve_assign : tie.decreases-improve_assign
 decreases-improve_assign n col_ptr rows cost u work₀ fwork₀ matched from num₀ stats₀ j₀ work fwork num stats j = n - j
 
+-- places of the proof, each from a later one
+abbrev in-loop-k-of-else-work-i : tie.Else-work-i invariant-loop-kk decreases-loop-kk invariant-loop-k decreases-loop-k invariant-improve_assign decreases-improve_assign → tie.In-loop-k invariant-loop-kk decreases-loop-kk invariant-loop-k decreases-loop-k invariant-improve_assign decreases-improve_assign
+in-loop-k-of-else-work-i c = c.before.before.before.before.before.before
+
+abbrev in-loop-k-of-joined-then-cost-k : tie.Joined-then-cost-k invariant-loop-kk decreases-loop-kk invariant-loop-k decreases-loop-k invariant-improve_assign decreases-improve_assign → tie.In-loop-k invariant-loop-kk decreases-loop-kk invariant-loop-k decreases-loop-k invariant-improve_assign decreases-improve_assign
+in-loop-k-of-joined-then-cost-k c = c.before.before.before.before
+
+abbrev in-loop-k-of-slice_known-in-loop-k-2-1 : tie.After-slice_known-in-loop-k-2-1 invariant-loop-kk decreases-loop-kk invariant-loop-k decreases-loop-k invariant-improve_assign decreases-improve_assign → tie.In-loop-k invariant-loop-kk decreases-loop-kk invariant-loop-k decreases-loop-k invariant-improve_assign decreases-improve_assign
+in-loop-k-of-slice_known-in-loop-k-2-1 c = c.before.before.before.before.before.before.before.before.before
+
+abbrev in-loop-k-of-in-loop-kk : tie.In-loop-kk invariant-loop-kk decreases-loop-kk invariant-loop-k decreases-loop-k invariant-improve_assign decreases-improve_assign → tie.In-loop-k invariant-loop-kk decreases-loop-kk invariant-loop-k decreases-loop-k invariant-improve_assign decreases-improve_assign
+in-loop-k-of-in-loop-kk c = c.before.before.before.before.before.before.before.before.before.before.before
+
+abbrev in-loop-kk-of-pair_and_advance-arg-then-cost-kk-1 : tie.After-pair_and_advance-arg-then-cost-kk-1 invariant-loop-kk decreases-loop-kk invariant-loop-k decreases-loop-k invariant-improve_assign decreases-improve_assign → tie.In-loop-kk invariant-loop-kk decreases-loop-kk invariant-loop-k decreases-loop-k invariant-improve_assign decreases-improve_assign
+in-loop-kk-of-pair_and_advance-arg-then-cost-kk-1 c = c.before.before.before.before.before.before.before.before.before
+
+abbrev in-loop-k-of-pair_and_advance-arg-then-cost-kk-2-1 : tie.After-pair_and_advance-arg-then-cost-kk-2-1 invariant-loop-kk decreases-loop-kk invariant-loop-k decreases-loop-k invariant-improve_assign decreases-improve_assign → tie.In-loop-k invariant-loop-kk decreases-loop-kk invariant-loop-k decreases-loop-k invariant-improve_assign decreases-improve_assign
+in-loop-k-of-pair_and_advance-arg-then-cost-kk-2-1 c = c.before.before.before.before.before.before.before.before.before.before.before.before.before.before.before.before.before.before.before.before.before.before.before.before
+
+abbrev in-loop-k-of-else-cost-k : tie.Else-cost-k invariant-loop-kk decreases-loop-kk invariant-loop-k decreases-loop-k invariant-improve_assign decreases-improve_assign → tie.In-loop-k invariant-loop-kk decreases-loop-kk invariant-loop-k decreases-loop-k invariant-improve_assign decreases-improve_assign
+in-loop-k-of-else-cost-k c = c.before.before.before.before
+
+abbrev in-loop-k-of-slice_known-else-cost-k-1-unread : tie.After-slice_known-else-cost-k-1-unread invariant-loop-kk decreases-loop-kk invariant-loop-k decreases-loop-k invariant-improve_assign decreases-improve_assign → tie.In-loop-k invariant-loop-kk decreases-loop-kk invariant-loop-k decreases-loop-k invariant-improve_assign decreases-improve_assign
+in-loop-k-of-slice_known-else-cost-k-1-unread c = c.before.before.before.before.before
+
+abbrev in-loop-k-of-slice_known-in-loop-k-1-unread : tie.After-slice_known-in-loop-k-1-unread invariant-loop-kk decreases-loop-kk invariant-loop-k decreases-loop-k invariant-improve_assign decreases-improve_assign → tie.In-loop-k invariant-loop-kk decreases-loop-kk invariant-loop-k decreases-loop-k invariant-improve_assign decreases-improve_assign
+in-loop-k-of-slice_known-in-loop-k-1-unread c = c.before.before.before.before.before.before.before
+
+abbrev in-loop-kk-of-then-work-ii : tie.Then-work-ii invariant-loop-kk decreases-loop-kk invariant-loop-k decreases-loop-k invariant-improve_assign decreases-improve_assign → tie.In-loop-kk invariant-loop-kk decreases-loop-kk invariant-loop-k decreases-loop-k invariant-improve_assign decreases-improve_assign
+in-loop-kk-of-then-work-ii c = c.before.before.before.before
+
+abbrev in-loop-kk-of-shared_slice_known-then-work-ii-1 : tie.After-shared_slice_known-then-work-ii-1 invariant-loop-kk decreases-loop-kk invariant-loop-k decreases-loop-k invariant-improve_assign decreases-improve_assign → tie.In-loop-kk invariant-loop-kk decreases-loop-kk invariant-loop-k decreases-loop-k invariant-improve_assign decreases-improve_assign
+in-loop-kk-of-shared_slice_known-then-work-ii-1 c = c.before.before.before.before.before
+
+abbrev in-loop-kk-of-shared_slice_known-then-work-ii-2-1 : tie.After-shared_slice_known-then-work-ii-2-1 invariant-loop-kk decreases-loop-kk invariant-loop-k decreases-loop-k invariant-improve_assign decreases-improve_assign → tie.In-loop-kk invariant-loop-kk decreases-loop-kk invariant-loop-k decreases-loop-k invariant-improve_assign decreases-improve_assign
+in-loop-kk-of-shared_slice_known-then-work-ii-2-1 c = c.before.before.before.before.before.before
+
+abbrev in-loop-kk-of-joined-else-work-ii : tie.Joined-else-work-ii invariant-loop-kk decreases-loop-kk invariant-loop-k decreases-loop-k invariant-improve_assign decreases-improve_assign → tie.In-loop-kk invariant-loop-kk decreases-loop-kk invariant-loop-k decreases-loop-k invariant-improve_assign decreases-improve_assign
+in-loop-kk-of-joined-else-work-ii c = c.before.before.before.before
+
+abbrev in-loop-k-of-loop-kk : tie.After-loop-kk invariant-loop-kk decreases-loop-kk invariant-loop-k decreases-loop-k invariant-improve_assign decreases-improve_assign → tie.In-loop-k invariant-loop-kk decreases-loop-kk invariant-loop-k decreases-loop-k invariant-improve_assign decreases-improve_assign
+in-loop-k-of-loop-kk c = c.before.before.before.before.before.before.before.before.before.before.before
+
 -- a place or a need of this proof, at its invariants and measures
 best-in : (c : tie.After-best_of-best invariant-loop-kk decreases-loop-kk invariant-loop-k decreases-loop-k invariant-improve_assign decreases-improve_assign) → (c.best_of-best.result.place < 262144) × (c.best_of-best.result.row < c.args.n)
 best-in c = let args = c.args in (
@@ -59,7 +102,7 @@ inside c = let pre = c.requires in readable _ _ _ _ pre.sound pre.dual_count c.l
 
 other-in : (c : tie.Else-work-i invariant-loop-kk decreases-loop-kk invariant-loop-k decreases-loop-k invariant-improve_assign decreases-improve_assign) → let a = c.args in let l = c.loop-k in
     get_or l.work (get_or a.row_idx.now l.k 0) 0 < a.n
-other-in c = other_range c.requires.sound c.loop-k.invariant.1 (place_in c.before.before.before.before.before.before)
+other-in c = other_range c.requires.sound c.loop-k.invariant.1 (place_in (in-loop-k-of-else-work-i c))
     c.if-cost-k.false (eqb-false _ _ c.if-work-i.false)
 
 inside_other : (c : tie.In-loop-kk invariant-loop-kk decreases-loop-kk invariant-loop-k decreases-loop-k invariant-improve_assign decreases-improve_assign) → let a = c.args in
@@ -115,7 +158,7 @@ loop-k-preserved-then-cost-k : tie.Need-loop-k-preserved-then-cost-k invariant-l
 loop-k-preserved-then-cost-k c = (
   c.loop-k.invariant.0,
   middle_skip c.requires.sound c.loop-k.invariant.1
-      (place_in c.before.before.before.before) (⊎_elim (λ t. inl t.taken) (λ t. inr (t.0.left, eqb-true _ _ t.2.taken)) c.then-cost-k.branch),
+      (place_in (in-loop-k-of-joined-then-cost-k c)) (⊎_elim (λ t. inl t.taken) (λ t. inr (t.0.left, eqb-true _ _ t.2.taken)) c.then-cost-k.branch),
 )
 
 overflow_cast-search_from : tie.Need-overflow_cast-search_from invariant-loop-kk decreases-loop-kk invariant-loop-k decreases-loop-k invariant-improve_assign decreases-improve_assign
@@ -130,12 +173,12 @@ loop-kk-init : tie.Need-loop-kk-init invariant-loop-kk decreases-loop-kk invaria
 loop-kk-init c = (
   refl,
   middle_seeks c.requires.sound c.loop-k.invariant.1
-      (place_in c.before.before.before.before.before.before.before.before.before) c.if-cost-k.false (eqb-false _ _ c.if-work-i.false),
+      (place_in (in-loop-k-of-slice_known-in-loop-k-2-1 c)) c.if-cost-k.false (eqb-false _ _ c.if-work-i.false),
 )
 
 inner_step-stats-requires : tie.Need-inner_step-stats-requires invariant-loop-kk decreases-loop-kk invariant-loop-k decreases-loop-k invariant-improve_assign decreases-improve_assign
 inner_step-stats-requires c κs =
-    omega (arith, c.loop-kk.invariant.1.steps, c.loop-kk.invariant.1.column, inside c.before.before.before.before.before.before.before.before.before.before.before)
+    omega (arith, c.loop-kk.invariant.1.steps, c.loop-kk.invariant.1.column, inside (in-loop-k-of-in-loop-kk c))
 
 bounds-fwork-n-then-work-ii : tie.Need-bounds-fwork-n-then-work-ii invariant-loop-kk decreases-loop-kk invariant-loop-k decreases-loop-k invariant-improve_assign decreases-improve_assign
 bounds-fwork-n-then-work-ii c = omega
@@ -157,8 +200,8 @@ pair_and_advance-requires-then-cost-kk c κs = (
         c.requires.sound.few_columns;
   },
   (
-    (inside_other c.before.before.before.before.before.before.before.before.before).row,
-    (c.loop-kk.invariant.1.other, (inside_other c.before.before.before.before.before.before.before.before.before).small),
+    (inside_other (in-loop-kk-of-pair_and_advance-arg-then-cost-kk-1 c)).row,
+    (c.loop-kk.invariant.1.other, (inside_other (in-loop-kk-of-pair_and_advance-arg-then-cost-kk-1 c)).small),
   ),
 )
 
@@ -169,10 +212,10 @@ pair_and_advance-requires-then-cost-kk-2 c κs = (
     small = c.requires.sound.few_columns;
   },
   (
-    (inside c.before.before.before.before.before.before.before.before.before.before.before.before.before.before.before.before.before.before.before.before.before.before.before.before).row,
+    (inside (in-loop-k-of-pair_and_advance-arg-then-cost-kk-2-1 c)).row,
     (
       omega (arith, c.loop-kk.invariant.1.column, c.loop-kk.invariant.1.other),
-      (inside c.before.before.before.before.before.before.before.before.before.before.before.before.before.before.before.before.before.before.before.before.before.before.before.before).small,
+      (inside (in-loop-k-of-pair_and_advance-arg-then-cost-kk-2-1 c)).small,
     ),
   ),
 )
@@ -303,22 +346,22 @@ bounds-u-i : tie.Need-bounds-u-i invariant-loop-kk decreases-loop-kk invariant-l
 bounds-u-i c = omega (arith, inside c.before.before.before)
 
 offset_bounds-work-i : tie.Need-offset_bounds-work-i invariant-loop-kk decreases-loop-kk invariant-loop-k decreases-loop-k invariant-improve_assign decreases-improve_assign
-offset_bounds-work-i c = omega (arith, inside c.before.before.before.before)
+offset_bounds-work-i c = omega (arith, inside (in-loop-k-of-else-cost-k c))
 
 bounds-work-i : tie.Need-bounds-work-i invariant-loop-kk decreases-loop-kk invariant-loop-k decreases-loop-k invariant-improve_assign decreases-improve_assign
-bounds-work-i c = omega (arith, inside c.before.before.before.before.before)
+bounds-work-i c = omega (arith, inside (in-loop-k-of-slice_known-else-cost-k-1-unread c))
 
 overflow_step-k : tie.Need-overflow_step-k invariant-loop-kk decreases-loop-kk invariant-loop-k decreases-loop-k invariant-improve_assign decreases-improve_assign
-overflow_step-k c = omega (arith, inside c.before.before.before.before)
+overflow_step-k c = omega (arith, inside (in-loop-k-of-joined-then-cost-k c))
 
 loop-k-smaller-then-cost-k : tie.Need-loop-k-smaller-then-cost-k invariant-loop-kk decreases-loop-kk invariant-loop-k decreases-loop-k invariant-improve_assign decreases-improve_assign
 loop-k-smaller-then-cost-k c = omega arith
 
 offset_bounds-work-i-in-loop-k : tie.Need-offset_bounds-work-i-in-loop-k invariant-loop-kk decreases-loop-kk invariant-loop-k decreases-loop-k invariant-improve_assign decreases-improve_assign
-offset_bounds-work-i-in-loop-k c = omega (arith, inside c.before.before.before.before.before.before)
+offset_bounds-work-i-in-loop-k c = omega (arith, inside (in-loop-k-of-else-work-i c))
 
 bounds-work-i-in-loop-k : tie.Need-bounds-work-i-in-loop-k invariant-loop-kk decreases-loop-kk invariant-loop-k decreases-loop-k invariant-improve_assign decreases-improve_assign
-bounds-work-i-in-loop-k c = omega (arith, inside c.before.before.before.before.before.before.before)
+bounds-work-i-in-loop-k c = omega (arith, inside (in-loop-k-of-slice_known-in-loop-k-1-unread c))
 
 overflow_cast-jj : tie.Need-overflow_cast-jj invariant-loop-kk decreases-loop-kk invariant-loop-k decreases-loop-k invariant-improve_assign decreases-improve_assign
 overflow_cast-jj c = omega (arith, other-in c.before)
@@ -360,16 +403,16 @@ bounds-work-ii : tie.Need-bounds-work-ii invariant-loop-kk decreases-loop-kk inv
 bounds-work-ii c = omega (arith, inside_other c.before.before.before)
 
 offset_bounds-cost-kk : tie.Need-offset_bounds-cost-kk invariant-loop-kk decreases-loop-kk invariant-loop-k decreases-loop-k invariant-improve_assign decreases-improve_assign
-offset_bounds-cost-kk c = omega (arith, inside_other c.before.before.before.before)
+offset_bounds-cost-kk c = omega (arith, inside_other (in-loop-kk-of-then-work-ii c))
 
 bounds-cost-kk : tie.Need-bounds-cost-kk invariant-loop-kk decreases-loop-kk invariant-loop-k decreases-loop-k invariant-improve_assign decreases-improve_assign
-bounds-cost-kk c = omega (arith, inside_other c.before.before.before.before.before)
+bounds-cost-kk c = omega (arith, inside_other (in-loop-kk-of-shared_slice_known-then-work-ii-1 c))
 
 offset_bounds-u-ii : tie.Need-offset_bounds-u-ii invariant-loop-kk decreases-loop-kk invariant-loop-k decreases-loop-k invariant-improve_assign decreases-improve_assign
-offset_bounds-u-ii c = omega (arith, inside_other c.before.before.before.before.before)
+offset_bounds-u-ii c = omega (arith, inside_other (in-loop-kk-of-shared_slice_known-then-work-ii-1 c))
 
 bounds-u-ii : tie.Need-bounds-u-ii invariant-loop-kk decreases-loop-kk invariant-loop-k decreases-loop-k invariant-improve_assign decreases-improve_assign
-bounds-u-ii c = omega (arith, inside_other c.before.before.before.before.before.before)
+bounds-u-ii c = omega (arith, inside_other (in-loop-kk-of-shared_slice_known-then-work-ii-2-1 c))
 
 overflow_add-n-then-work-ii : tie.Need-overflow_add-n-then-work-ii invariant-loop-kk decreases-loop-kk invariant-loop-k decreases-loop-k invariant-improve_assign decreases-improve_assign
 overflow_add-n-then-work-ii c = omega (arith, c.loop-kk.invariant.1.other, c.requires.sound.few_columns)
@@ -381,7 +424,7 @@ overflow_step-j-then-cost-kk : tie.Need-overflow_step-j-then-cost-kk invariant-l
 overflow_step-j-then-cost-kk c = omega (arith, c.loop-kk.invariant.1.column, c.requires.sound.few_columns)
 
 overflow_step-kk : tie.Need-overflow_step-kk invariant-loop-kk decreases-loop-kk invariant-loop-k decreases-loop-k invariant-improve_assign decreases-improve_assign
-overflow_step-kk c = omega (arith, inside_other c.before.before.before.before)
+overflow_step-kk c = omega (arith, inside_other (in-loop-kk-of-joined-else-work-ii c))
 
 loop-kk-smaller : tie.Need-loop-kk-smaller invariant-loop-kk decreases-loop-kk invariant-loop-k decreases-loop-k invariant-improve_assign decreases-improve_assign
 loop-kk-smaller c = omega arith
@@ -399,7 +442,7 @@ bounds-work-from-in-loop-k : tie.Need-bounds-work-from-in-loop-k invariant-loop-
 bounds-work-from-in-loop-k c = omega (arith, c.loop-kk.invariant.1.other, c.loop-kk.invariant.1.memory.words)
 
 overflow_step-k-in-loop-k : tie.Need-overflow_step-k-in-loop-k invariant-loop-kk decreases-loop-kk invariant-loop-k decreases-loop-k invariant-improve_assign decreases-improve_assign
-overflow_step-k-in-loop-k c = omega (arith, inside c.before.before.before.before.before.before.before.before.before.before.before)
+overflow_step-k-in-loop-k c = omega (arith, inside (in-loop-k-of-loop-kk c))
 
 loop-k-smaller : tie.Need-loop-k-smaller invariant-loop-kk decreases-loop-kk invariant-loop-k decreases-loop-k invariant-improve_assign decreases-improve_assign
 loop-k-smaller c = omega arith

@@ -9,6 +9,13 @@ use Rattle.hungarian_init.proofs.Begins.{sound, claimable, begun_early, improvab
 use Rattle.hungarian_init.proofs.start.Statement.{statement}
 use Rattle.hungarian_init.proofs.start.Tie as tie
 
+-- places of the proof, each from a later one
+abbrev slice_known-3-1-of-prepare-arg-2-1 : tie.After-prepare-arg-2-1 → tie.After-slice_known-3-1
+slice_known-3-1-of-prepare-arg-2-1 c = c.before.before.before.before.before.before.before.before.before.before.before.before.before.before.before
+
+abbrev slice_known-3-1-of-improve_assign-arg-2-1 : tie.After-improve_assign-arg-2-1 → tie.After-slice_known-3-1
+slice_known-3-1-of-improve_assign-arg-2-1 c = c.before.before.before.before.before.before.before.before.before.before.before.before.before.before.before.before.before.before.before.before.before.before
+
 sound-here : (c : tie.After-slice_known-3-1) → Sound (graph_of c.args.n
     c.args.col_ptr.now
     c.args.row_idx.now
@@ -55,10 +62,10 @@ prepare-requires c κs = (
     words = c.claim_columns-num.auto.work ∙
         c.row_minima.auto.work
         ∙ c.requires.words;
-    small = (sound-here c.before.before.before.before.before.before.before.before.before.before.before.before.before.before.before).few_columns;
+    small = (sound-here (slice_known-3-1-of-prepare-arg-2-1 c)).few_columns;
   },
   (
-    omega (arith, sound-here c.before.before.before.before.before.before.before.before.before.before.before.before.before.before.before),
+    omega (arith, sound-here (slice_known-3-1-of-prepare-arg-2-1 c)),
     c.requires.values,
   ),
 )
@@ -67,7 +74,7 @@ improve_assign-started-requires : tie.Need-improve_assign-started-requires
 improve_assign-started-requires c κs =
     let pre = c.requires in
     improvable c.row_minima.ensures c.claim_columns-num.ensures
-    (sound-here c.before.before.before.before.before.before.before.before.before.before.before.before.before.before.before.before.before.before.before.before.before.before) (c.row_minima.auto.u ∙ pre.duals)
+    (sound-here (slice_known-3-1-of-improve_assign-arg-2-1 c)) (c.row_minima.auto.u ∙ pre.duals)
     (c.prepare.auto.work ∙ c.claim_columns-num.auto.work ∙
     c.row_minima.auto.work ∙ pre.words) (c.prepare.auto.fwork ∙ pre.values)
     c.new-stats.ensures c.prepare.ensures

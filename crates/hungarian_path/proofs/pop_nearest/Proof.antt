@@ -8,6 +8,10 @@ use Rattle.hungarian_path.proofs.Popping.{code_asks, code_row, code_popped}
 use Rattle.hungarian_path.proofs.pop_nearest.Statement.{statement}
 use Rattle.hungarian_path.proofs.pop_nearest.Tie as tie
 
+-- places of the proof, each from a later one
+abbrev pop-q-of-slice_known-6-1 : tie.After-slice_known-6-1 → tie.After-pop-q
+pop-q-of-slice_known-6-1 c = c.before.before.before.before.before.before
+
 row : (c : tie.After-pop-q) → c.pop-q.result < c.args.n
 row c = code_row _ _ _ _ _ c.requires _ _ _ _ c.pop-q.ensures
 
@@ -30,7 +34,7 @@ pop-q-requires : tie.Need-pop-q-requires
 pop-q-requires c κs = let r = code_asks _ _ _ _ _ c.requires in (r.0, (r.1, r.2))
 
 overflow_cast-work : tie.Need-overflow_cast-work
-overflow_cast-work c = omega (arith, row c.before.before.before.before.before.before, c.requires.workspace.small)
+overflow_cast-work c = omega (arith, row (pop-q-of-slice_known-6-1 c), c.requires.workspace.small)
 
 overflow_mul-work : tie.Need-overflow_mul-work
 overflow_mul-work c = omega (arith, c.requires.workspace.small)
@@ -45,10 +49,10 @@ bounds-work-n : tie.Need-bounds-work-n
 bounds-work-n c = omega (arith, c.work-1.given.1, c.requires.room, c.requires.workspace.words)
 
 offset_bounds-pos-q : tie.Need-offset_bounds-pos-q
-offset_bounds-pos-q c = omega (arith, row c.before.before.before.before.before.before, c.requires.workspace.small)
+offset_bounds-pos-q c = omega (arith, row (pop-q-of-slice_known-6-1 c), c.requires.workspace.small)
 
 bounds-pos-q : tie.Need-bounds-pos-q
-bounds-pos-q c = omega (arith, row c.before.before.before.before.before.before, c.pop-q.auto.pos, c.requires.places)
+bounds-pos-q c = omega (arith, row (pop-q-of-slice_known-6-1 c), c.pop-q.auto.pos, c.requires.places)
 
 overflow_sub-result : tie.Need-overflow_sub-result
 overflow_sub-result c = omega (arith, c.requires.some)

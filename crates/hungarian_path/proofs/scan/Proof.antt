@@ -16,6 +16,13 @@ invariant-loop-k n col_ptr rows cost u work₀ pos₀ keys₀ d₀ root v j end 
 abbrev decreases-loop-k : tie.decreases-loop-k
 decreases-loop-k n col_ptr rows cost u work₀ pos₀ keys₀ d₀ root v j end k₀ t₀ work pos keys d k t = end - k
 
+-- places of the proof, each from a later one
+abbrev in-loop-k-of-edge-arg-in-loop-k-3-1 : tie.After-edge-arg-in-loop-k-3-1 invariant-loop-k decreases-loop-k → tie.In-loop-k invariant-loop-k decreases-loop-k
+in-loop-k-of-edge-arg-in-loop-k-3-1 c = c.before.before.before.before.before.before.before.before
+
+abbrev in-loop-k-of-slice_known-in-loop-k-4-1 : tie.After-slice_known-in-loop-k-4-1 invariant-loop-k decreases-loop-k → tie.In-loop-k invariant-loop-k decreases-loop-k
+in-loop-k-of-slice_known-in-loop-k-4-1 c = c.before.before.before.before.before.before.before.before.before.before.before.before.before.before.before.before.before
+
 -- a turn's entry stands in the column
 below : (c : tie.In-loop-k invariant-loop-k decreases-loop-k) → c.loop-k.k < get_or c.args.col_ptr.now (suc c.args.j) 0
 below c =
@@ -78,10 +85,10 @@ entry_distance-x-requires c κs = tt
 
 edge-t-requires : tie.Need-edge-t-requires invariant-loop-k decreases-loop-k
 edge-t-requires c κs = rw c.entry_distance-x.ensures
-    (scan_edge _ _ _ _ _ _ _ _ _ _ c.requires _ _ _ _ _ _ c.loop-k.invariant (below c.before.before.before.before.before.before.before.before))
+    (scan_edge _ _ _ _ _ _ _ _ _ _ c.requires _ _ _ _ _ _ c.loop-k.invariant (below (in-loop-k-of-edge-arg-in-loop-k-3-1 c)))
 
 overflow_add-k : tie.Need-overflow_add-k invariant-loop-k decreases-loop-k
-overflow_add-k c = omega (arith, entry c.before.before.before.before.before.before.before.before.before.before.before.before.before.before.before.before.before, c.requires.setting.few_entries)
+overflow_add-k c = omega (arith, entry (in-loop-k-of-slice_known-in-loop-k-4-1 c), c.requires.setting.few_entries)
 
 loop-k-smaller : tie.Need-loop-k-smaller invariant-loop-k decreases-loop-k
 loop-k-smaller c = omega arith
@@ -89,7 +96,7 @@ loop-k-smaller c = omega arith
 loop-k-preserved : tie.Need-loop-k-preserved invariant-loop-k decreases-loop-k
 loop-k-preserved c =
     scan_turn _ _ _ _ _ _ _ _ _ _ c.requires _ _ _ _ _ _ c.loop-k.invariant
-    (below (c.before.before.before.before.before.before.before.before.before.before.before.before.before.before.before.before.before)) _ _ _ _ _ c.edge-t.auto.work c.edge-t.auto.pos
+    (below ((in-loop-k-of-slice_known-in-loop-k-4-1 c))) _ _ _ _ _ c.edge-t.auto.work c.edge-t.auto.pos
     c.edge-t.auto.keys c.edge-t.auto.d
     (rw c.entry_distance-x.ensures at c.edge-t.ensures)
 

@@ -10,7 +10,7 @@ enum_known-end : tie.Need-enum_known-end
 enum_known-end c = c.in-Path.keys1
 
 enum_told-1 : tie.Need-enum_told-1
-enum_told-1 c = c.in_default.keys2
+enum_told-1 c = c.in_default.in_default-own.keys2
 
 returns-in_default : tie.Need-returns-in_default
 returns-in_default c = rw c.in_default.is (apply_none _ _ _ _ _ _ _)

@@ -11,6 +11,10 @@ use Rattle.hungarian_search.proofs.Starts.{few, slots, start_stands, end_searche
 use Rattle.hungarian_search.proofs.run.Statement.{statement}
 use Rattle.hungarian_search.proofs.run.Tie as tie
 
+-- places of the proof, each from a later one
+abbrev d-1-of-slice_known-8-1 : tie.After-slice_known-8-1 → tie.After-d-1
+d-1-of-slice_known-8-1 c = c.before.before.before.before.before.before.before.before.before.before
+
 -- what is lent for the distances has a place for each row
 d-room : (c : tie.After-d-1) → let a = c.args in length (take a.n a.fwork.now) ≡ a.n
 d-room c = length-take-le c.args.n c.args.fwork.now (omega (arith, c.requires.1.1.1))
@@ -31,7 +35,7 @@ prepare-requires c κs =
 
 heap_made-made-requires : tie.Need-heap_made-made-requires
 heap_made-made-requires c κs =
-    omega (arith, slots _ _ _ _ _ c.requires.0 (λ k h. c.shared_slice_known-3-1.given k), few_columns_lem c.before.before.before.before.before.before.before.before.before.before)
+    omega (arith, slots _ _ _ _ _ c.requires.0 (λ k h. c.shared_slice_known-3-1.given k), few_columns_lem (d-1-of-slice_known-8-1 c))
 
 columns-requires : tie.Need-columns-requires
 columns-requires c κs =

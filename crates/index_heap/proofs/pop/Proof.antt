@@ -9,6 +9,19 @@ use Rattle.index_heap.proofs.Steps.{pop_done, pop_last}
 use Rattle.index_heap.proofs.pop.Statement.{statement}
 use Rattle.index_heap.proofs.pop.Tie as tie
 
+-- places of the proof, each from a later one
+abbrev entry-of-slice_known-4-1 : tie.After-slice_known-4-1 → tie.Start
+entry-of-slice_known-4-1 c = c.before.before.before.before
+
+abbrev entry-of-slice_known-5-1 : tie.After-slice_known-5-1 → tie.Start
+entry-of-slice_known-5-1 c = c.before.before.before.before.before
+
+abbrev entry-of-slice_known-6-1 : tie.After-slice_known-6-1 → tie.Start
+entry-of-slice_known-6-1 c = c.before.before.before.before.before.before
+
+abbrev entry-of-sift_down-arg-then-len-gt1-2-1 : tie.After-sift_down-arg-then-len-gt1-2-1 → tie.Start
+entry-of-sift_down-arg-then-len-gt1-2-1 c = c.before.before.before.before.before.before.before.before.before.before
+
 top-row : (c : tie.Start) → get_or c.args.heap.now 1 0 < length c.args.pos.now
 top-row c = c.requires.0.rows 1 (le_refl 1) (omega (arith, c.requires))
 
@@ -19,7 +32,7 @@ bounds-heap-1 : tie.Need-bounds-heap-1
 bounds-heap-1 c = omega (arith, c.requires.0.places, c.requires.1)
 
 overflow_cast-top : tie.Need-overflow_cast-top
-overflow_cast-top c = omega (arith, top-row c.before.before.before.before, c.requires.0.small)
+overflow_cast-top c = omega (arith, top-row (entry-of-slice_known-4-1 c), c.requires.0.small)
 
 offset_bounds-heap-len : tie.Need-offset_bounds-heap-len
 offset_bounds-heap-len c = omega (arith, c.requires.0.small, c.requires.1)
@@ -28,7 +41,7 @@ bounds-heap-len : tie.Need-bounds-heap-len
 bounds-heap-len c = omega (arith, c.requires.0.places, c.requires.1)
 
 overflow_cast-last : tie.Need-overflow_cast-last
-overflow_cast-last c = omega (arith, last_row c.before.before.before.before.before, c.requires.0.small)
+overflow_cast-last c = omega (arith, last_row (entry-of-slice_known-5-1 c), c.requires.0.small)
 
 overflow_sub-x : tie.Need-overflow_sub-x
 overflow_sub-x c = omega (arith, c.requires.1)
@@ -40,10 +53,10 @@ bounds-keys-len : tie.Need-bounds-keys-len
 bounds-keys-len c = omega (arith, c.requires.0.keyed, c.requires.1)
 
 offset_bounds-pos-top : tie.Need-offset_bounds-pos-top
-offset_bounds-pos-top c = omega (arith, top-row c.before.before.before.before.before.before, c.requires.0.small)
+offset_bounds-pos-top c = omega (arith, top-row (entry-of-slice_known-6-1 c), c.requires.0.small)
 
 bounds-pos-top : tie.Need-bounds-pos-top
-bounds-pos-top c = omega (arith, top-row c.before.before.before.before.before.before)
+bounds-pos-top c = omega (arith, top-row (entry-of-slice_known-6-1 c))
 
 overflow_sub-len : tie.Need-overflow_sub-len
 overflow_sub-len c = omega (arith, c.requires.1)
@@ -51,7 +64,7 @@ overflow_sub-len c = omega (arith, c.requires.1)
 sift_down-requires : tie.Need-sift_down-requires
 sift_down-requires c κs =
     (
-    rw length-set (ready_place _ _ _ _ c.requires.0 _ _, (last_row c.before.before.before.before.before.before.before.before.before.before, (omega (arith, c.if-len-gt1.true), omega (arith, c.requires.1)))))
+    rw length-set (ready_place _ _ _ _ c.requires.0 _ _, (last_row (entry-of-sift_down-arg-then-len-gt1-2-1 c), (omega (arith, c.if-len-gt1.true), omega (arith, c.requires.1)))))
 
 shape_of-heap : tie.Need-shape_of-heap
 shape_of-heap c = c.sift_down.auto.heap

@@ -15,6 +15,22 @@ invariant-loop-p heap₀ pos₀ keys₀ len i x p₀ heap pos keys p = Sinking (
 abbrev decreases-loop-p : tie.decreases-loop-p
 decreases-loop-p heap₀ pos₀ keys₀ len i x p₀ heap pos keys p = len - p
 
+-- places of the proof, each from a later one
+abbrev loop-p-of-chosen-child : tie.After-chosen-child invariant-loop-p decreases-loop-p → tie.At-loop-p invariant-loop-p decreases-loop-p
+loop-p-of-chosen-child c = c.before.before.before.before
+
+abbrev loop-p-of-slice_known-in-loop-p-3-1 : tie.After-slice_known-in-loop-p-3-1 invariant-loop-p decreases-loop-p → tie.At-loop-p invariant-loop-p decreases-loop-p
+loop-p-of-slice_known-in-loop-p-3-1 c = c.before.before.before.before.before
+
+abbrev loop-p-of-else-x-below : tie.Else-x-below invariant-loop-p decreases-loop-p → tie.At-loop-p invariant-loop-p decreases-loop-p
+loop-p-of-else-x-below c = c.before.before.before.before.before.before
+
+abbrev loop-p-of-slice_known-in-loop-p-4-1-unread : tie.After-slice_known-in-loop-p-4-1-unread invariant-loop-p decreases-loop-p → tie.At-loop-p invariant-loop-p decreases-loop-p
+loop-p-of-slice_known-in-loop-p-4-1-unread c = c.before.before.before.before.before.before.before
+
+abbrev loop-p-of-slice_known-in-loop-p-4-1 : tie.After-slice_known-in-loop-p-4-1 invariant-loop-p decreases-loop-p → tie.At-loop-p invariant-loop-p decreases-loop-p
+loop-p-of-slice_known-in-loop-p-4-1 c = c.before.before.before.before.before.before.before
+
 -- the place and the lengths are in range
 ranges : (c : tie.At-loop-p invariant-loop-p decreases-loop-p) →
     let n = length c.args.pos.now in
@@ -56,52 +72,52 @@ chosen-child-requires : tie.Need-chosen-child-requires invariant-loop-p decrease
 chosen-child-requires c κs = omega (arith, ranges c.before.before.before, c.requires)
 
 overflow_sub-below : tie.Need-overflow_sub-below invariant-loop-p decreases-loop-p
-overflow_sub-below c = omega (arith, ranges c.before.before.before.before, child (c))
+overflow_sub-below c = omega (arith, ranges (loop-p-of-chosen-child c), child (c))
 
 offset_bounds-keys-child : tie.Need-offset_bounds-keys-child invariant-loop-p decreases-loop-p
-offset_bounds-keys-child c = omega (arith, ranges c.before.before.before.before, child (c), c.requires)
+offset_bounds-keys-child c = omega (arith, ranges (loop-p-of-chosen-child c), child (c), c.requires)
 
 bounds-keys-child : tie.Need-bounds-keys-child invariant-loop-p decreases-loop-p
-bounds-keys-child c = omega (arith, ranges c.before.before.before.before.before, child c.before, c.requires)
+bounds-keys-child c = omega (arith, ranges (loop-p-of-slice_known-in-loop-p-3-1 c), child c.before, c.requires)
 
 offset_bounds-heap-child : tie.Need-offset_bounds-heap-child invariant-loop-p decreases-loop-p
-offset_bounds-heap-child c = omega (arith, ranges c.before.before.before.before.before.before, child c.before.before, c.requires)
+offset_bounds-heap-child c = omega (arith, ranges (loop-p-of-else-x-below c), child c.before.before, c.requires)
 
 bounds-heap-child : tie.Need-bounds-heap-child invariant-loop-p decreases-loop-p
-bounds-heap-child c = omega (arith, ranges c.before.before.before.before.before.before.before, child c.before.before.before, c.requires)
+bounds-heap-child c = omega (arith, ranges (loop-p-of-slice_known-in-loop-p-4-1-unread c), child c.before.before.before, c.requires)
 
 overflow_cast-row : tie.Need-overflow_cast-row invariant-loop-p decreases-loop-p
-overflow_cast-row c = omega (arith, ranges c.before.before.before.before.before.before.before, child c.before.before.before, c.requires)
+overflow_cast-row c = omega (arith, ranges (loop-p-of-slice_known-in-loop-p-4-1 c), child c.before.before.before, c.requires)
 
 overflow_cast-heap : tie.Need-overflow_cast-heap invariant-loop-p decreases-loop-p
-overflow_cast-heap c = omega (arith, ranges c.before.before.before.before.before.before.before, child c.before.before.before, c.requires)
+overflow_cast-heap c = omega (arith, ranges (loop-p-of-slice_known-in-loop-p-4-1 c), child c.before.before.before, c.requires)
 
 offset_bounds-heap-p : tie.Need-offset_bounds-heap-p invariant-loop-p decreases-loop-p
-offset_bounds-heap-p c = omega (arith, ranges c.before.before.before.before.before.before.before, c.requires)
+offset_bounds-heap-p c = omega (arith, ranges (loop-p-of-slice_known-in-loop-p-4-1 c), c.requires)
 
 bounds-heap-p : tie.Need-bounds-heap-p invariant-loop-p decreases-loop-p
-bounds-heap-p c = omega (arith, ranges c.before.before.before.before.before.before.before, c.requires)
+bounds-heap-p c = omega (arith, ranges (loop-p-of-slice_known-in-loop-p-4-1 c), c.requires)
 
 overflow_cast-pos : tie.Need-overflow_cast-pos invariant-loop-p decreases-loop-p
-overflow_cast-pos c = omega (arith, ranges c.before.before.before.before.before.before.before, c.requires)
+overflow_cast-pos c = omega (arith, ranges (loop-p-of-slice_known-in-loop-p-4-1 c), c.requires)
 
 offset_bounds-pos-row : tie.Need-offset_bounds-pos-row invariant-loop-p decreases-loop-p
-offset_bounds-pos-row c = omega (arith, ranges c.before.before.before.before.before.before.before, child c.before.before.before, c.requires)
+offset_bounds-pos-row c = omega (arith, ranges (loop-p-of-slice_known-in-loop-p-4-1 c), child c.before.before.before, c.requires)
 
 bounds-pos-row : tie.Need-bounds-pos-row invariant-loop-p decreases-loop-p
-bounds-pos-row c = omega (arith, ranges c.before.before.before.before.before.before.before, child c.before.before.before, c.requires)
+bounds-pos-row c = omega (arith, ranges (loop-p-of-slice_known-in-loop-p-4-1 c), child c.before.before.before, c.requires)
 
 overflow_sub-keys : tie.Need-overflow_sub-keys invariant-loop-p decreases-loop-p
-overflow_sub-keys c = omega (arith, ranges c.before.before.before.before.before.before.before)
+overflow_sub-keys c = omega (arith, ranges (loop-p-of-slice_known-in-loop-p-4-1 c))
 
 offset_bounds-keys-p : tie.Need-offset_bounds-keys-p invariant-loop-p decreases-loop-p
-offset_bounds-keys-p c = omega (arith, ranges c.before.before.before.before.before.before.before, c.requires)
+offset_bounds-keys-p c = omega (arith, ranges (loop-p-of-slice_known-in-loop-p-4-1 c), c.requires)
 
 bounds-keys-p : tie.Need-bounds-keys-p invariant-loop-p decreases-loop-p
-bounds-keys-p c = omega (arith, ranges c.before.before.before.before.before.before.before, c.requires)
+bounds-keys-p c = omega (arith, ranges (loop-p-of-slice_known-in-loop-p-4-1 c), c.requires)
 
 loop-p-smaller : tie.Need-loop-p-smaller invariant-loop-p decreases-loop-p
-loop-p-smaller c = omega (arith, ranges c.before.before.before.before.before.before.before, child c.before.before.before)
+loop-p-smaller c = omega (arith, ranges (loop-p-of-slice_known-in-loop-p-4-1 c), child c.before.before.before)
 
 loop-p-preserved : tie.Need-loop-p-preserved invariant-loop-p decreases-loop-p
 loop-p-preserved c = sinking_turn _ _ _ _ _ _ _ c.requires.1.1.1 _ _ _ _ c.loop-p.invariant _

@@ -15,6 +15,13 @@ invariant-loop-p heap₀ pos₀ keys₀ i x place p₀ heap pos keys p = Rising 
 abbrev decreases-loop-p : tie.decreases-loop-p
 decreases-loop-p heap₀ pos₀ keys₀ i x place p₀ heap pos keys p = p
 
+-- places of the proof, each from a later one
+abbrev loop-p-of-slice_known-in-loop-p-1-unread : tie.After-slice_known-in-loop-p-1-unread invariant-loop-p decreases-loop-p → tie.At-loop-p invariant-loop-p decreases-loop-p
+loop-p-of-slice_known-in-loop-p-1-unread c = c.before.before.before.before
+
+abbrev loop-p-of-slice_known-in-loop-p-1 : tie.After-slice_known-in-loop-p-1 invariant-loop-p decreases-loop-p → tie.At-loop-p invariant-loop-p decreases-loop-p
+loop-p-of-slice_known-in-loop-p-1 c = c.before.before.before.before
+
 -- the place and the lengths are in range
 ranges : (c : tie.At-loop-p invariant-loop-p decreases-loop-p) →
     let n = length c.args.pos.now in
@@ -40,37 +47,37 @@ offset_bounds-heap-up : tie.Need-offset_bounds-heap-up invariant-loop-p decrease
 offset_bounds-heap-up c = omega (arith, ranges c.before.before.before)
 
 bounds-heap-up : tie.Need-bounds-heap-up invariant-loop-p decreases-loop-p
-bounds-heap-up c = omega (arith, ranges c.before.before.before.before)
+bounds-heap-up c = omega (arith, ranges (loop-p-of-slice_known-in-loop-p-1-unread c))
 
 overflow_cast-parent : tie.Need-overflow_cast-parent invariant-loop-p decreases-loop-p
-overflow_cast-parent c = omega (arith, ranges c.before.before.before.before, parent_in c.before.before.before)
+overflow_cast-parent c = omega (arith, ranges (loop-p-of-slice_known-in-loop-p-1 c), parent_in c.before.before.before)
 
 overflow_cast-heap : tie.Need-overflow_cast-heap invariant-loop-p decreases-loop-p
-overflow_cast-heap c = omega (arith, ranges c.before.before.before.before, parent_in c.before.before.before)
+overflow_cast-heap c = omega (arith, ranges (loop-p-of-slice_known-in-loop-p-1 c), parent_in c.before.before.before)
 
 offset_bounds-heap-p : tie.Need-offset_bounds-heap-p invariant-loop-p decreases-loop-p
-offset_bounds-heap-p c = omega (arith, ranges c.before.before.before.before)
+offset_bounds-heap-p c = omega (arith, ranges (loop-p-of-slice_known-in-loop-p-1 c))
 
 bounds-heap-p : tie.Need-bounds-heap-p invariant-loop-p decreases-loop-p
-bounds-heap-p c = omega (arith, ranges c.before.before.before.before)
+bounds-heap-p c = omega (arith, ranges (loop-p-of-slice_known-in-loop-p-1 c))
 
 overflow_cast-pos : tie.Need-overflow_cast-pos invariant-loop-p decreases-loop-p
-overflow_cast-pos c = omega (arith, ranges c.before.before.before.before)
+overflow_cast-pos c = omega (arith, ranges (loop-p-of-slice_known-in-loop-p-1 c))
 
 offset_bounds-pos-parent : tie.Need-offset_bounds-pos-parent invariant-loop-p decreases-loop-p
-offset_bounds-pos-parent c = omega (arith, ranges c.before.before.before.before, parent_in c.before.before.before)
+offset_bounds-pos-parent c = omega (arith, ranges (loop-p-of-slice_known-in-loop-p-1 c), parent_in c.before.before.before)
 
 bounds-pos-parent : tie.Need-bounds-pos-parent invariant-loop-p decreases-loop-p
-bounds-pos-parent c = omega (arith, ranges c.before.before.before.before, parent_in c.before.before.before)
+bounds-pos-parent c = omega (arith, ranges (loop-p-of-slice_known-in-loop-p-1 c), parent_in c.before.before.before)
 
 overflow_sub-keys : tie.Need-overflow_sub-keys invariant-loop-p decreases-loop-p
 overflow_sub-keys c = omega arith
 
 offset_bounds-keys-p : tie.Need-offset_bounds-keys-p invariant-loop-p decreases-loop-p
-offset_bounds-keys-p c = omega (arith, ranges c.before.before.before.before)
+offset_bounds-keys-p c = omega (arith, ranges (loop-p-of-slice_known-in-loop-p-1 c))
 
 bounds-keys-p : tie.Need-bounds-keys-p invariant-loop-p decreases-loop-p
-bounds-keys-p c = omega (arith, ranges c.before.before.before.before)
+bounds-keys-p c = omega (arith, ranges (loop-p-of-slice_known-in-loop-p-1 c))
 
 loop-p-smaller : tie.Need-loop-p-smaller invariant-loop-p decreases-loop-p
 loop-p-smaller c = omega arith

@@ -18,6 +18,19 @@ invariant-loop-k j from to rows values factors work₀ dj top₀ k₀ work top k
 abbrev decreases-loop-k : tie.decreases-loop-k
 decreases-loop-k j from to rows values factors work₀ dj top₀ k₀ work top k = to - k
 
+-- places of the proof, each from a later one
+abbrev in-loop-k-of-scaled_size-size : tie.After-scaled_size-size invariant-loop-k decreases-loop-k → tie.In-loop-k invariant-loop-k decreases-loop-k
+in-loop-k-of-scaled_size-size c = c.before.before.before.before
+
+abbrev in-loop-k-of-slice_known-in-loop-k-1 : tie.After-slice_known-in-loop-k-1 invariant-loop-k decreases-loop-k → tie.In-loop-k invariant-loop-k decreases-loop-k
+in-loop-k-of-slice_known-in-loop-k-1 c = c.before.before.before.before.before
+
+abbrev in-loop-k-of-larger : tie.After-larger invariant-loop-k decreases-loop-k → tie.In-loop-k invariant-loop-k decreases-loop-k
+in-loop-k-of-larger c = c.before.before.before.before.before.before
+
+abbrev in-loop-k-of-larger-top : tie.After-larger-top invariant-loop-k decreases-loop-k → tie.In-loop-k invariant-loop-k decreases-loop-k
+in-loop-k-of-larger-top c = c.before.before.before.before.before.before.before
+
 -- place k is stored, and its row has a maximum
 facts : (c : tie.In-loop-k invariant-loop-k decreases-loop-k) → (c.loop-k.k < length
     c.args.row_idx.now) ×
@@ -91,12 +104,12 @@ scaled_size-size-requires c κs = tt
 offset_bounds-work-i : tie.Need-offset_bounds-work-i invariant-loop-k decreases-loop-k
 offset_bounds-work-i c =
     let pre = c.requires in
-    omega (arith, facts c.before.before.before.before, pre.0.stored, pre.1, c.loop-k.invariant.2)
+    omega (arith, facts (in-loop-k-of-scaled_size-size c), pre.0.stored, pre.1, c.loop-k.invariant.2)
 
 bounds-work-i : tie.Need-bounds-work-i invariant-loop-k decreases-loop-k
 bounds-work-i c =
     let pre = c.requires in
-    omega (arith, facts c.before.before.before.before.before, pre.0.stored, pre.1, c.loop-k.invariant.2)
+    omega (arith, facts (in-loop-k-of-slice_known-in-loop-k-1 c), pre.0.stored, pre.1, c.loop-k.invariant.2)
 
 larger-requires : tie.Need-larger-requires invariant-loop-k decreases-loop-k
 larger-requires c κs = tt
@@ -104,19 +117,19 @@ larger-requires c κs = tt
 offset_bounds-work-i-in-loop-k : tie.Need-offset_bounds-work-i-in-loop-k invariant-loop-k decreases-loop-k
 offset_bounds-work-i-in-loop-k c =
     let pre = c.requires in
-    omega (arith, facts c.before.before.before.before.before.before, pre.0.stored, pre.1, c.loop-k.invariant.2)
+    omega (arith, facts (in-loop-k-of-larger c), pre.0.stored, pre.1, c.loop-k.invariant.2)
 
 bounds-work-i-in-loop-k : tie.Need-bounds-work-i-in-loop-k invariant-loop-k decreases-loop-k
 bounds-work-i-in-loop-k c =
     let pre = c.requires in
-    omega (arith, facts c.before.before.before.before.before.before, pre.0.stored, pre.1, c.loop-k.invariant.2)
+    omega (arith, facts (in-loop-k-of-larger c), pre.0.stored, pre.1, c.loop-k.invariant.2)
 
 larger-top-requires : tie.Need-larger-top-requires invariant-loop-k decreases-loop-k
 larger-top-requires c κs = tt
 
 overflow_step-k : tie.Need-overflow_step-k invariant-loop-k decreases-loop-k
 overflow_step-k c =
-    omega (arith, c.loop-k-test.true, facts (c.before.before.before.before.before.before.before))
+    omega (arith, c.loop-k-test.true, facts ((in-loop-k-of-larger-top c)))
 
 loop-k-smaller : tie.Need-loop-k-smaller invariant-loop-k decreases-loop-k
 loop-k-smaller c = omega (arith, c.loop-k-test.true)
@@ -131,7 +144,7 @@ loop-k-preserved c =
       scan_next
           (scaled_sizes args.row_idx.now args.values.now args.factors.now args.j) args.row_idx.now args.j
           args.to c.loop-k.k c.loop-k.work c.loop-k.top c.loop-k.invariant.3 c.loop-k-test.true
-          (facts (c.before.before.before.before.before.before.before)).1 (omega (
+          (facts ((in-loop-k-of-larger-top c))).1 (omega (
             arith,
             c.loop-k.invariant.2,
             c.requires.0.column,

@@ -18,6 +18,16 @@ invariant-loop-k j from to rows values maxima₀ top₀ k₀ maxima top k =
 abbrev decreases-loop-k : tie.decreases-loop-k
 decreases-loop-k j from to rows values maxima₀ top₀ k₀ maxima top k = to - k
 
+-- places of the proof, each from a later one
+abbrev in-loop-k-of-slice_known-in-loop-k-1 : tie.After-slice_known-in-loop-k-1 invariant-loop-k decreases-loop-k → tie.In-loop-k invariant-loop-k decreases-loop-k
+in-loop-k-of-slice_known-in-loop-k-1 c = c.before.before.before.before
+
+abbrev in-loop-k-of-larger : tie.After-larger invariant-loop-k decreases-loop-k → tie.In-loop-k invariant-loop-k decreases-loop-k
+in-loop-k-of-larger c = c.before.before.before.before.before
+
+abbrev in-loop-k-of-larger-top : tie.After-larger-top invariant-loop-k decreases-loop-k → tie.In-loop-k invariant-loop-k decreases-loop-k
+in-loop-k-of-larger-top c = c.before.before.before.before.before.before
+
 -- place k is stored, and its row has a maximum
 facts : (c : tie.In-loop-k invariant-loop-k decreases-loop-k) → (c.loop-k.k < length
     c.args.row_idx.now) ×
@@ -70,7 +80,7 @@ offset_bounds-maxima-i c = omega (arith, facts c.before.before.before, c.require
 bounds-maxima-i : tie.Need-bounds-maxima-i invariant-loop-k decreases-loop-k
 bounds-maxima-i c = omega (
   arith,
-  facts c.before.before.before.before,
+  facts (in-loop-k-of-slice_known-in-loop-k-1 c),
   c.requires.stored,
   c.loop-k.invariant.2,
 )
@@ -79,17 +89,17 @@ larger-requires : tie.Need-larger-requires invariant-loop-k decreases-loop-k
 larger-requires c κs = tt
 
 offset_bounds-maxima-i-in-loop-k : tie.Need-offset_bounds-maxima-i-in-loop-k invariant-loop-k decreases-loop-k
-offset_bounds-maxima-i-in-loop-k c = omega (arith, facts c.before.before.before.before.before, c.requires.stored, c.loop-k.invariant.2)
+offset_bounds-maxima-i-in-loop-k c = omega (arith, facts (in-loop-k-of-larger c), c.requires.stored, c.loop-k.invariant.2)
 
 bounds-maxima-i-in-loop-k : tie.Need-bounds-maxima-i-in-loop-k invariant-loop-k decreases-loop-k
-bounds-maxima-i-in-loop-k c = omega (arith, facts c.before.before.before.before.before, c.requires.stored, c.loop-k.invariant.2)
+bounds-maxima-i-in-loop-k c = omega (arith, facts (in-loop-k-of-larger c), c.requires.stored, c.loop-k.invariant.2)
 
 larger-top-requires : tie.Need-larger-top-requires invariant-loop-k decreases-loop-k
 larger-top-requires c κs = tt
 
 overflow_step-k : tie.Need-overflow_step-k invariant-loop-k decreases-loop-k
 overflow_step-k c =
-    omega (arith, c.loop-k-test.true, facts (c.before.before.before.before.before.before))
+    omega (arith, c.loop-k-test.true, facts ((in-loop-k-of-larger-top c)))
 
 loop-k-smaller : tie.Need-loop-k-smaller invariant-loop-k decreases-loop-k
 loop-k-smaller c = omega (arith, c.loop-k-test.true)
@@ -103,7 +113,7 @@ loop-k-preserved c =
       simp length-set c.loop-k.invariant.2,
       scan_next
           (own_sizes args.values.now args.j) args.row_idx.now args.j args.to c.loop-k.k c.loop-k.maxima
-          c.loop-k.top c.loop-k.invariant.3 c.loop-k-test.true (facts (c.before.before.before.before.before.before)).1
+          c.loop-k.top c.loop-k.invariant.3 c.loop-k-test.true (facts ((in-loop-k-of-larger-top c))).1
           (omega (arith, c.loop-k.invariant.2, c.requires.column))
           c.size_of-size.ensures c.larger.ensures c.larger-top.ensures,
     )

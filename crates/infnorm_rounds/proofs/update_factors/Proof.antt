@@ -54,10 +54,10 @@ loop-factors-smaller c =
 loop-factors-preserved : tie.Need-loop-factors-preserved invariant-loop-factors decreases-loop-factors
 loop-factors-preserved c =
     let loop = c.loop-factors in (
-      omega (arith, c.loop-factors-test.true, loop.inv.3.same),
-      loop.inv.1,
-      c.roots_of.auto.roots ∙ loop.inv.2,
-      c.update_block.ensures.come _ loop.inv.3,
+      omega (arith, c.loop-factors-test.true, loop.invariant.3.same),
+      loop.invariant.1,
+      c.roots_of.auto.roots ∙ loop.invariant.2,
+      c.update_block.ensures.come _ loop.invariant.3,
     )
 
 update_rest-requires : tie.Need-update_rest-requires invariant-loop-factors decreases-loop-factors

@@ -34,7 +34,7 @@ loop-left-preserved : tie.Need-loop-left-preserved invariant-loop-left decreases
 loop-left-preserved c =
     let inv = c.loop-left.invariant in
     let call = c.next_digits in (
-      record { leadings = call.kept.0 ∙ inv.0.leadings; knowns = call.kept.1.0 ∙ inv.0.knowns },
+      record { leadings = call.auto.leading ∙ inv.0.leadings; knowns = call.auto.known ∙ inv.0.knowns },
       λ j h. lane_turn _ _ _ _ _ _ _ (inv.1 j h) c.loop-left-test.true (call.ensures j h).0 (call.ensures j h).1,
     )
 

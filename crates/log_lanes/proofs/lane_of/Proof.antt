@@ -15,6 +15,13 @@ use Rattle.log_lanes.proofs.Lanes.{lane_word, none_word}
 use Rattle.log_lanes.proofs.lane_of.Statement.{statement}
 use Rattle.log_lanes.proofs.lane_of.Tie as tie
 
+-- places of the proof, each from a later one
+abbrev entry-of-struct_known-then-bits-gt0-1 : tie.After-struct_known-then-bits-gt0-1 → tie.Start
+entry-of-struct_known-then-bits-gt0-1 c = c.before.before.before.before.before.before
+
+abbrev then-is_finite-of-struct_known-then-bits-gt0-1 : tie.After-struct_known-then-bits-gt0-1 → tie.Then-is_finite
+then-is_finite-of-struct_known-then-bits-gt0-1 c = c.before.before.before.before
+
 double : (c : tie.Start) → T (fits binary64 c.args.x)
 double c = subst T (sym c.well_formed.0.1) tt
 
@@ -40,7 +47,7 @@ returns-then-bits-gt0 c =
       r,
       lane_word _ _ r.full r.short (omega (arith, s))
           ∙ ap (λ q. Is (from_units q)) (log_digits _ _ _ s)
-          ∙ found_answer x (double c.before.before.before.before.before.before) (is_number c.before.before.before.before) c.if-bits-gt0.true,
+          ∙ found_answer x (double (entry-of-struct_known-then-bits-gt0-1 c)) (is_number (then-is_finite-of-struct_known-then-bits-gt0-1 c)) c.if-bits-gt0.true,
     )
 
 returns-else-bits-gt0 : tie.Need-returns-else-bits-gt0

@@ -8,6 +8,10 @@ use Rattle.log_lanes.proofs.Lanes.{fresh}
 use Rattle.log_lanes.proofs.log_block.Statement.{statement}
 use Rattle.log_lanes.proofs.log_block.Tie as tie
 
+-- places of the proof, each from a later one
+abbrev all_digits-of-store-arg-1 : tie.After-store-arg-1 → tie.After-all_digits
+all_digits-of-store-arg-1 c = c.before.before.before.before
+
 -- the logarithms are one for each lane
 known_kept : (c : tie.After-all_digits) → length c.all_digits.new.known ≡ 16
 known_kept c = c.all_digits.auto.known ∙ c.load.auto.known
@@ -30,7 +34,7 @@ slice_bounds-all_digits-end-2 c = sym c.load.auto.known
 all_digits-requires : tie.Need-all_digits-requires
 all_digits-requires c κs =
     let load = c.load in
-    (record { leadings = load.kept.1.1.1.0; knowns = load.kept.1.1.1.1.0 }, λ j h. (load.ensures j h).0)
+    (record { leadings = load.auto.leading; knowns = load.auto.known }, λ j h. (load.ensures j h).0)
 
 slice_bounds-store-end : tie.Need-slice_bounds-store-end
 slice_bounds-store-end c = sym (known_kept c.before.before.before)
@@ -40,7 +44,7 @@ store-requires c κs =
     let block = c.requires.0 in (
       record { up = block.up; within = omega (arith, block.within, c.requires.1); lanes = block.lanes },
       omega (arith, c.requires.1),
-      known_kept c.before.before.before.before,
+      known_kept (all_digits-of-store-arg-1 c),
     )
 
 shape_of-words : tie.Need-shape_of-words

@@ -22,6 +22,25 @@ invariant-loop-c n col_ptr rows values logs words graph_ptr₀ graph_idx₀ cost
 abbrev decreases-loop-c : tie.decreases-loop-c
 decreases-loop-c n col_ptr rows values logs words graph_ptr₀ graph_idx₀ cost₀ cmax₀ source next₀ c₀ graph_ptr graph_idx cost cmax next c = n - c
 
+-- places of the proof, each from a later one
+abbrev in-loop-c-of-keep_column-arg-in-loop-c-1 : tie.After-keep_column-arg-in-loop-c-1 invariant-loop-c decreases-loop-c → tie.In-loop-c invariant-loop-c decreases-loop-c
+in-loop-c-of-keep_column-arg-in-loop-c-1 c = c.before.before.before.before
+
+abbrev loop-c-of-keep_column-arg-in-loop-c-1 : tie.After-keep_column-arg-in-loop-c-1 invariant-loop-c decreases-loop-c → tie.At-loop-c invariant-loop-c decreases-loop-c
+loop-c-of-keep_column-arg-in-loop-c-1 c = c.before.before.before.before.before
+
+abbrev in-loop-c-of-keep_column-kept : tie.After-keep_column-kept invariant-loop-c decreases-loop-c → tie.In-loop-c invariant-loop-c decreases-loop-c
+in-loop-c-of-keep_column-kept c = c.before.before.before.before.before
+
+abbrev loop-c-of-keep_column-kept : tie.After-keep_column-kept invariant-loop-c decreases-loop-c → tie.At-loop-c invariant-loop-c decreases-loop-c
+loop-c-of-keep_column-kept c = c.before.before.before.before.before.before
+
+abbrev keep_column-kept-of-slice_known-in-loop-c-2-1 : tie.After-slice_known-in-loop-c-2-1 invariant-loop-c decreases-loop-c → tie.After-keep_column-kept invariant-loop-c decreases-loop-c
+keep_column-kept-of-slice_known-in-loop-c-2-1 c = c.before.before.before.before
+
+abbrev loop-c-of-slice_known-in-loop-c-3-1 : tie.After-slice_known-in-loop-c-3-1 invariant-loop-c decreases-loop-c → tie.At-loop-c invariant-loop-c decreases-loop-c
+loop-c-of-slice_known-in-loop-c-3-1 c = c.before.before.before.before.before.before.before.before.before.before.before.before.before.before
+
 -- the next entry goes no further than the column's first place
 next_below : (c : tie.At-loop-c invariant-loop-c decreases-loop-c) → let a = c.args in let l = c.loop-c in
     (l.next ≤ get_or a.col_ptr.now l.c 0) × (get_or a.col_ptr.now l.c 0 ≤ length a.row_idx.now) × (length a.row_idx.now ≤ 262144)
@@ -90,7 +109,7 @@ keep_column-kept-requires : tie.Need-keep_column-kept-requires invariant-loop-c 
 keep_column-kept-requires c κs =
     let pre = c.requires in
     (
-      ((pointers c.before.before.before.before).0, (pointers c.before.before.before.before).1, (next_below (c.before.before.before.before.before)).0),
+      ((pointers (in-loop-c-of-keep_column-arg-in-loop-c-1 c)).0, (pointers (in-loop-c-of-keep_column-arg-in-loop-c-1 c)).1, (next_below ((loop-c-of-keep_column-arg-in-loop-c-1 c))).0),
       ((pre.0.sizes.stored, pre.0.logged), ((c.loop-c.invariant.2 ∙ pre.1.0.row_room, c.loop-c.invariant.3 ∙ pre.1.0.cost_room), pre.1.1)),
     )
 
@@ -102,38 +121,38 @@ stretch-fits c =
     let from = get_or c.args.col_ptr.now c.loop-c.c 0 in
     let few = kept_few c.args.values.now from (get_or c.args.col_ptr.now (c.loop-c.c + 1) 0 - from) in (
       omega (arith, c.keep_column-kept.ensures.count),
-      omega (arith, c.keep_column-kept.ensures.count, few, pointers c.before.before.before.before.before, next_below c.before.before.before.before.before.before, c.requires.1.0.cost_room),
-      omega (arith, next_below c.before.before.before.before.before.before, c.requires.1.0.cost_room),
+      omega (arith, c.keep_column-kept.ensures.count, few, pointers (in-loop-c-of-keep_column-kept c), next_below (loop-c-of-keep_column-kept c), c.requires.1.0.cost_room),
+      omega (arith, next_below (loop-c-of-keep_column-kept c), c.requires.1.0.cost_room),
     )
 
 offset_bounds-cost-next : tie.Need-offset_bounds-cost-next invariant-loop-c decreases-loop-c
-offset_bounds-cost-next c = omega (arith, stretch-fits c.before.before.before.before)
+offset_bounds-cost-next c = omega (arith, stretch-fits (keep_column-kept-of-slice_known-in-loop-c-2-1 c))
 
 slice_bounds-subtract-count : tie.Need-slice_bounds-subtract-count invariant-loop-c decreases-loop-c
-slice_bounds-subtract-count c = omega (arith, stretch-fits c.before.before.before.before)
+slice_bounds-subtract-count c = omega (arith, stretch-fits (keep_column-kept-of-slice_known-in-loop-c-2-1 c))
 
 slice_bounds-subtract-start : tie.Need-slice_bounds-subtract-start invariant-loop-c decreases-loop-c
-slice_bounds-subtract-start c = omega (arith, stretch-fits c.before.before.before.before)
+slice_bounds-subtract-start c = omega (arith, stretch-fits (keep_column-kept-of-slice_known-in-loop-c-2-1 c))
 
 slice_bounds-subtract-end : tie.Need-slice_bounds-subtract-end invariant-loop-c decreases-loop-c
 slice_bounds-subtract-end c =
-    omega (arith, stretch-fits c.before.before.before.before, c.keep_column-kept.auto.cost, c.loop-c.invariant.3)
+    omega (arith, stretch-fits (keep_column-kept-of-slice_known-in-loop-c-2-1 c), c.keep_column-kept.auto.cost, c.loop-c.invariant.3)
 
 subtract-requires : tie.Need-subtract-requires invariant-loop-c decreases-loop-c
 subtract-requires c κs = tt
 
 offset_bounds-cmax-c : tie.Need-offset_bounds-cmax-c invariant-loop-c decreases-loop-c
-offset_bounds-cmax-c c = omega (arith, c.loop-c-test.true, next_below c.before.before.before.before.before.before.before.before.before.before.before.before.before.before)
+offset_bounds-cmax-c c = omega (arith, c.loop-c-test.true, next_below (loop-c-of-slice_known-in-loop-c-3-1 c))
 
 bounds-cmax-c : tie.Need-bounds-cmax-c invariant-loop-c decreases-loop-c
 bounds-cmax-c c =
     omega (arith, c.loop-c-test.true, c.loop-c.invariant.4, c.requires.1.0.cmax_room)
 
 overflow_step-c : tie.Need-overflow_step-c invariant-loop-c decreases-loop-c
-overflow_step-c c = omega (arith, c.loop-c-test.true, next_below c.before.before.before.before.before.before.before.before.before.before.before.before.before.before)
+overflow_step-c c = omega (arith, c.loop-c-test.true, next_below (loop-c-of-slice_known-in-loop-c-3-1 c))
 
 loop-c-smaller : tie.Need-loop-c-smaller invariant-loop-c decreases-loop-c
-loop-c-smaller c = omega (arith, c.loop-c-test.true, next_below c.before.before.before.before.before.before.before.before.before.before.before.before.before.before)
+loop-c-smaller c = omega (arith, c.loop-c-test.true, next_below (loop-c-of-slice_known-in-loop-c-3-1 c))
 
 loop-c-preserved : tie.Need-loop-c-preserved invariant-loop-c decreases-loop-c
 loop-c-preserved c =

@@ -20,6 +20,19 @@ invariant-loop-k from to at rows values logs words graph_idx₀ cost₀ source n
 abbrev decreases-loop-k : tie.decreases-loop-k
 decreases-loop-k from to at rows values logs words graph_idx₀ cost₀ source next₀ top₀ k₀ graph_idx cost next top k = to - k
 
+-- places of the proof, each from a later one
+abbrev in-loop-k-of-shared_slice_known-in-loop-k-3-1-unread : tie.After-shared_slice_known-in-loop-k-3-1-unread invariant-loop-k decreases-loop-k → tie.In-loop-k invariant-loop-k decreases-loop-k
+in-loop-k-of-shared_slice_known-in-loop-k-3-1-unread c = c.before.before.before.before.before
+
+abbrev in-loop-k-of-shared_slice_known-in-loop-k-3-1 : tie.After-shared_slice_known-in-loop-k-3-1 invariant-loop-k decreases-loop-k → tie.In-loop-k invariant-loop-k decreases-loop-k
+in-loop-k-of-shared_slice_known-in-loop-k-3-1 c = c.before.before.before.before.before
+
+abbrev in-loop-k-of-shared_slice_known-in-loop-k-4-1 : tie.After-shared_slice_known-in-loop-k-4-1 invariant-loop-k decreases-loop-k → tie.In-loop-k invariant-loop-k decreases-loop-k
+in-loop-k-of-shared_slice_known-in-loop-k-4-1 c = c.before.before.before.before.before.before.before
+
+abbrev in-loop-k-of-larger-top : tie.After-larger-top invariant-loop-k decreases-loop-k → tie.In-loop-k invariant-loop-k decreases-loop-k
+in-loop-k-of-larger-top c = c.before.before.before.before.before.before.before.before
+
 -- the next entry goes no further than where it stood
 next_below : (c : tie.In-loop-k invariant-loop-k decreases-loop-k) → let a = c.args in let l = c.loop-k in
     (l.next ≤ l.k) × (l.k < length a.row_idx.now)
@@ -78,7 +91,7 @@ offset_bounds-words-k : tie.Need-offset_bounds-words-k invariant-loop-k decrease
 offset_bounds-words-k c = omega arith
 
 bounds-words-k : tie.Need-bounds-words-k invariant-loop-k decreases-loop-k
-bounds-words-k c = omega (arith, next_below c.before.before.before.before.before)
+bounds-words-k c = omega (arith, next_below (in-loop-k-of-shared_slice_known-in-loop-k-3-1-unread c))
 
 entry_log-log-requires : tie.Need-entry_log-log-requires invariant-loop-k decreases-loop-k
 entry_log-log-requires c κs =
@@ -86,7 +99,7 @@ entry_log-log-requires c κs =
     let pre = c.requires in
     let k = c.loop-k.k in
     subst (λ (i : ℕ). WordOf args.source (get_or args.logs.now k nan) (get_or args.words.now i 0)) (zero-add k)
-    (pre.1.1.1.0 k (omega (arith, next_below c.before.before.before.before.before, pre.1.0.1)))
+    (pre.1.1.1.0 k (omega (arith, next_below (in-loop-k-of-shared_slice_known-in-loop-k-3-1 c), pre.1.0.1)))
 
 offset_bounds-row_idx-k : tie.Need-offset_bounds-row_idx-k invariant-loop-k decreases-loop-k
 offset_bounds-row_idx-k c = omega arith
@@ -98,7 +111,7 @@ offset_bounds-graph_rows-next : tie.Need-offset_bounds-graph_rows-next invariant
 offset_bounds-graph_rows-next c =
     omega (
       arith,
-      next_below c.before.before.before.before.before.before.before,
+      next_below (in-loop-k-of-shared_slice_known-in-loop-k-4-1 c),
       c.loop-k.invariant.2,
       c.loop-k.invariant.3,
       c.requires,
@@ -108,7 +121,7 @@ bounds-graph_rows-next : tie.Need-bounds-graph_rows-next invariant-loop-k decrea
 bounds-graph_rows-next c =
     omega (
       arith,
-      next_below c.before.before.before.before.before.before.before,
+      next_below (in-loop-k-of-shared_slice_known-in-loop-k-4-1 c),
       c.loop-k.invariant.2,
       c.loop-k.invariant.3,
       c.requires,
@@ -118,7 +131,7 @@ offset_bounds-cost-next : tie.Need-offset_bounds-cost-next invariant-loop-k decr
 offset_bounds-cost-next c =
     omega (
       arith,
-      next_below c.before.before.before.before.before.before.before,
+      next_below (in-loop-k-of-shared_slice_known-in-loop-k-4-1 c),
       c.loop-k.invariant.2,
       c.loop-k.invariant.3,
       c.requires,
@@ -128,7 +141,7 @@ bounds-cost-next : tie.Need-bounds-cost-next invariant-loop-k decreases-loop-k
 bounds-cost-next c =
     omega (
       arith,
-      next_below c.before.before.before.before.before.before.before,
+      next_below (in-loop-k-of-shared_slice_known-in-loop-k-4-1 c),
       c.loop-k.invariant.2,
       c.loop-k.invariant.3,
       c.requires,
@@ -139,7 +152,7 @@ larger-top-requires c κs = tt
 
 overflow_add-next : tie.Need-overflow_add-next invariant-loop-k decreases-loop-k
 overflow_add-next c =
-    omega (arith, next_below c.before.before.before.before.before.before.before.before, c.loop-k.invariant.2, c.loop-k.invariant.3, c.requires)
+    omega (arith, next_below (in-loop-k-of-larger-top c), c.loop-k.invariant.2, c.loop-k.invariant.3, c.requires)
 
 overflow_step-k-in-loop-k : tie.Need-overflow_step-k-in-loop-k invariant-loop-k decreases-loop-k
 overflow_step-k-in-loop-k c = omega arith
@@ -160,7 +173,7 @@ loop-k-preserved c =
           args.values.now args.from args.row_idx.now (entry_logs args.source args.logs.now) args.at args.graph_rows.now
           args.cost.now c.loop-k.k c.loop-k.invariant.0 c.loop-k.invariant.4
           (c.entry_log-log.ensures ∙ sym (entry_log_at args.source args.logs.now c.loop-k.k)) c.larger-top.ensures
-          (omega (arith, next_below (c.before.before.before.before.before.before.before.before), pre.1.1.0)) (omega (arith, next_below (c.before.before.before.before.before.before.before.before), pre.1.1.0))
+          (omega (arith, next_below ((in-loop-k-of-larger-top c)), pre.1.1.0)) (omega (arith, next_below ((in-loop-k-of-larger-top c)), pre.1.1.0))
           (sym c.is_kept.ensures ∙ c.if-not-is_kept.false),
     )
 

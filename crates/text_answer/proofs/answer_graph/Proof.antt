@@ -13,6 +13,25 @@ use Rattle.text_answer.proofs.Reports.{rows_printable, columns_printable, text_i
 use Rattle.text_answer.proofs.answer_graph.Statement.{statement}
 use Rattle.text_answer.proofs.answer_graph.Tie as tie
 
+-- places of the proof, each from a later one
+abbrev solve-found-of-counts-2-1 : tie.After-counts-2-1 → tie.After-solve-found
+solve-found-of-counts-2-1 c = c.before.before.before.before.before.before.before.before
+
+abbrev solve-found-of-perm-3-1 : tie.After-perm-3-1 → tie.After-solve-found
+solve-found-of-perm-3-1 c = c.before.before.before.before.before.before.before.before.before
+
+abbrev solve-found-of-u-3-1 : tie.After-u-3-1 → tie.After-solve-found
+solve-found-of-u-3-1 c = c.before.before.before.before.before.before.before.before.before.before
+
+abbrev solve-found-of-v-3-1 : tie.After-v-3-1 → tie.After-solve-found
+solve-found-of-v-3-1 c = c.before.before.before.before.before.before.before.before.before.before.before
+
+abbrev solve-found-of-put_form-arg-1 : tie.After-put_form-arg-1 → tie.After-solve-found
+solve-found-of-put_form-arg-1 c = c.before.before.before.before.before.before.before.before.before.before.before.before.before
+
+abbrev solve-found-of-slice_known-2-1 : tie.After-slice_known-2-1 → tie.After-solve-found
+solve-found-of-slice_known-2-1 c = c.before.before.before.before.before.before.before.before.before.before.before.before.before.before.before.before
+
 -- ---- what the match leaves
 abbrev order : tie.After-solve-found → ℕ
 order c = c.args.n
@@ -97,27 +116,27 @@ put_counts-requires : tie.Need-put_counts-requires
 put_counts-requires c κs = search rules
 
 slice_bounds-perm-end-2 : tie.Need-slice_bounds-perm-end-2
-slice_bounds-perm-end-2 c = part_within _ 64 _ (perm-left c.before.before.before.before.before.before.before.before) (few c.before.before.before.before.before.before.before.before) c.solve-found.auto.perm
+slice_bounds-perm-end-2 c = part_within _ 64 _ (perm-left (solve-found-of-counts-2-1 c)) (few (solve-found-of-counts-2-1 c)) c.solve-found.auto.perm
 
 slice_bounds-put_form-end : tie.Need-slice_bounds-put_form-end
 slice_bounds-put_form-end c =
-    sym (part_again _ 64 _ (perm-left c.before.before.before.before.before.before.before.before.before) (few c.before.before.before.before.before.before.before.before.before) c.solve-found.auto.perm)
+    sym (part_again _ 64 _ (perm-left (solve-found-of-perm-3-1 c)) (few (solve-found-of-perm-3-1 c)) c.solve-found.auto.perm)
 
 slice_bounds-u-end-2 : tie.Need-slice_bounds-u-end-2
 slice_bounds-u-end-2 c =
-    part_within _ 64 _ (u-left c.before.before.before.before.before.before.before.before.before) (few c.before.before.before.before.before.before.before.before.before) c.solve-found.auto.u
+    part_within _ 64 _ (u-left (solve-found-of-perm-3-1 c)) (few (solve-found-of-perm-3-1 c)) c.solve-found.auto.u
 
 slice_bounds-put_form-end-2 : tie.Need-slice_bounds-put_form-end-2
 slice_bounds-put_form-end-2 c =
-    sym (part_again _ 64 _ (u-left c.before.before.before.before.before.before.before.before.before.before) (few c.before.before.before.before.before.before.before.before.before.before) c.solve-found.auto.u)
+    sym (part_again _ 64 _ (u-left (solve-found-of-u-3-1 c)) (few (solve-found-of-u-3-1 c)) c.solve-found.auto.u)
 
 slice_bounds-v-end-2 : tie.Need-slice_bounds-v-end-2
 slice_bounds-v-end-2 c =
-    part_within _ 64 _ (v-left c.before.before.before.before.before.before.before.before.before.before) (few c.before.before.before.before.before.before.before.before.before.before) c.solve-found.auto.v
+    part_within _ 64 _ (v-left (solve-found-of-u-3-1 c)) (few (solve-found-of-u-3-1 c)) c.solve-found.auto.v
 
 slice_bounds-put_form-end-3 : tie.Need-slice_bounds-put_form-end-3
 slice_bounds-put_form-end-3 c =
-    sym (part_again _ 64 _ (v-left c.before.before.before.before.before.before.before.before.before.before.before) (few c.before.before.before.before.before.before.before.before.before.before.before) c.solve-found.auto.v)
+    sym (part_again _ 64 _ (v-left (solve-found-of-v-3-1 c)) (few (solve-found-of-v-3-1 c)) c.solve-found.auto.v)
 
 slice_bounds-put_form-end-4 : tie.Need-slice_bounds-put_form-end-4
 slice_bounds-put_form-end-4 c = search rules
@@ -127,18 +146,18 @@ put_form-requires c κs =
     let pre = c.requires in (
       pre.few,
       (
-        part_again _ 64 _ (perm-left c.before.before.before.before.before.before.before.before.before.before.before.before.before) (few c.before.before.before.before.before.before.before.before.before.before.before.before.before) c.solve-found.auto.perm,
+        part_again _ 64 _ (perm-left (solve-found-of-put_form-arg-1 c)) (few (solve-found-of-put_form-arg-1 c)) c.solve-found.auto.perm,
         (
-          part_again _ 64 _ (u-left c.before.before.before.before.before.before.before.before.before.before.before.before.before) (few c.before.before.before.before.before.before.before.before.before.before.before.before.before) c.solve-found.auto.u,
+          part_again _ 64 _ (u-left (solve-found-of-put_form-arg-1 c)) (few (solve-found-of-put_form-arg-1 c)) c.solve-found.auto.u,
           (
-            part_again _ 64 _ (v-left c.before.before.before.before.before.before.before.before.before.before.before.before.before) (few c.before.before.before.before.before.before.before.before.before.before.before.before.before) c.solve-found.auto.v,
+            part_again _ 64 _ (v-left (solve-found-of-put_form-arg-1 c)) (few (solve-found-of-put_form-arg-1 c)) c.solve-found.auto.v,
             (
               c.put_counts.auto.answer,
               (
                 omega (arith, pre.room),
                 (
-                  rows_printable pre c.solve-found.ensures (take_at (u-left c.before.before.before.before.before.before.before.before.before.before.before.before.before) _ _ (u-long c.before.before.before.before.before.before.before.before.before.before.before.before.before)),
-                  columns_printable pre c.solve-found.ensures (take_at (v-left c.before.before.before.before.before.before.before.before.before.before.before.before.before) _ _ (v-long c.before.before.before.before.before.before.before.before.before.before.before.before.before)),
+                  rows_printable pre c.solve-found.ensures (take_at (u-left (solve-found-of-put_form-arg-1 c)) _ _ (u-long (solve-found-of-put_form-arg-1 c))),
+                  columns_printable pre c.solve-found.ensures (take_at (v-left (solve-found-of-put_form-arg-1 c)) _ _ (v-long (solve-found-of-put_form-arg-1 c))),
                 ),
               ),
             ),
@@ -153,8 +172,8 @@ shape_of-output c = search rules
 returns : tie.Need-returns
 returns c =
     (
-      wrote _ (text_is c.requires c.solve-found.ensures c.args.form (take_at (perm-left c.before.before.before.before.before.before.before.before.before.before.before.before.before.before.before.before) _ _ (perm-long c.before.before.before.before.before.before.before.before.before.before.before.before.before.before.before.before))
-          (take_at (u-left c.before.before.before.before.before.before.before.before.before.before.before.before.before.before.before.before) _ _ (u-long c.before.before.before.before.before.before.before.before.before.before.before.before.before.before.before.before)) (take_at (v-left c.before.before.before.before.before.before.before.before.before.before.before.before.before.before.before.before) _ _ (v-long c.before.before.before.before.before.before.before.before.before.before.before.before.before.before.before.before)) c.put_counts.ensures)
+      wrote _ (text_is c.requires c.solve-found.ensures c.args.form (take_at (perm-left (solve-found-of-slice_known-2-1 c)) _ _ (perm-long (solve-found-of-slice_known-2-1 c)))
+          (take_at (u-left (solve-found-of-slice_known-2-1 c)) _ _ (u-long (solve-found-of-slice_known-2-1 c))) (take_at (v-left (solve-found-of-slice_known-2-1 c)) _ _ (v-long (solve-found-of-slice_known-2-1 c))) c.put_counts.ensures)
           c.put_form.ensures.0 c.put_form.ensures.1.0,
       c.put_form.ensures.1.1,
     )

@@ -14,6 +14,25 @@ use borrow.Author.Rules.{rules}
 use Rattle.text_answer.proofs.answer_input.Statement.{statement}
 use Rattle.text_answer.proofs.answer_input.Tie as tie
 
+-- places of the proof, each from a later one
+abbrev read_file-verdict-of-in-File : tie.In-File → tie.After-read_file-verdict
+read_file-verdict-of-in-File c = c.before.before.before.before
+
+abbrev in-File-of-answer_entries-arg-1 : tie.After-answer_entries-arg-1 → tie.In-File
+in-File-of-answer_entries-arg-1 c = c.before.before.before.before
+
+abbrev read_file-verdict-of-answer_entries-arg-1 : tie.After-answer_entries-arg-1 → tie.After-read_file-verdict
+read_file-verdict-of-answer_entries-arg-1 c = c.before.before.before.before.before.before.before.before
+
+abbrev in-File-of-slice_known-in-File-1 : tie.After-slice_known-in-File-1 → tie.In-File
+in-File-of-slice_known-in-File-1 c = c.before.before.before.before.before.before.before
+
+abbrev read_file-verdict-of-slice_known-in-File-1 : tie.After-slice_known-in-File-1 → tie.After-read_file-verdict
+read_file-verdict-of-slice_known-in-File-1 c = c.before.before.before.before.before.before.before.before.before.before.before
+
+abbrev read_file-verdict-of-slice_known-in-Refused-1 : tie.After-slice_known-in-Refused-1 → tie.After-read_file-verdict
+read_file-verdict-of-slice_known-in-Refused-1 c = c.before.before.before.before.before.before.before.before
+
 -- ---- what was read
 abbrev after : tie.After-read_file-verdict → Lists
 after c = lists c.read_file-verdict.new.rows c.read_file-verdict.new.columns c.read_file-verdict.new.weights
@@ -28,11 +47,11 @@ abbrev count_of : tie.In-File → ℕ
 count_of c = c.in-File.count
 
 held : (c : tie.In-File) → file c.in-File.kind c.in-File.n
-    (first_entries (count_of c) (after c.before.before.before.before.before.before)) ≡ reading_of (input_of c.before.before.before.before.before.before)
-held c = by_verdict (after c.before.before.before.before.before.before) c.in-File.is c.read_file-verdict.ensures.0
+    (first_entries (count_of c) (after (read_file-verdict-of-in-File c))) ≡ reading_of (input_of (read_file-verdict-of-in-File c))
+held c = by_verdict (after (read_file-verdict-of-in-File c)) c.in-File.is c.read_file-verdict.ensures.0
 
-fits : (c : tie.In-File) → Places (count_of c) (after c.before.before.before.before.before.before)
-fits c = count_fits (count_of c) (input_of c.before.before.before.before.before.before) (after c.before.before.before.before.before.before) (held c) (places c.before.before.before.before.before.before)
+fits : (c : tie.In-File) → Places (count_of c) (after (read_file-verdict-of-in-File c))
+fits c = count_fits (count_of c) (input_of (read_file-verdict-of-in-File c)) (after (read_file-verdict-of-in-File c)) (held c) (places (read_file-verdict-of-in-File c))
 
 -- ---- the needs
 slice_bounds-read_file-end : tie.Need-slice_bounds-read_file-end
@@ -73,8 +92,8 @@ slice_bounds-answer_entries-end-in-File-2 c = sym (length-take-le _ _ (fits c.be
 
 answer_entries-requires : tie.Need-answer_entries-requires
 answer_entries-requires c κs =
-    entries_are (count_of c.before.before.before.before) (input_of (c.before.before.before.before.before.before.before.before.before.before)) (after (c.before.before.before.before.before.before.before.before.before.before)) (held c.before.before.before.before)
-    (places (c.before.before.before.before.before.before.before.before.before.before)) c.requires
+    entries_are (count_of (in-File-of-answer_entries-arg-1 c)) (input_of ((read_file-verdict-of-answer_entries-arg-1 c))) (after ((read_file-verdict-of-answer_entries-arg-1 c))) (held (in-File-of-answer_entries-arg-1 c))
+    (places ((read_file-verdict-of-answer_entries-arg-1 c))) c.requires
 
 enum_known-verdict-in-Refused-1 : tie.Need-enum_known-verdict-in-Refused-1
 enum_known-verdict-in-Refused-1 c = search rules
@@ -89,8 +108,8 @@ returns-in-File : tie.Need-returns-in-File
 returns-in-File c =
     (
       c.answer_entries.ensures.0 ∙ ap (λ (text : List ℕ). report_written text
-          c.args.output.now) (text_is (count_of (c.before.before.before.before.before.before.before)) (input_of (c.before.before.before.before.before.before.before.before.before.before.before.before.before)) (after (c.before.before.before.before.before.before.before.before.before.before.before.before.before))
-          (held (c.before.before.before.before.before.before.before)) (places (c.before.before.before.before.before.before.before.before.before.before.before.before.before)) c.args.form),
+          c.args.output.now) (text_is (count_of ((in-File-of-slice_known-in-File-1 c))) (input_of ((read_file-verdict-of-slice_known-in-File-1 c))) (after ((read_file-verdict-of-slice_known-in-File-1 c)))
+          (held ((in-File-of-slice_known-in-File-1 c))) (places ((read_file-verdict-of-slice_known-in-File-1 c))) c.args.form),
       c.answer_entries.ensures.1,
     )
 
@@ -101,7 +120,7 @@ returns-in-Refused : tie.Need-returns-in-Refused
 returns-in-Refused c =
     (
       wrote _ (refused_text_lem c.args.form _
-          (by_verdict (after (c.before.before.before.before.before.before.before.before.before.before)) c.in-Refused.is
+          (by_verdict (after ((read_file-verdict-of-slice_known-in-Refused-1 c))) c.in-Refused.is
           c.read_file-verdict.ensures.0)) c.put_refused.ensures.0
           c.put_refused.ensures.1.0,
       omega (

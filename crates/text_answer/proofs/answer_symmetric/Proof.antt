@@ -18,6 +18,31 @@ use Rattle.text_answer.proofs.Mirrors.{symmetric_values, held_graph, some_repeat
 use Rattle.text_answer.proofs.answer_symmetric.Statement.{statement}
 use Rattle.text_answer.proofs.answer_symmetric.Tie as tie
 
+-- places of the proof, each from a later one
+abbrev symmetric_graph-built-of-in-Graph-2 : tie.In-Graph-2 → tie.After-symmetric_graph-built
+symmetric_graph-built-of-in-Graph-2 c = c.before.before.before.before.before
+
+abbrev symmetric_graph-built-of-in-Graph : tie.In-Graph → tie.After-symmetric_graph-built
+symmetric_graph-built-of-in-Graph c = c.before.before.before.before
+
+abbrev symmetric_graph-built-of-graph_ptr-in-Graph-1 : tie.After-graph_ptr-in-Graph-1 → tie.After-symmetric_graph-built
+symmetric_graph-built-of-graph_ptr-in-Graph-1 c = c.before.before.before.before.before
+
+abbrev symmetric_graph-built-of-graph_rows-in-Graph-1 : tie.After-graph_rows-in-Graph-1 → tie.After-symmetric_graph-built
+symmetric_graph-built-of-graph_rows-in-Graph-1 c = c.before.before.before.before.before.before
+
+abbrev symmetric_graph-built-of-cost-in-Graph-1 : tie.After-cost-in-Graph-1 → tie.After-symmetric_graph-built
+symmetric_graph-built-of-cost-in-Graph-1 c = c.before.before.before.before.before.before.before
+
+abbrev symmetric_graph-built-of-answer_graph-arg-1 : tie.After-answer_graph-arg-1 → tie.After-symmetric_graph-built
+symmetric_graph-built-of-answer_graph-arg-1 c = c.before.before.before.before.before.before.before.before
+
+abbrev symmetric_graph-built-of-slice_known-in-Graph-1 : tie.After-slice_known-in-Graph-1 → tie.After-symmetric_graph-built
+symmetric_graph-built-of-slice_known-in-Graph-1 c = c.before.before.before.before.before.before.before.before.before.before.before
+
+abbrev symmetric_graph-built-of-slice_known-in-Repeated-1 : tie.After-slice_known-in-Repeated-1 → tie.After-symmetric_graph-built
+symmetric_graph-built-of-slice_known-in-Repeated-1 c = c.before.before.before.before.before.before.before.before
+
 -- ---- what is left
 abbrev pointers : tie.After-symmetric_graph-built → List ℕ
 pointers c = c.symmetric_graph-built.new.graph_ptr
@@ -44,20 +69,20 @@ cost-long : (c : tie.After-symmetric_graph-built) → length (cost-left c) ≡ 2
 cost-long c = c.symmetric_graph-built.auto.cost ∙ part_length _ 1024 _ (short c)
 
 abbrev kept : tie.In-Graph-2 → ℕ
-kept c = c.built-1.given.0.0
+kept c = c.in-Graph.kept
 
 holds : (c : tie.In-Graph-2)
     → 
     let args = c.args in
-    HoldsGraph args.n (triplets args.rows.now args.cols.now args.values.now) (pointers c.before.before.before.before.before) (rows_left c.before.before.before.before.before) (cost-left c.before.before.before.before.before) (kept c)
+    HoldsGraph args.n (triplets args.rows.now args.cols.now args.values.now) (pointers (symmetric_graph-built-of-in-Graph-2 c)) (rows_left (symmetric_graph-built-of-in-Graph-2 c)) (cost-left (symmetric_graph-built-of-in-Graph-2 c)) (kept c)
 holds c =
-    held_graph c.requires (pointers c.before.before.before.before.before) (rows_left c.before.before.before.before.before) (cost-left c.before.before.before.before.before) c.built-1.given.1 c.symmetric_graph-built.ensures.0
+    held_graph c.requires (pointers (symmetric_graph-built-of-in-Graph-2 c)) (rows_left (symmetric_graph-built-of-in-Graph-2 c)) (cost-left (symmetric_graph-built-of-in-Graph-2 c)) c.in-Graph.is c.symmetric_graph-built.ensures.0
 
-rows_room : (c : tie.In-Graph-2) → kept c ≤ length (rows_left c.before.before.before.before.before)
-rows_room c = omega (arith, (holds c).ranges, rows_long c.before.before.before.before.before)
+rows_room : (c : tie.In-Graph-2) → kept c ≤ length (rows_left (symmetric_graph-built-of-in-Graph-2 c))
+rows_room c = omega (arith, (holds c).ranges, rows_long (symmetric_graph-built-of-in-Graph-2 c))
 
-cost_room_lem : (c : tie.In-Graph-2) → kept c ≤ length (cost-left c.before.before.before.before.before)
-cost_room_lem c = omega (arith, (holds c).ranges, cost-long c.before.before.before.before.before)
+cost_room_lem : (c : tie.In-Graph-2) → kept c ≤ length (cost-left (symmetric_graph-built-of-in-Graph-2 c))
+cost_room_lem c = omega (arith, (holds c).ranges, cost-long (symmetric_graph-built-of-in-Graph-2 c))
 
 -- a part that is left, with anything behind it, has room
 with-more : {A : Type 0} (k : ℕ) (l m : List A) → k ≤ length l → k ≤ length (l ++ m)
@@ -106,35 +131,35 @@ overflow_cast-count : tie.Need-overflow_cast-count
 overflow_cast-count c = search rules
 
 overflow_add-graph_ptr-in-Graph : tie.Need-overflow_add-graph_ptr-in-Graph
-overflow_add-graph_ptr-in-Graph c = omega (arith, few c.before.before.before.before.before.before)
+overflow_add-graph_ptr-in-Graph c = omega (arith, few (symmetric_graph-built-of-in-Graph c))
 
 slice_bounds-graph_ptr-end-in-Graph : tie.Need-slice_bounds-graph_ptr-end-in-Graph
 slice_bounds-graph_ptr-end-in-Graph c =
-    part_within _ 65 _ (pointers c.before.before.before.before.before.before) (few c.before.before.before.before.before.before) c.symmetric_graph-built.auto.graph_ptr
+    part_within _ 65 _ (pointers (symmetric_graph-built-of-in-Graph c)) (few (symmetric_graph-built-of-in-Graph c)) c.symmetric_graph-built.auto.graph_ptr
 
 slice_bounds-answer_graph-end : tie.Need-slice_bounds-answer_graph-end
 slice_bounds-answer_graph-end c =
-    sym (part_again _ 65 _ (pointers c.before.before.before.before.before.before.before) (few c.before.before.before.before.before.before.before) c.symmetric_graph-built.auto.graph_ptr)
+    sym (part_again _ 65 _ (pointers (symmetric_graph-built-of-graph_ptr-in-Graph-1 c)) (few (symmetric_graph-built-of-graph_ptr-in-Graph-1 c)) c.symmetric_graph-built.auto.graph_ptr)
 
 slice_bounds-graph_rows-end-in-Graph : tie.Need-slice_bounds-graph_rows-end-in-Graph
-slice_bounds-graph_rows-end-in-Graph c = with-more (kept c.before.before) (rows_left c.before.before.before.before.before.before.before) _ (rows_room c.before.before)
+slice_bounds-graph_rows-end-in-Graph c = with-more (kept built) (rows_left (symmetric_graph-built-of-graph_ptr-in-Graph-1 c)) _ (rows_room built)
 
 slice_bounds-answer_graph-end-in-Graph : tie.Need-slice_bounds-answer_graph-end-in-Graph
 slice_bounds-answer_graph-end-in-Graph c =
-    sym (length-take-le _ _ (with-more (kept c.before.before.before) (rows_left c.before.before.before.before.before.before.before.before) _ (rows_room c.before.before.before)))
+    sym (length-take-le _ _ (with-more (kept built) (rows_left (symmetric_graph-built-of-graph_rows-in-Graph-1 c)) _ (rows_room built)))
 
 slice_bounds-cost-end-in-Graph : tie.Need-slice_bounds-cost-end-in-Graph
-slice_bounds-cost-end-in-Graph c = with-more (kept c.before.before.before) (cost-left c.before.before.before.before.before.before.before.before) _ (cost_room_lem c.before.before.before)
+slice_bounds-cost-end-in-Graph c = with-more (kept built) (cost-left (symmetric_graph-built-of-graph_rows-in-Graph-1 c)) _ (cost_room_lem built)
 
 slice_bounds-answer_graph-end-in-Graph-2 : tie.Need-slice_bounds-answer_graph-end-in-Graph-2
 slice_bounds-answer_graph-end-in-Graph-2 c =
-    sym (length-take-le _ _ (with-more (kept c.before.before.before.before) (cost-left c.before.before.before.before.before.before.before.before.before) _ (cost_room_lem c.before.before.before.before)))
+    sym (length-take-le _ _ (with-more (kept built) (cost-left (symmetric_graph-built-of-cost-in-Graph-1 c)) _ (cost_room_lem built)))
 
 answer_graph-requires : tie.Need-answer_graph-requires
 answer_graph-requires c κs =
-    reportable c.requires (pointers c.before.before.before.before.before.before.before.before.before.before) (rows_left c.before.before.before.before.before.before.before.before.before.before) (cost-left c.before.before.before.before.before.before.before.before.before.before) (holds c.before.before.before.before.before)
-    (take_at (pointers c.before.before.before.before.before.before.before.before.before.before) _ _ (pointers-long c.before.before.before.before.before.before.before.before.before.before)) (take-append-le (kept c.before.before.before.before.before) (rows_left c.before.before.before.before.before.before.before.before.before.before) _ (rows_room c.before.before.before.before.before))
-    (take-append-le (kept c.before.before.before.before.before) (cost-left c.before.before.before.before.before.before.before.before.before.before) _ (cost_room_lem c.before.before.before.before.before))
+    reportable c.requires (pointers (symmetric_graph-built-of-answer_graph-arg-1 c)) (rows_left (symmetric_graph-built-of-answer_graph-arg-1 c)) (cost-left (symmetric_graph-built-of-answer_graph-arg-1 c)) (holds built)
+    (take_at (pointers (symmetric_graph-built-of-answer_graph-arg-1 c)) _ _ (pointers-long (symmetric_graph-built-of-answer_graph-arg-1 c))) (take-append-le (kept built) (rows_left (symmetric_graph-built-of-answer_graph-arg-1 c)) _ (rows_room built))
+    (take-append-le (kept built) (cost-left (symmetric_graph-built-of-answer_graph-arg-1 c)) _ (cost_room_lem built))
 
 enum_told-1 : tie.Need-enum_told-1
 enum_told-1 c = search rules
@@ -149,9 +174,9 @@ returns-in-Graph : tie.Need-returns-in-Graph
 returns-in-Graph c =
     (
       λ weights v. c.answer_graph.ensures.0 ∙ ap (λ (text : List ℕ). report_written text c.args.output.now)
-          (graph_text_lem c.requires (pointers c.before.before.before.before.before.before.before.before.before.before.before.before.before) (rows_left c.before.before.before.before.before.before.before.before.before.before.before.before.before) (cost-left c.before.before.before.before.before.before.before.before.before.before.before.before.before) (holds c.before.before.before.before.before.before.before.before)
-          (take_at (pointers c.before.before.before.before.before.before.before.before.before.before.before.before.before) _ _ (pointers-long c.before.before.before.before.before.before.before.before.before.before.before.before.before)) (take-append-le (kept c.before.before.before.before.before.before.before.before) (rows_left c.before.before.before.before.before.before.before.before.before.before.before.before.before) _ (rows_room c.before.before.before.before.before.before.before.before))
-          (take-append-le (kept c.before.before.before.before.before.before.before.before) (cost-left c.before.before.before.before.before.before.before.before.before.before.before.before.before) _ (cost_room_lem c.before.before.before.before.before.before.before.before)) c.args.form weights v),
+          (graph_text_lem c.requires (pointers (symmetric_graph-built-of-slice_known-in-Graph-1 c)) (rows_left (symmetric_graph-built-of-slice_known-in-Graph-1 c)) (cost-left (symmetric_graph-built-of-slice_known-in-Graph-1 c)) (holds built)
+          (take_at (pointers (symmetric_graph-built-of-slice_known-in-Graph-1 c)) _ _ (pointers-long (symmetric_graph-built-of-slice_known-in-Graph-1 c))) (take-append-le (kept built) (rows_left (symmetric_graph-built-of-slice_known-in-Graph-1 c)) _ (rows_room built))
+          (take-append-le (kept built) (cost-left (symmetric_graph-built-of-slice_known-in-Graph-1 c)) _ (cost_room_lem built)) c.args.form weights v),
       c.answer_graph.ensures.1,
     )
 
@@ -161,8 +186,8 @@ shape_of-output-in-Repeated c = search rules
 returns-in-Repeated : tie.Need-returns-in-Repeated
 returns-in-Repeated c =
     (
-      λ weights v. wrote _ (repeated_text c.requires c.args.form (some_repeated c.requires (pointers c.before.before.before.before.before.before.before.before.before)
-          (rows_left c.before.before.before.before.before.before.before.before.before) (cost-left c.before.before.before.before.before.before.before.before.before) c.in-Repeated.is c.symmetric_graph-built.ensures.0) weights)
+      λ weights v. wrote _ (repeated_text c.requires c.args.form (some_repeated c.requires (pointers (symmetric_graph-built-of-slice_known-in-Repeated-1 c))
+          (rows_left (symmetric_graph-built-of-slice_known-in-Repeated-1 c)) (cost-left (symmetric_graph-built-of-slice_known-in-Repeated-1 c)) c.in-Repeated.is c.symmetric_graph-built.ensures.0) weights)
           c.put_refused.ensures.0 c.put_refused.ensures.1.0,
       c.put_refused.ensures.1.1,
     )

@@ -15,6 +15,25 @@ use Rattle.text_answer.proofs.Assembly.{sized, roomy, repeated_text, reportable,
 use Rattle.text_answer.proofs.answer_triplets.Statement.{statement}
 use Rattle.text_answer.proofs.answer_triplets.Tie as tie
 
+-- places of the proof, each from a later one
+abbrev assemble-kept-of-else-kept-len : tie.Else-kept-len → tie.After-assemble-kept
+assemble-kept-of-else-kept-len c = c.before.before.before.before.before
+
+abbrev assemble-kept-of-col_ptr-3-1 : tie.After-col_ptr-3-1 → tie.After-assemble-kept
+assemble-kept-of-col_ptr-3-1 c = c.before.before.before.before.before.before
+
+abbrev assemble-kept-of-row_idx-3-1 : tie.After-row_idx-3-1 → tie.After-assemble-kept
+assemble-kept-of-row_idx-3-1 c = c.before.before.before.before.before.before.before
+
+abbrev assemble-kept-of-cost-3-1 : tie.After-cost-3-1 → tie.After-assemble-kept
+assemble-kept-of-cost-3-1 c = c.before.before.before.before.before.before.before.before
+
+abbrev assemble-kept-of-answer_graph-arg-1 : tie.After-answer_graph-arg-1 → tie.After-assemble-kept
+assemble-kept-of-answer_graph-arg-1 c = c.before.before.before.before.before.before.before.before.before
+
+abbrev assemble-kept-of-slice_known-2-1 : tie.After-slice_known-2-1 → tie.After-assemble-kept
+assemble-kept-of-slice_known-2-1 c = c.before.before.before.before.before.before.before.before.before.before.before.before
+
 -- ---- what is assembled
 abbrev order : tie.After-assemble-kept → ℕ
 order c = c.args.n
@@ -109,36 +128,36 @@ returns-then-kept-len c =
     )
 
 overflow_add-col_ptr-2 : tie.Need-overflow_add-col_ptr-2
-overflow_add-col_ptr-2 c = omega (arith, few c.before.before.before.before.before)
+overflow_add-col_ptr-2 c = omega (arith, few (assemble-kept-of-else-kept-len c))
 
 slice_bounds-col_ptr-end-2 : tie.Need-slice_bounds-col_ptr-end-2
-slice_bounds-col_ptr-end-2 c = part_within _ 65 _ (pointers c.before.before.before.before.before) (few c.before.before.before.before.before) c.assemble-kept.auto.col_ptr
+slice_bounds-col_ptr-end-2 c = part_within _ 65 _ (pointers (assemble-kept-of-else-kept-len c)) (few (assemble-kept-of-else-kept-len c)) c.assemble-kept.auto.col_ptr
 
 slice_bounds-answer_graph-end : tie.Need-slice_bounds-answer_graph-end
 slice_bounds-answer_graph-end c =
-    sym (part_again _ 65 _ (pointers c.before.before.before.before.before.before) (few c.before.before.before.before.before.before) c.assemble-kept.auto.col_ptr)
+    sym (part_again _ 65 _ (pointers (assemble-kept-of-col_ptr-3-1 c)) (few (assemble-kept-of-col_ptr-3-1 c)) c.assemble-kept.auto.col_ptr)
 
 slice_bounds-row_idx-end-2 : tie.Need-slice_bounds-row_idx-end-2
 slice_bounds-row_idx-end-2 c =
-    part_within _ 512 _ (rows_left c.before.before.before.before.before.before) (short c.before.before.before.before.before.before) c.assemble-kept.auto.row_idx
+    part_within _ 512 _ (rows_left (assemble-kept-of-col_ptr-3-1 c)) (short (assemble-kept-of-col_ptr-3-1 c)) c.assemble-kept.auto.row_idx
 
 slice_bounds-answer_graph-end-2 : tie.Need-slice_bounds-answer_graph-end-2
 slice_bounds-answer_graph-end-2 c =
-    sym (part_again _ 512 _ (rows_left c.before.before.before.before.before.before.before) (short c.before.before.before.before.before.before.before) c.assemble-kept.auto.row_idx)
+    sym (part_again _ 512 _ (rows_left (assemble-kept-of-row_idx-3-1 c)) (short (assemble-kept-of-row_idx-3-1 c)) c.assemble-kept.auto.row_idx)
 
 slice_bounds-cost-end-2 : tie.Need-slice_bounds-cost-end-2
 slice_bounds-cost-end-2 c =
-    part_within _ 512 _ (cost-left c.before.before.before.before.before.before.before) (short c.before.before.before.before.before.before.before) c.assemble-kept.auto.values
+    part_within _ 512 _ (cost-left (assemble-kept-of-row_idx-3-1 c)) (short (assemble-kept-of-row_idx-3-1 c)) c.assemble-kept.auto.values
 
 slice_bounds-answer_graph-end-3 : tie.Need-slice_bounds-answer_graph-end-3
 slice_bounds-answer_graph-end-3 c =
-    sym (part_again _ 512 _ (cost-left c.before.before.before.before.before.before.before.before) (short c.before.before.before.before.before.before.before.before) c.assemble-kept.auto.values)
+    sym (part_again _ 512 _ (cost-left (assemble-kept-of-cost-3-1 c)) (short (assemble-kept-of-cost-3-1 c)) c.assemble-kept.auto.values)
 
 answer_graph-requires : tie.Need-answer_graph-requires
 answer_graph-requires c κs =
-    reportable c.requires c.assemble-kept.ensures c.if-kept-len.false (part_length _ 512 _ (short c.before.before.before.before.before.before.before.before.before))
-    (part_length _ 512 _ (short c.before.before.before.before.before.before.before.before.before)) (take_at (pointers c.before.before.before.before.before.before.before.before.before) _ _ (pointers-long c.before.before.before.before.before.before.before.before.before)) (take_at (rows_left c.before.before.before.before.before.before.before.before.before) _ _ (rows_long c.before.before.before.before.before.before.before.before.before))
-    (take_at (cost-left c.before.before.before.before.before.before.before.before.before) _ _ (cost-long c.before.before.before.before.before.before.before.before.before))
+    reportable c.requires c.assemble-kept.ensures c.if-kept-len.false (part_length _ 512 _ (short (assemble-kept-of-answer_graph-arg-1 c)))
+    (part_length _ 512 _ (short (assemble-kept-of-answer_graph-arg-1 c))) (take_at (pointers (assemble-kept-of-answer_graph-arg-1 c)) _ _ (pointers-long (assemble-kept-of-answer_graph-arg-1 c))) (take_at (rows_left (assemble-kept-of-answer_graph-arg-1 c)) _ _ (rows_long (assemble-kept-of-answer_graph-arg-1 c)))
+    (take_at (cost-left (assemble-kept-of-answer_graph-arg-1 c)) _ _ (cost-long (assemble-kept-of-answer_graph-arg-1 c)))
 
 shape_of-output : tie.Need-shape_of-output
 shape_of-output c = search rules
@@ -147,9 +166,9 @@ returns : tie.Need-returns
 returns c =
     (
       λ weights v. c.answer_graph.ensures.0 ∙ ap (λ (text : List ℕ). report_written text c.args.output.now)
-          (graph_text_lem c.requires c.assemble-kept.ensures c.if-kept-len.false (part_length _ 512 _ (short c.before.before.before.before.before.before.before.before.before.before.before.before)) (part_length _ 512 _ (short c.before.before.before.before.before.before.before.before.before.before.before.before))
-          (take_at (pointers c.before.before.before.before.before.before.before.before.before.before.before.before) _ _ (pointers-long c.before.before.before.before.before.before.before.before.before.before.before.before)) (take_at (rows_left c.before.before.before.before.before.before.before.before.before.before.before.before) _ _ (rows_long c.before.before.before.before.before.before.before.before.before.before.before.before))
-          (take_at (cost-left c.before.before.before.before.before.before.before.before.before.before.before.before) _ _ (cost-long c.before.before.before.before.before.before.before.before.before.before.before.before)) c.args.form weights v),
+          (graph_text_lem c.requires c.assemble-kept.ensures c.if-kept-len.false (part_length _ 512 _ (short (assemble-kept-of-slice_known-2-1 c))) (part_length _ 512 _ (short (assemble-kept-of-slice_known-2-1 c)))
+          (take_at (pointers (assemble-kept-of-slice_known-2-1 c)) _ _ (pointers-long (assemble-kept-of-slice_known-2-1 c))) (take_at (rows_left (assemble-kept-of-slice_known-2-1 c)) _ _ (rows_long (assemble-kept-of-slice_known-2-1 c)))
+          (take_at (cost-left (assemble-kept-of-slice_known-2-1 c)) _ _ (cost-long (assemble-kept-of-slice_known-2-1 c))) c.args.form weights v),
       c.answer_graph.ensures.1,
     )
 

@@ -12,6 +12,13 @@ use Rattle.text_report.specs.Form.{form_text}
 use Rattle.text_report.proofs.put_form.Statement.{statement}
 use Rattle.text_report.proofs.put_form.Tie as tie
 
+-- places of the proof, each from a later one
+abbrev entry-of-slice_known-in-Report-1 : tie.After-slice_known-in-Report-1 → tie.Start
+entry-of-slice_known-in-Report-1 c = c.before.before.before.before.before.before.before.before.before.before
+
+abbrev entry-of-slice_known-in-Pairs-1 : tie.After-slice_known-in-Pairs-1 → tie.Start
+entry-of-slice_known-in-Pairs-1 c = c.before.before.before.before.before.before.before.before.before.before.before
+
 -- the text of a form that is told
 abbrev told : (s : tie.Start) (form : Form) → s.args.form ≡ form
     → form_text form s.args.n s.args.perm.now s.args.u.now s.args.v.now s.args.counts.now
@@ -40,7 +47,7 @@ shape_of-out-in-Report c = search rules
 returns-in-Report : tie.Need-returns-in-Report
 unfolding form_text
 returns-in-Report c =
-    let e = told c.before.before.before.before.before.before.before.before.before.before.before Report c.in-Report.is in
+    let e = told (entry-of-slice_known-in-Report-1 c) Report c.in-Report.is in
     let done = c.put_match.ensures in (
       done.0 ∙ ap (λ (text : List ℕ). sets c.args.out.now 0 text) e,
       (
@@ -55,7 +62,7 @@ shape_of-out-in-Pairs c = search rules
 returns-in-Pairs : tie.Need-returns-in-Pairs
 unfolding form_text
 returns-in-Pairs c =
-    let e = told c.before.before.before.before.before.before.before.before.before.before.before.before Pairs c.in-Pairs.is in
+    let e = told (entry-of-slice_known-in-Pairs-1 c) Pairs c.in-Pairs.is in
     let done = c.put_pairs.ensures in (
       done.0 ∙ ap (λ (text : List ℕ). sets c.args.out.now 0 text) e,
       (

@@ -9,6 +9,16 @@ use Rattle.text_report.proofs.Fit.{parts_within}
 use Rattle.text_report.proofs.put_match.Statement.{statement}
 use Rattle.text_report.proofs.put_match.Tie as tie
 
+-- places of the proof, each from a later one
+abbrev slice_known-1-of-put_lines-arg-1 : tie.After-put_lines-arg-1 → tie.After-slice_known-1
+slice_known-1-of-put_lines-arg-1 c = c.before.before.before.before.before.before
+
+abbrev slice_known-1-of-put_counts-arg-1 : tie.After-put_counts-arg-1 → tie.After-slice_known-1
+slice_known-1-of-put_counts-arg-1 c = c.before.before.before.before.before.before.before.before.before.before
+
+abbrev slice_known-1-of-slice_known-4-1 : tie.After-slice_known-4-1 → tie.After-slice_known-1
+slice_known-1-of-slice_known-4-1 c = c.before.before.before.before.before.before.before.before.before.before.before.before.before
+
 -- all three parts fit
 parts : (c : tie.After-slice_known-1)
     → length (matched_line (get_or c.args.counts.now 0 0)
@@ -42,7 +52,7 @@ put_lines-after_pairs-requires c κs =
               pre.1.1.1.1.1.1.1,
               omega (
                 arith,
-                parts c.before.before.before.before.before.before,
+                parts (slice_known-1-of-put_lines-arg-1 c),
                 c.put_matched_line-after_first.ensures.place,
                 c.put_matched_line-after_first.auto.out,
               ),
@@ -58,7 +68,7 @@ put_counts-requires c κs =
       c.requires.1.1.1.1.0,
       omega (
         arith,
-        parts c.before.before.before.before.before.before.before.before.before.before,
+        parts (slice_known-1-of-put_counts-arg-1 c),
         c.put_matched_line-after_first.ensures.place,
         c.put_matched_line-after_first.auto.out,
         c.put_lines-after_pairs.ensures.place,
@@ -80,7 +90,7 @@ returns c =
         w.1,
         omega (
           arith,
-          parts c.before.before.before.before.before.before.before.before.before.before.before.before.before,
+          parts (slice_known-1-of-slice_known-4-1 c),
           c.put_matched_line-after_first.ensures.place,
           c.put_lines-after_pairs.ensures.place,
           c.put_counts.ensures.place,

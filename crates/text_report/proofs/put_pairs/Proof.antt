@@ -10,6 +10,16 @@ use Rattle.text_report.proofs.Pairs.{text_within}
 use Rattle.text_report.proofs.put_pairs.Statement.{statement}
 use Rattle.text_report.proofs.put_pairs.Tie as tie
 
+-- places of the proof, each from a later one
+abbrev shared_slice_known-1-of-put_pattern_size-arg-1 : tie.After-put_pattern_size-arg-1 → tie.After-shared_slice_known-1
+shared_slice_known-1-of-put_pattern_size-arg-1 c = c.before.before.before.before.before.before.before.before
+
+abbrev shared_slice_known-1-of-put_columns-arg-1 : tie.After-put_columns-arg-1 → tie.After-shared_slice_known-1
+shared_slice_known-1-of-put_columns-arg-1 c = c.before.before.before.before.before.before.before.before.before.before.before.before
+
+abbrev shared_slice_known-1-of-slice_known-4-1 : tie.After-slice_known-4-1 → tie.After-shared_slice_known-1
+shared_slice_known-1-of-slice_known-4-1 c = c.before.before.before.before.before.before.before.before.before.before.before.before.before.before.before
+
 -- all three parts fit
 parts : (c : tie.After-shared_slice_known-1)
     → 49 + length (pattern_size c.args.n c.args.pairs) + length (matched_pairs c.args.n c.args.perm.now) ≤ 4096
@@ -24,7 +34,7 @@ put_pattern_size-after_size-requires : tie.Need-put_pattern_size-after_size-requ
 put_pattern_size-after_size-requires c κs =
     omega (
       arith,
-      parts c.before.before.before.before.before.before.before.before,
+      parts (shared_slice_known-1-of-put_pattern_size-arg-1 c),
       c.put_bytes-after_banner.ensures.place,
       c.put_bytes-after_banner.auto.out,
     )
@@ -37,7 +47,7 @@ put_columns-requires c κs =
         omega arith,
         omega (
           arith,
-          parts c.before.before.before.before.before.before.before.before.before.before.before.before,
+          parts (shared_slice_known-1-of-put_columns-arg-1 c),
           c.put_bytes-after_banner.ensures.place,
           c.put_bytes-after_banner.auto.out,
           c.put_pattern_size-after_size.ensures.place,
@@ -58,7 +68,7 @@ returns c =
         w.1,
         omega (
           arith,
-          parts c.before.before.before.before.before.before.before.before.before.before.before.before.before.before.before,
+          parts (shared_slice_known-1-of-slice_known-4-1 c),
           c.put_bytes-after_banner.ensures.place,
           c.put_pattern_size-after_size.ensures.place,
           c.put_columns.ensures.place,

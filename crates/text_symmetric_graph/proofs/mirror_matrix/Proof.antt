@@ -8,6 +8,13 @@ use Rattle.text_symmetric_graph.proofs.Calls.{some_repeated, work_same, doubles,
 use Rattle.text_symmetric_graph.proofs.mirror_matrix.Statement.{statement}
 use Rattle.text_symmetric_graph.proofs.mirror_matrix.Tie as tie
 
+-- places of the proof, each from a later one
+abbrev else-kept-rows-of-build-arg-5-1 : tie.After-build-arg-5-1 → tie.Else-kept-rows
+else-kept-rows-of-build-arg-5-1 c = c.before.before.before.before.before
+
+abbrev else-kept-rows-of-slice_known-17-1 : tie.After-slice_known-17-1 → tie.Else-kept-rows
+else-kept-rows-of-slice_known-17-1 c = c.before.before.before.before.before.before.before.before.before.before.before.before.before.before.before.before
+
 -- what is lent for the graph, with the work as the assembly leaves it
 abbrev lent : tie.Else-kept-rows → Slices
 lent c =
@@ -40,8 +47,8 @@ build-count-requires : tie.Need-build-count-requires
 build-count-requires c κs =
     let pre = c.requires in
     let b = c.assemble-kept.ensures in
-    symmetric_ready _ (lent c.before.before.before.before.before)
-    (fine pre.0 b c.if-kept-rows.false pre.1.1.0.row_room pre.1.1.0.value_room (lent c.before.before.before.before.before) pre.1.1.1.0 pre.1.1.1.1
+    symmetric_ready _ (lent (else-kept-rows-of-build-arg-5-1 c))
+    (fine pre.0 b c.if-kept-rows.false pre.1.1.0.row_room pre.1.1.0.value_room (lent (else-kept-rows-of-build-arg-5-1 c)) pre.1.1.1.0 pre.1.1.1.1
     (work_same pre.0 b ∙ pre.1.0.room))
     (doubles pre.0 b c.if-kept-rows.false pre.1.1.0.row_room pre.1.1.0.value_room)
 
@@ -74,9 +81,9 @@ returns c =
     let pre = c.requires in
     let b = c.assemble-kept.ensures in
     let work = work_same pre.0 b ∙ pre.1.0.room in (
-      holds pre.0 b c.if-kept-rows.false pre.1.1.0.row_room pre.1.1.0.value_room (lent c.before.before.before.before.before.before.before.before.before.before.before.before.before.before.before.before) pre.1.1.1.0 pre.1.1.1.1 work _ _
+      holds pre.0 b c.if-kept-rows.false pre.1.1.0.row_room pre.1.1.0.value_room (lent (else-kept-rows-of-slice_known-17-1 c)) pre.1.1.1.0 pre.1.1.1.1 work _ _
           c.build-count.ensures,
-      leaves pre.0 b c.if-kept-rows.false pre.1.1.0.row_room pre.1.1.0.value_room (lent c.before.before.before.before.before.before.before.before.before.before.before.before.before.before.before.before) pre.1.1.1.0 pre.1.1.1.1 work _ _
+      leaves pre.0 b c.if-kept-rows.false pre.1.1.0.row_room pre.1.1.0.value_room (lent (else-kept-rows-of-slice_known-17-1 c)) pre.1.1.1.0 pre.1.1.1.1 work _ _
           c.build-count.ensures,
     )
 

@@ -12,6 +12,34 @@ use Rattle.whole_graphs.proofs.Theorems.{Doubles, left_built, symmetric_ready, s
 use Rattle.whole_graphs.proofs.whole_symmetric_graph.Statement.{statement}
 use Rattle.whole_graphs.proofs.whole_symmetric_graph.Tie as tie
 
+-- places of the proof, each from a later one
+abbrev entry-of-symmetric_fault-fault : tie.After-symmetric_fault-fault → tie.Start
+entry-of-symmetric_fault-fault c = c.before.before.before.before.before.before.before.before.before.before
+
+abbrev entry-of-else-fault-ne-ACCEPTED : tie.Else-fault-ne-ACCEPTED → tie.Start
+entry-of-else-fault-ne-ACCEPTED c = c.before.before.before.before.before.before.before.before.before.before.before
+
+abbrev entry-of-then-fault-ne-ACCEPTED : tie.Then-fault-ne-ACCEPTED → tie.Start
+entry-of-then-fault-ne-ACCEPTED c = c.before.before.before.before.before.before.before.before.before.before.before
+
+abbrev entry-of-build-arg-5-1 : tie.After-build-arg-5-1 → tie.Start
+entry-of-build-arg-5-1 c = c.before.before.before.before.before.before.before.before.before.before.before.before.before.before.before.before
+
+abbrev else-fault-ne-ACCEPTED-of-build-arg-5-1 : tie.After-build-arg-5-1 → tie.Else-fault-ne-ACCEPTED
+else-fault-ne-ACCEPTED-of-build-arg-5-1 c = c.before.before.before.before.before
+
+abbrev symmetric_fault-fault-of-build-arg-5-1 : tie.After-build-arg-5-1 → tie.After-symmetric_fault-fault
+symmetric_fault-fault-of-build-arg-5-1 c = c.before.before.before.before.before.before
+
+abbrev entry-of-slice_known-10-1 : tie.After-slice_known-10-1 → tie.Start
+entry-of-slice_known-10-1 c = c.before.before.before.before.before.before.before.before.before.before.before.before.before.before.before.before.before.before.before.before.before.before.before.before.before.before.before
+
+abbrev else-fault-ne-ACCEPTED-of-slice_known-10-1 : tie.After-slice_known-10-1 → tie.Else-fault-ne-ACCEPTED
+else-fault-ne-ACCEPTED-of-slice_known-10-1 c = c.before.before.before.before.before.before.before.before.before.before.before.before.before.before.before.before
+
+abbrev symmetric_fault-fault-of-slice_known-10-1 : tie.After-slice_known-10-1 → tie.After-symmetric_fault-fault
+symmetric_fault-fault-of-slice_known-10-1 c = c.before.before.before.before.before.before.before.before.before.before.before.before.before.before.before.before.before
+
 -- the matrix and the slices that are lent
 abbrev input : tie.Start → Matrix
 input c = matrix c.args.n c.args.col_ptr.now c.args.row_idx.now c.args.values.now
@@ -23,10 +51,10 @@ doubles : (c : tie.After-symmetric_fault-fault) → Doubles c.args.values.now
 doubles c k h = c.shared_slice_known-3-1.given k
 
 -- the number is that of the first fault
-fault_is : (c : tie.After-symmetric_fault-fault) → c.symmetric_fault-fault.result ≡ whole_symmetric_fault (input c.before.before.before.before.before.before.before.before.before.before) (lent c.before.before.before.before.before.before.before.before.before.before)
-fault_is c = c.symmetric_fault-fault.ensures ∙ ap (symmetric_input_fault (input c.before.before.before.before.before.before.before.before.before.before)) c.lengths_fit-fit.ensures
+fault_is : (c : tie.After-symmetric_fault-fault) → c.symmetric_fault-fault.result ≡ whole_symmetric_fault (input (entry-of-symmetric_fault-fault c)) (lent (entry-of-symmetric_fault-fault c))
+fault_is c = c.symmetric_fault-fault.ensures ∙ ap (symmetric_input_fault (input (entry-of-symmetric_fault-fault c))) c.lengths_fit-fit.ensures
 
-fine : (c : tie.Else-fault-ne-ACCEPTED) → whole_symmetric_fault (input c.before.before.before.before.before.before.before.before.before.before.before) (lent c.before.before.before.before.before.before.before.before.before.before.before) ≡ 0
+fine : (c : tie.Else-fault-ne-ACCEPTED) → whole_symmetric_fault (input (entry-of-else-fault-ne-ACCEPTED c)) (lent (entry-of-else-fault-ne-ACCEPTED c)) ≡ 0
 fine c = sym (fault_is c.before) ∙ c.if-fault-ne-ACCEPTED.false
 
 lengths_fit-fit-requires : tie.Need-lengths_fit-fit-requires
@@ -53,18 +81,18 @@ shape_of-work-then-fault-ne-ACCEPTED c = refl
 returns-then-fault-ne-ACCEPTED : tie.Need-returns-then-fault-ne-ACCEPTED
 unfolding whole_symmetric_graph
 returns-then-fault-ne-ACCEPTED c =
-    let p = refused c.args.n (mirrored_columns (input c.before.before.before.before.before.before.before.before.before.before.before)) (value_logs c.args.values.now) (lent c.before.before.before.before.before.before.before.before.before.before.before) _ _ (fault_is c.before)
+    let p = refused c.args.n (mirrored_columns (input (entry-of-then-fault-ne-ACCEPTED c))) (value_logs c.args.values.now) (lent (entry-of-then-fault-ne-ACCEPTED c)) _ _ (fault_is c.before)
     c.if-fault-ne-ACCEPTED.true in
     record {
       outcome = p.0;
       answered = p.1;
       optimal = λ z. absurd (c.if-fault-ne-ACCEPTED.true z);
-      number = in_list (symmetric_fault_listed (input c.before.before.before.before.before.before.before.before.before.before.before) (lent c.before.before.before.before.before.before.before.before.before.before.before)) p.1;
+      number = in_list (symmetric_fault_listed (input (entry-of-then-fault-ne-ACCEPTED c)) (lent (entry-of-then-fault-ne-ACCEPTED c))) p.1;
     }
 
 build-kept-requires : tie.Need-build-kept-requires
 build-kept-requires c κs =
-    symmetric_ready (input c.before.before.before.before.before.before.before.before.before.before.before.before.before.before.before.before) (lent c.before.before.before.before.before.before.before.before.before.before.before.before.before.before.before.before) (fine c.before.before.before.before.before) (doubles c.before.before.before.before.before.before)
+    symmetric_ready (input (entry-of-build-arg-5-1 c)) (lent (entry-of-build-arg-5-1 c)) (fine (else-fault-ne-ACCEPTED-of-build-arg-5-1 c)) (doubles (symmetric_fault-fault-of-build-arg-5-1 c))
 
 shape_of-graph_ptr : tie.Need-shape_of-graph_ptr
 shape_of-graph_ptr c = c.build-kept.auto.graph_ptr
@@ -84,14 +112,14 @@ shape_of-work c = c.build-kept.auto.work
 returns : tie.Need-returns
 unfolding whole_symmetric_graph
 returns c =
-    let p = accepted c.args.n (mirrored_columns (input c.before.before.before.before.before.before.before.before.before.before.before.before.before.before.before.before.before.before.before.before.before.before.before.before.before.before.before)) (value_logs c.args.values.now) (lent c.before.before.before.before.before.before.before.before.before.before.before.before.before.before.before.before.before.before.before.before.before.before.before.before.before.before.before) _ c.build-kept.result _
-    (sym (fine c.before.before.before.before.before.before.before.before.before.before.before.before.before.before.before.before)) c.build-kept.ensures in
+    let p = accepted c.args.n (mirrored_columns (input (entry-of-slice_known-10-1 c))) (value_logs c.args.values.now) (lent (entry-of-slice_known-10-1 c)) _ c.build-kept.result _
+    (sym (fine (else-fault-ne-ACCEPTED-of-slice_known-10-1 c))) c.build-kept.ensures in
     record {
       outcome = p.0;
       answered = p.1;
-      optimal = λ z. symmetric_optimal (input c.before.before.before.before.before.before.before.before.before.before.before.before.before.before.before.before.before.before.before.before.before.before.before.before.before.before.before) (lent c.before.before.before.before.before.before.before.before.before.before.before.before.before.before.before.before.before.before.before.before.before.before.before.before.before.before.before) (fine c.before.before.before.before.before.before.before.before.before.before.before.before.before.before.before.before) (doubles c.before.before.before.before.before.before.before.before.before.before.before.before.before.before.before.before.before) _
-          (left_built c.args.n (mirrored_columns (input c.before.before.before.before.before.before.before.before.before.before.before.before.before.before.before.before.before.before.before.before.before.before.before.before.before.before.before)) (value_logs c.args.values.now) (lent c.before.before.before.before.before.before.before.before.before.before.before.before.before.before.before.before.before.before.before.before.before.before.before.before.before.before.before) _ _ _ p.0 (fine c.before.before.before.before.before.before.before.before.before.before.before.before.before.before.before.before));
-      number = in_list (symmetric_fault_listed (input c.before.before.before.before.before.before.before.before.before.before.before.before.before.before.before.before.before.before.before.before.before.before.before.before.before.before.before) (lent c.before.before.before.before.before.before.before.before.before.before.before.before.before.before.before.before.before.before.before.before.before.before.before.before.before.before.before)) p.1;
+      optimal = λ z. symmetric_optimal (input (entry-of-slice_known-10-1 c)) (lent (entry-of-slice_known-10-1 c)) (fine (else-fault-ne-ACCEPTED-of-slice_known-10-1 c)) (doubles (symmetric_fault-fault-of-slice_known-10-1 c)) _
+          (left_built c.args.n (mirrored_columns (input (entry-of-slice_known-10-1 c))) (value_logs c.args.values.now) (lent (entry-of-slice_known-10-1 c)) _ _ _ p.0 (fine (else-fault-ne-ACCEPTED-of-slice_known-10-1 c)));
+      number = in_list (symmetric_fault_listed (input (entry-of-slice_known-10-1 c)) (lent (entry-of-slice_known-10-1 c))) p.1;
     }
 
 pub whole_symmetric_graph_spec : {M : Type 1} → statement M

@@ -40,8 +40,8 @@ returns-in-Is c =
     let log = c.in-Is.log in
     let x = c.args.x in
     let is : whole_log x ≡ Is log = sym c.whole_log-answer.ensures.0 ∙ c.in-Is.is in
-    found x c.args.p.now log (to_z w32 (of_z w32 log)) (double c.before.before.before.before.before) c.if-p-ne1.false is
-    (to_z-of_z w32 log (in_i32 x log (double c.before.before.before.before.before) is))
+    found x c.args.p.now log (to_z w32 (of_z w32 log)) (double c.before.before.before) c.if-p-ne1.false is
+    (to_z-of_z w32 log (in_i32 x log (double c.before.before.before) is))
 
 returns-in-Refused : tie.Need-returns-in-Refused
 returns-in-Refused c =

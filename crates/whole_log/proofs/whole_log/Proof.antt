@@ -15,6 +15,10 @@ use Rattle.whole_log.proofs.Theorems.{finite_no_nan, in_bits, found_answer, zero
 use Rattle.whole_log.proofs.whole_log.Statement.{statement}
 use Rattle.whole_log.proofs.whole_log.Tie as tie
 
+-- places of the proof, each from a later one
+abbrev entry-of-from_units : tie.After-from_units → tie.Start
+entry-of-from_units c = c.before.before.before.before.before
+
 double : (c : tie.Start) → T (fits binary64 c.args.x)
 double c = subst T (sym c.well_formed.0.1) tt
 
@@ -40,8 +44,8 @@ returns-then-bits-gt0 c =
     let p : c.from_units.result ≡ from_units q = c.from_units.ensures in
     let kept : to_z w32 (of_z w32 c.from_units.result) ≡ from_units q =
     ap (λ (z : ℤ). to_z w32 (of_z w32 z)) p ∙ to_z-of_z w32 (from_units q) (fits_i32 q c.units_log.ensures.1) in
-    promised x (double c.before.before.before.before.before)
-    (ap Is (kept ∙ ap from_units c.units_log.ensures.0) ∙ found_answer x (double c.before.before.before.before.before) (is_number c.before.before.before)
+    promised x (double (entry-of-from_units c))
+    (ap Is (kept ∙ ap from_units c.units_log.ensures.0) ∙ found_answer x (double (entry-of-from_units c)) (is_number c.before.before.before)
     c.if-bits-gt0.true)
 
 returns-else-bits-gt0 : tie.Need-returns-else-bits-gt0

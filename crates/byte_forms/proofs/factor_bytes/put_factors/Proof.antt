@@ -71,9 +71,9 @@ loop-i-preserved c =
     let h : l.i < a.n = c.loop-i-test.true in
     (
       omega arith,
-      c.put_double.auto.out ∙ l.inv.1,
+      c.put_double.auto.out ∙ l.invariant.1,
       c.put_double.ensures
-          ∙ laid_more (factor_at a.n (read_match a.n a.perm.now a.u.now a.v.now a.cmax.now)) a.n _ l.i _ h l.inv.1 l.inv.2
+          ∙ laid_more (factor_at a.n (read_match a.n a.perm.now a.u.now a.v.now a.cmax.now)) a.n _ l.i _ h l.invariant.1 l.invariant.2
           (factor_read _ _ _ l.i c.requires.1.1 h c.log_factor-factor.ensures c.get_double-row.ensures
           c.get_double-column.ensures c.get_double-largest.ensures),
     )

@@ -121,12 +121,12 @@ loop-j-preserved c = let l = c.loop-j in
     let e = entry_at c.args.n
     c.args.work.now l.j (omega arith) in (
       omega arith,
-      simp length-set l.inv.1,
-      simp length-set l.inv.2,
+      simp length-set l.invariant.1,
+      simp length-set l.invariant.2,
       rw (← e)
           (copy_matched (omega (arith, column_count_lem c.requires.0))
-          (l.inv.1 ∙ sym (column_count_lem c.requires.0))
-          (l.inv.2 ∙ sym (column_count_lem c.requires.0)) l.inv.3
+          (l.invariant.1 ∙ sym (column_count_lem c.requires.0))
+          (l.invariant.2 ∙ sym (column_count_lem c.requires.0)) l.invariant.3
           (ne_eqb _ _ (λ z. c.if-entry.false (sym e ∙ z)))),
     )
 

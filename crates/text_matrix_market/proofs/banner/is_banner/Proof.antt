@@ -11,6 +11,37 @@ use borrow.Author.Rules.{rules}
 use Rattle.text_matrix_market.proofs.banner.is_banner.Statement.{statement}
 use Rattle.text_matrix_market.proofs.banner.is_banner.Tie as tie
 
+-- places of the proof, each from a later one
+abbrev entry-of-next_is-arg-1 : tie.After-next_is-arg-1 → tie.Start
+entry-of-next_is-arg-1 c = c.before.before.before.before.before.before
+
+abbrev entry-of-in-Past : tie.In-Past → tie.Start
+entry-of-in-Past c = c.before.before.before.before.before.before.before.before.before
+
+abbrev in-Past-of-in_default-next_is : tie.In_default-next_is → tie.In-Past
+in-Past-of-in_default-next_is c = c.before.before.before.before
+
+abbrev entry-of-in-Past-next_is : tie.In-Past-next_is → tie.Start
+entry-of-in-Past-next_is c = c.before.before.before.before.before.before.before.before.before.before.before.before.before
+
+abbrev in-Past-of-in-Past-next_is : tie.In-Past-next_is → tie.In-Past
+in-Past-of-in-Past-next_is c = c.before.before.before.before
+
+abbrev in-Past-next_is-of-in_default-next_is-2 : tie.In_default-next_is-2 → tie.In-Past-next_is
+in-Past-next_is-of-in_default-next_is-2 c = c.before.before.before.before
+
+abbrev entry-of-in-Past-next_is-2 : tie.In-Past-next_is-2 → tie.Start
+entry-of-in-Past-next_is-2 c = c.before.before.before.before.before.before.before.before.before.before.before.before.before.before.before.before.before
+
+abbrev in-Past-next_is-of-in-Past-next_is-2 : tie.In-Past-next_is-2 → tie.In-Past-next_is
+in-Past-next_is-of-in-Past-next_is-2 c = c.before.before.before.before
+
+abbrev entry-of-in-Past-next_is-3 : tie.In-Past-next_is-3 → tie.Start
+entry-of-in-Past-next_is-3 c = c.before.before.before.before.before.before.before.before.before.before.before.before.before.before.before.before.before.before.before
+
+abbrev entry-of-in-Past-next_is-4 : tie.In-Past-next_is-4 → tie.Start
+entry-of-in-Past-next_is-4 c = c.before.before.before.before.before.before.before.before.before.before.before.before.before.before.before.before.before.before.before.before.before
+
 begins_percent-requires : tie.Need-begins_percent-requires
 begins_percent-requires c κs = search rules
 
@@ -33,16 +64,19 @@ field_at c = c.args.field.now
 abbrev symmetry_at : tie.Start → List ℕ
 symmetry_at c = c.args.symmetry.now
 
-begun : (c : tie.After-next_is-arg-1) → At c.before.before.before.before.before.before (banner_words (field_at c.before.before.before.before.before.before) (symmetry_at c.before.before.before.before.before.before)) 0
+abbrev At : tie.Start → List (List ℕ) → ℕ → Type 0
+At c names at = Passed (field_at c) (symmetry_at c) c.args.line.now names at
+
+begun : (c : tie.After-next_is-arg-1) → At (entry-of-next_is-arg-1 c) (banner_words (field_at (entry-of-next_is-arg-1 c)) (symmetry_at (entry-of-next_is-arg-1 c))) 0
 begun c = percent _ _ c.args.line.now (sym c.begins_percent.ensures ∙ c.if-not-begins_percent.false)
 
 returns-in_default : tie.Need-returns-in_default
-returns-in_default c = misnamed _ _ c.args.line.now (omega arith) (begun c.before.before.before.before)
+returns-in_default c = misnamed _ _ c.args.line.now (omega arith) (begun c.before.before.before)
     (sym c.next_is.ensures ∙ c.in_default.is)
 
 past_first : (c : tie.In-Past) → 
-    At c.before.before.before.before.before.before.before.before.before.before.before (codes "matrix" ∷ codes "coordinate" ∷ field_at c.before.before.before.before.before.before.before.before.before.before.before ∷ symmetry_at c.before.before.before.before.before.before.before.before.before.before.before ∷ []) c.in-Past.first
-past_first c = named _ _ c.args.line.now (omega arith) (begun c.before.before.before.before.before)
+    At (entry-of-in-Past c) (codes "matrix" ∷ codes "coordinate" ∷ field_at (entry-of-in-Past c) ∷ symmetry_at (entry-of-in-Past c) ∷ []) c.in-Past.first
+past_first c = named _ _ c.args.line.now (omega arith) (begun c.before.before.before)
     (sym c.next_is.ensures ∙ c.in-Past.is)
 
 next_is-requires-2 : tie.Need-next_is-requires-2
@@ -55,12 +89,12 @@ enum_told-in_default-next_is : tie.Need-enum_told-in_default-next_is
 enum_told-in_default-next_is c = search rules
 
 returns-in_default-next_is : tie.Need-returns-in_default-next_is
-returns-in_default-next_is c = misnamed _ _ c.args.line.now (omega arith) (past_first c.before.before.before.before.before)
+returns-in_default-next_is c = misnamed _ _ c.args.line.now (omega arith) (past_first (in-Past-of-in_default-next_is c))
     (sym c.next_is-2.ensures ∙ c.in_default-next_is.is)
 
 past-second : (c : tie.In-Past-next_is) → 
-    At c.before.before.before.before.before.before.before.before.before.before.before.before.before.before.before.before.before (codes "coordinate" ∷ field_at c.before.before.before.before.before.before.before.before.before.before.before.before.before.before.before.before.before ∷ symmetry_at c.before.before.before.before.before.before.before.before.before.before.before.before.before.before.before.before.before ∷ []) c.in-Past-next_is.second
-past-second c = named _ _ c.args.line.now (omega arith) (past_first c.before.before.before.before.before.before)
+    At (entry-of-in-Past-next_is c) (codes "coordinate" ∷ field_at (entry-of-in-Past-next_is c) ∷ symmetry_at (entry-of-in-Past-next_is c) ∷ []) c.in-Past-next_is.second
+past-second c = named _ _ c.args.line.now (omega arith) (past_first (in-Past-of-in-Past-next_is c))
     (sym c.next_is-2.ensures ∙ c.in-Past-next_is.is)
 
 next_is-requires-3 : tie.Need-next_is-requires-3
@@ -73,11 +107,11 @@ enum_told-in_default-next_is-2 : tie.Need-enum_told-in_default-next_is-2
 enum_told-in_default-next_is-2 c = search rules
 
 returns-in_default-next_is-2 : tie.Need-returns-in_default-next_is-2
-returns-in_default-next_is-2 c = misnamed _ _ c.args.line.now (omega arith) (past-second c.before.before.before.before.before)
+returns-in_default-next_is-2 c = misnamed _ _ c.args.line.now (omega arith) (past-second (in-Past-next_is-of-in_default-next_is-2 c))
     (sym c.next_is-3.ensures ∙ c.in_default-next_is-2.is)
 
-past-third : (c : tie.In-Past-next_is-2) → At c.before.before.before.before.before.before.before.before.before.before.before.before.before.before.before.before.before.before.before.before.before.before.before (field_at c.before.before.before.before.before.before.before.before.before.before.before.before.before.before.before.before.before.before.before.before.before.before.before ∷ symmetry_at c.before.before.before.before.before.before.before.before.before.before.before.before.before.before.before.before.before.before.before.before.before.before.before ∷ []) c.in-Past-next_is-2.third
-past-third c = named _ _ c.args.line.now (omega arith) (past-second c.before.before.before.before.before.before)
+past-third : (c : tie.In-Past-next_is-2) → At (entry-of-in-Past-next_is-2 c) (field_at (entry-of-in-Past-next_is-2 c) ∷ symmetry_at (entry-of-in-Past-next_is-2 c) ∷ []) c.in-Past-next_is-2.third
+past-third c = named _ _ c.args.line.now (omega arith) (past-second (in-Past-next_is-of-in-Past-next_is-2 c))
     (sym c.next_is-3.ensures ∙ c.in-Past-next_is-2.is)
 
 next_is-requires-4 : tie.Need-next_is-requires-4
@@ -90,11 +124,11 @@ enum_told-in_default-next_is-3 : tie.Need-enum_told-in_default-next_is-3
 enum_told-in_default-next_is-3 c = search rules
 
 returns-in_default-next_is-3 : tie.Need-returns-in_default-next_is-3
-returns-in_default-next_is-3 c = misnamed _ _ c.args.line.now c.requires.0 (past-third c.before.before.before)
+returns-in_default-next_is-3 c = misnamed _ _ c.args.line.now c.requires.0 (past-third c.before.before)
     (sym c.next_is-4.ensures ∙ c.in_default-next_is-3.is)
 
-past-fourth : (c : tie.In-Past-next_is-3) → At c.before.before.before.before.before.before.before.before.before.before.before.before.before.before.before.before.before.before.before.before.before.before.before.before.before.before.before (symmetry_at c.before.before.before.before.before.before.before.before.before.before.before.before.before.before.before.before.before.before.before.before.before.before.before.before.before.before.before ∷ []) c.in-Past-next_is-3.fourth
-past-fourth c = named _ _ c.args.line.now c.requires.0 (past-third c.before.before.before.before)
+past-fourth : (c : tie.In-Past-next_is-3) → At (entry-of-in-Past-next_is-3 c) (symmetry_at (entry-of-in-Past-next_is-3 c) ∷ []) c.in-Past-next_is-3.fourth
+past-fourth c = named _ _ c.args.line.now c.requires.0 (past-third c.before.before)
     (sym c.next_is-4.ensures ∙ c.in-Past-next_is-3.is)
 
 next_is-requires-5 : tie.Need-next_is-requires-5
@@ -107,11 +141,11 @@ enum_told-in_default-next_is-4 : tie.Need-enum_told-in_default-next_is-4
 enum_told-in_default-next_is-4 c = search rules
 
 returns-in_default-next_is-4 : tie.Need-returns-in_default-next_is-4
-returns-in_default-next_is-4 c = misnamed _ _ c.args.line.now c.requires.1 (past-fourth c.before.before.before)
+returns-in_default-next_is-4 c = misnamed _ _ c.args.line.now c.requires.1 (past-fourth c.before.before)
     (sym c.next_is-5.ensures ∙ c.in_default-next_is-4.is)
 
-past-fifth : (c : tie.In-Past-next_is-4) → At c.before.before.before.before.before.before.before.before.before.before.before.before.before.before.before.before.before.before.before.before.before.before.before.before.before.before.before.before.before.before.before [] c.in-Past-next_is-4.fifth
-past-fifth c = named _ _ c.args.line.now c.requires.1 (past-fourth c.before.before.before.before)
+past-fifth : (c : tie.In-Past-next_is-4) → At (entry-of-in-Past-next_is-4 c) [] c.in-Past-next_is-4.fifth
+past-fifth c = named _ _ c.args.line.now c.requires.1 (past-fourth c.before.before)
     (sym c.next_is-5.ensures ∙ c.in-Past-next_is-4.is)
 
 word_start-requires : tie.Need-word_start-requires

@@ -8,6 +8,22 @@ use borrow.Author.Rules.{rules}
 use Rattle.text_matrix_market.proofs.numbers.line_numbers.Statement.{statement}
 use Rattle.text_matrix_market.proofs.numbers.line_numbers.Tie as tie
 
+-- places of the proof, each from a later one
+abbrev in-Is-of-in_default-next_weight : tie.In_default-next_weight → tie.In-Is
+in-Is-of-in_default-next_weight c = c.before.before.before.before
+
+abbrev in-Is-of-then-word_start-line : tie.Then-word_start-line → tie.In-Is
+in-Is-of-then-word_start-line c = c.before.before.before.before.before.before
+
+abbrev in-Is-next_number-of-then-word_start-line : tie.Then-word_start-line → tie.In-Is-next_number
+in-Is-next_number-of-then-word_start-line c = c.before.before.before.before
+
+abbrev in-Is-of-else-word_start-line : tie.Else-word_start-line → tie.In-Is
+in-Is-of-else-word_start-line c = c.before.before.before.before.before.before
+
+abbrev in-Is-next_number-of-else-word_start-line : tie.Else-word_start-line → tie.In-Is-next_number
+in-Is-next_number-of-else-word_start-line c = c.before.before.before.before
+
 next_number-requires : tie.Need-next_number-requires
 next_number-requires c κs = search rules
 
@@ -37,14 +53,14 @@ enum_told-in_default-next_number c = search rules
 returns-in_default-next_number : tie.Need-returns-in_default-next_number
 returns-in_default-next_number c =
     let args = c.args in
-    no_second args.kind args.line.now (first c.before.before.before)
+    no_second args.kind args.line.now (first c.before.before)
     (lost args.line.now c.in-Is.past_a
     (sym c.next_number-2.ensures ∙ c.in_default-next_number.is))
 
 second : (c : tie.In-Is-next_number) → Found number_read c.args.line.now
     c.in-Is.past_a c.in-Is-next_number.b c.in-Is-next_number.past_b
 second c = found c.args.line.now c.in-Is.past_a
-    (first c.before.before.before.before).within (sym c.next_number-2.ensures ∙ c.in-Is-next_number.is)
+    (first c.before.before).within (sym c.next_number-2.ensures ∙ c.in-Is-next_number.is)
 
 next_weight-requires : tie.Need-next_weight-requires
 next_weight-requires c κs = (second c).within
@@ -58,26 +74,26 @@ enum_told-in_default-next_weight c = search rules
 returns-in_default-next_weight : tie.Need-returns-in_default-next_weight
 returns-in_default-next_weight c =
     let args = c.args in
-    no_third args.kind args.line.now (first c.before.before.before.before.before.before.before)
-    (second c.before.before.before)
+    no_third args.kind args.line.now (first (in-Is-of-in_default-next_weight c))
+    (second c.before.before)
     (sym c.next_weight.ensures ∙ c.in_default-next_weight.is)
 
 word_start-requires : tie.Need-word_start-requires
 word_start-requires c κs =
     let args = c.args in
-    weighed_within args.kind args.line.now c.in-Is-next_number.past_b (second c.before.before.before.before).within
+    weighed_within args.kind args.line.now c.in-Is-next_number.past_b (second c.before.before).within
     (sym c.next_weight.ensures ∙ c.in-Is-next_weight.is)
 
 returns-then-word_start-line : tie.Need-returns-then-word_start-line
 returns-then-word_start-line c =
     let args = c.args in
-    one_more args.line.now (first c.before.before.before.before.before.before.before.before.before.before) (second c.before.before.before.before.before.before) args.kind
+    one_more args.line.now (first (in-Is-of-then-word_start-line c)) (second (in-Is-next_number-of-then-word_start-line c)) args.kind
     (sym c.next_weight.ensures ∙ c.in-Is-next_weight.is) (omega arith)
 
 returns : tie.Need-returns
 returns c =
     let args = c.args in
-    all_three args.line.now (first c.before.before.before.before.before.before.before.before.before.before) (second c.before.before.before.before.before.before) args.kind
+    all_three args.line.now (first (in-Is-of-else-word_start-line c)) (second (in-Is-next_number-of-else-word_start-line c)) args.kind
     (sym c.next_weight.ensures ∙ c.in-Is-next_weight.is) (omega arith)
 
 pub line_numbers_spec : {M : Type 1} → statement M
