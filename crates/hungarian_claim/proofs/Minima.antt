@@ -105,6 +105,7 @@ at_most_itself (fin s m e) y t = or_level (below s a s a) s
 
     equal : (b : Bool) → T b → (b && true) ≡ true
     equal true t = refl
+    equal false t = elim t [ ]
 
     or_level : (b s : Bool) → (b || level s a s a) ≡ true
     or_level true s = refl

@@ -230,14 +230,14 @@ kept_more s k = record {
   rows = record { len = k.rows.len ∙ s.len; stays = λ i w. k.rows.stays i (s.stays i w); was = λ i w. s.was i (k.rows.was i w) };
 }
 
-pub kept_rise : {n p : ℕ} {d : List Float} {g r : Heap} → Inverse n g → 1 ≤ p → p ≤ g.len → Rises d p g r → Kept n g r
+pub kept_rise : {n : ℕ} {d : List Float} {p : ℕ} {g r : Heap} → Inverse n g → 1 ≤ p → p ≤ g.len → Rises d p g r → Kept n g r
 kept_rise inv p1 pl (risen t) = kept_none inv
 kept_rise {n} inv p1 pl (rise {p = p} {g = g} {g' = g'} l t x rest) =
     let q1 : 1 ≤ p / 2 = omega arith in
     let ql : p / 2 ≤ g.len = omega arith in
     kept_more (same_rows n g g' p (p / 2) inv p1 pl q1 ql x) (kept_rise (inverse_kept n g g' p (p / 2) inv p1 pl q1 ql x) q1 (omega (arith, x.len)) rest)
 
-pub kept_sink : {n p : ℕ} {d : List Float} {g r : Heap} → Inverse n g → 1 ≤ p → p ≤ g.len → Sinks d p g r → Kept n g r
+pub kept_sink : {n : ℕ} {d : List Float} {p : ℕ} {g r : Heap} → Inverse n g → 1 ≤ p → p ≤ g.len → Sinks d p g r → Kept n g r
 kept_sink inv p1 pl (sunk t) = kept_none inv
 kept_sink {n} {d = d} inv p1 pl (sink {p = p} {g = g} {g' = g'} l t x rest) =
     let c : ℕ = child_of d g p in

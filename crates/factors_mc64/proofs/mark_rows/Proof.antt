@@ -49,10 +49,10 @@ loop-k-smaller c = omega arith
 loop-k-preserved : tie.Need-loop-k-preserved invariant-loop-k decreases-loop-k
 loop-k-preserved c = (
   omega arith,
-  ⊎_elim (λ x. rw x.1 (mark_row c.loop-k.invariant.1
+  ⊎_elim (λ x. rw x.work-is (mark_row c.loop-k.invariant.1
       (row_inside _ _ (c.requires.1.0 c.loop-k.k
-      c.loop-k-test.true) x.0.taken))) (λ x. rw x.1
-      (mark_none c.loop-k.invariant.1 (omega arith) x.0.left)) c.if-row.branch,
+      c.loop-k-test.true) x.if-row.true))) (λ x. rw x.work-is
+      (mark_none c.loop-k.invariant.1 (omega arith) x.if-row.false)) c.if-row.branch-raw,
 )
 
 shape_of-work : tie.Need-shape_of-work invariant-loop-k decreases-loop-k

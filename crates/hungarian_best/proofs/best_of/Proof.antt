@@ -135,9 +135,9 @@ loop-k-smaller c = omega arith
 loop-k-preserved : tie.Need-loop-k-preserved invariant-loop-k decreases-loop-k
 loop-k-preserved c =
     let pre = c.requires in
-    ⊎_elim (λ t. rw (t.1, t.2, t.3) (choosing_moves pre.0.sound pre.1.0 c.loop-k.invariant c.loop-k-test.true t.0.taken))
-    (λ t. rw (t.1, t.2, t.3) (choosing_stays pre.0.sound pre.1.0 c.loop-k.invariant c.loop-k-test.true t.0.left))
-    c.if-best-value.branch
+    ⊎_elim (λ t. rw (t.best-is, t.kept_free-is, t.at_limit-is) (choosing_moves pre.0.sound pre.1.0 c.loop-k.invariant c.loop-k-test.true t.if-best-value.true))
+    (λ t. rw (t.best-is, t.kept_free-is, t.at_limit-is) (choosing_stays pre.0.sound pre.1.0 c.loop-k.invariant c.loop-k-test.true t.if-best-value.false))
+    c.if-best-value.branch-raw
 
 returns : tie.Need-returns invariant-loop-k decreases-loop-k
 returns c =

@@ -103,7 +103,7 @@ inside c = let pre = c.requires in readable _ _ _ _ pre.sound pre.dual_count c.l
 other-in : (c : tie.Else-work-i invariant-loop-kk decreases-loop-kk invariant-loop-k decreases-loop-k invariant-improve_assign decreases-improve_assign) → let a = c.args in let l = c.loop-k in
     get_or l.work (get_or a.row_idx.now l.k 0) 0 < a.n
 other-in c = other_range c.requires.sound c.loop-k.invariant.1 (place_in (in-loop-k-of-else-work-i c))
-    c.if-cost-k.false (eqb-false _ _ c.if-work-i.false)
+    c.if-cost-k.false c.if-work-i.false
 
 inside_other : (c : tie.In-loop-kk invariant-loop-kk decreases-loop-kk invariant-loop-k decreases-loop-k invariant-improve_assign decreases-improve_assign) → let a = c.args in
     Readable (graph_of a.n a.col_ptr.now a.row_idx.now a.cost.now) a.u.now c.loop-kk.kk
@@ -114,7 +114,7 @@ improve_assign-init c = outer_start c.requires
 
 improve_assign-preserved-then-work-n : tie.Need-improve_assign-preserved-then-work-n invariant-loop-kk decreases-loop-kk invariant-loop-k decreases-loop-k invariant-improve_assign decreases-improve_assign
 improve_assign-preserved-then-work-n c = outer_skip c.requires.sound c.improve_assign.invariant
-    c.improve_assign-test.true (⊎_elim (λ t. inl t.taken) (λ t. inr (t.0.left, leb-true _ _ t.3.taken)) c.then-work-n.branch)
+    c.improve_assign-test.true (⊎_elim (λ t. inl t.if-work-n.true) (λ t. inr (t.if-work-n.false, t.if-col_ptr-j.true)) c.then-work-n.branch-raw)
 
 best_of-best-requires : tie.Need-best_of-best-requires invariant-loop-kk decreases-loop-kk invariant-loop-k decreases-loop-k invariant-improve_assign decreases-improve_assign
 best_of-best-requires c κs = (
@@ -124,7 +124,7 @@ best_of-best-requires c κs = (
     words =
         c.improve_assign.invariant.memory.words;
   },
-  (c.improve_assign-test.true, leb-false _ _ c.if-col_ptr-j.false),
+  (c.improve_assign-test.true, c.if-col_ptr-j.false),
 )
 
 pair_and_advance-requires : tie.Need-pair_and_advance-requires invariant-loop-kk decreases-loop-kk invariant-loop-k decreases-loop-k invariant-improve_assign decreases-improve_assign
@@ -143,7 +143,7 @@ pair_and_advance-requires c κs = (
 improve_assign-preserved-then-work-i0 : tie.Need-improve_assign-preserved-then-work-i0 invariant-loop-kk decreases-loop-kk invariant-loop-k decreases-loop-k invariant-improve_assign decreases-improve_assign
 improve_assign-preserved-then-work-i0 c = outer_takes c.requires.sound c.improve_assign.invariant
     c.improve_assign-test.true c.best_of-best.ensures
-    c.if-work-n.false (leb-false _ _ c.if-col_ptr-j.false)
+    c.if-work-n.false c.if-col_ptr-j.false
     c.if-work-i0.true c.pair_and_advance.auto.work c.pair_and_advance.ensures
 
 loop-k-init : tie.Need-loop-k-init invariant-loop-kk decreases-loop-kk invariant-loop-k decreases-loop-k invariant-improve_assign decreases-improve_assign
@@ -151,14 +151,14 @@ loop-k-init c = (
   refl,
   outer_tries c.requires.sound c.improve_assign.invariant
       c.improve_assign-test.true c.best_of-best.ensures
-      c.if-work-n.false (leb-false _ _ c.if-col_ptr-j.false) c.if-work-i0.false,
+      c.if-work-n.false c.if-col_ptr-j.false c.if-work-i0.false,
 )
 
 loop-k-preserved-then-cost-k : tie.Need-loop-k-preserved-then-cost-k invariant-loop-kk decreases-loop-kk invariant-loop-k decreases-loop-k invariant-improve_assign decreases-improve_assign
 loop-k-preserved-then-cost-k c = (
   c.loop-k.invariant.0,
   middle_skip c.requires.sound c.loop-k.invariant.1
-      (place_in (in-loop-k-of-joined-then-cost-k c)) (⊎_elim (λ t. inl t.taken) (λ t. inr (t.0.left, eqb-true _ _ t.2.taken)) c.then-cost-k.branch),
+      (place_in (in-loop-k-of-joined-then-cost-k c)) (⊎_elim (λ t. inl t.if-cost-k.true) (λ t. inr (t.if-cost-k.false, t.if-work-i.true)) c.then-cost-k.branch-raw),
 )
 
 overflow_cast-search_from : tie.Need-overflow_cast-search_from invariant-loop-kk decreases-loop-kk invariant-loop-k decreases-loop-k invariant-improve_assign decreases-improve_assign
@@ -173,7 +173,7 @@ loop-kk-init : tie.Need-loop-kk-init invariant-loop-kk decreases-loop-kk invaria
 loop-kk-init c = (
   refl,
   middle_seeks c.requires.sound c.loop-k.invariant.1
-      (place_in (in-loop-k-of-slice_known-in-loop-k-2-1 c)) c.if-cost-k.false (eqb-false _ _ c.if-work-i.false),
+      (place_in (in-loop-k-of-slice_known-in-loop-k-2-1 c)) c.if-cost-k.false c.if-work-i.false,
 )
 
 inner_step-stats-requires : tie.Need-inner_step-stats-requires invariant-loop-kk decreases-loop-kk invariant-loop-k decreases-loop-k invariant-improve_assign decreases-improve_assign
@@ -239,7 +239,7 @@ loop-kk-preserved c = (
   c.loop-kk.invariant.0,
   rw c.inner_step-stats.ensures
       (inner_more c.requires.sound c.loop-kk.invariant.1 c.loop-kk-test.true
-      (⊎_elim (λ t. inr (t.0.taken, t.4.left)) (λ t. inl t.left) c.else-work-ii.branch)),
+      (⊎_elim (λ t. inr (t.if-work-ii.true, t.if-cost-kk.false)) (λ t. inl t.if-work-ii.false) c.else-work-ii.branch-raw)),
 )
 
 loop-k-preserved : tie.Need-loop-k-preserved invariant-loop-kk decreases-loop-kk invariant-loop-k decreases-loop-k invariant-improve_assign decreases-improve_assign

@@ -37,18 +37,18 @@ loop-i-smaller : tie.Need-loop-i-smaller invariant-loop-i decreases-loop-i
 loop-i-smaller c = omega arith
 
 loop-i-preserved : tie.Need-loop-i-preserved invariant-loop-i decreases-loop-i
-loop-i-preserved c = ⊎_elim (λ t. rw t.1 (
+loop-i-preserved c = ⊎_elim (λ t. rw t.u-is (
   simp length-set c.loop-i.invariant.0,
   simp length-set (omega arith),
-  zeroed_high c.loop-i.i c.loop-i.u (omega arith) t.0.taken ∙
+  zeroed_high c.loop-i.i c.loop-i.u (omega arith) t.if-u-i.true ∙
       c.loop-i.invariant.2,
-)) (λ t. rw t.1 (
-  c.before.before.before.loop.invariant.0,
+)) (λ t. rw t.u-is (
+  c.loop-i.invariant.0,
   omega arith,
   zeroed_low
-      c.before.before.before.loop.i c.before.before.before.loop.u (omega arith) t.0.left ∙
-      c.before.before.before.loop.invariant.2,
-)) c.if1.branch
+      c.loop-i.i c.loop-i.u (omega arith) t.if-u-i.false ∙
+      c.loop-i.invariant.2,
+)) c.if-u-i.branch-raw
 
 shape_of-u : tie.Need-shape_of-u invariant-loop-i decreases-loop-i
 shape_of-u c = omega arith

@@ -42,7 +42,7 @@ shape_of-pos : tie.Need-shape_of-pos
 shape_of-pos c = c.clear.auto.list
 
 shape_of-d : tie.Need-shape_of-d
-shape_of-d c = c.fill-3.auto.w
+shape_of-d c = c.fill-3.auto.list
 
 returns : tie.Need-returns
 returns c = let pre = c.requires in

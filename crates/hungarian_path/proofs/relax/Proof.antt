@@ -10,7 +10,7 @@ use Rattle.hungarian_path.proofs.relax.Statement.{statement}
 use Rattle.hungarian_path.proofs.relax.Tie as tie
 
 -- the row's column, read after the row is noted
-column : (c : tie.After-slice_known-7-1) →
+column : (c : tie.After-touch_row-next) →
     (get_or c.touch_row-next.new.work c.args.i 0 < c.args.n)
     × (length c.touch_row-next.new.work ≡ 12 * c.args.n + 1)
 column c =
@@ -24,10 +24,10 @@ offset_bounds-work-i : tie.Need-offset_bounds-work-i
 offset_bounds-work-i c = omega (arith, c.requires.touching.row, c.requires.touching.workspace.small)
 
 bounds-work-i : tie.Need-bounds-work-i
-bounds-work-i c = omega (arith, column c, c.requires.touching.row)
+bounds-work-i c = omega (arith, column c.before.before.before.before.before, c.requires.touching.row)
 
 overflow_cast-column : tie.Need-overflow_cast-column
-overflow_cast-column c = omega (arith, column c, c.requires.touching.workspace.small)
+overflow_cast-column c = omega (arith, column c.before.before.before.before.before, c.requires.touching.workspace.small)
 
 offset_bounds-d-i : tie.Need-offset_bounds-d-i
 offset_bounds-d-i c = omega (arith, c.requires.touching.row, c.requires.touching.workspace.small)
@@ -42,13 +42,13 @@ overflow_mul-work : tie.Need-overflow_mul-work
 overflow_mul-work c = omega (arith, c.requires.touching.workspace.small)
 
 overflow_add-work : tie.Need-overflow_add-work
-overflow_add-work c = omega (arith, column c, c.requires.touching.workspace.small)
+overflow_add-work c = omega (arith, column c.before.before.before.before.before, c.requires.touching.workspace.small)
 
 offset_bounds-work-n : tie.Need-offset_bounds-work-n
-offset_bounds-work-n c = omega (arith, column c, c.requires.touching.workspace.small)
+offset_bounds-work-n c = omega (arith, column c.before.before.before.before.before, c.requires.touching.workspace.small)
 
 bounds-work-n : tie.Need-bounds-work-n
-bounds-work-n c = omega (arith, column c)
+bounds-work-n c = omega (arith, column c.before.before.before.before.before)
 
 overflow_cast-work-2 : tie.Need-overflow_cast-work-2
 overflow_cast-work-2 c = omega (arith, c.requires.entry)
@@ -57,13 +57,13 @@ overflow_mul-work-2 : tie.Need-overflow_mul-work-2
 overflow_mul-work-2 c = omega (arith, c.requires.touching.workspace.small)
 
 overflow_add-work-2 : tie.Need-overflow_add-work-2
-overflow_add-work-2 c = omega (arith, column c, c.requires.touching.workspace.small)
+overflow_add-work-2 c = omega (arith, column c.before.before.before.before.before, c.requires.touching.workspace.small)
 
 offset_bounds-work-n-2 : tie.Need-offset_bounds-work-n-2
-offset_bounds-work-n-2 c = omega (arith, column c, c.requires.touching.workspace.small)
+offset_bounds-work-n-2 c = omega (arith, column c.before.before.before.before.before, c.requires.touching.workspace.small)
 
 bounds-work-n-2 : tie.Need-bounds-work-n-2
-bounds-work-n-2 c = simp length-set (omega (arith, column c))
+bounds-work-n-2 c = simp length-set (omega (arith, column c.before.before.before.before.before))
 
 overflow_mul-at : tie.Need-overflow_mul-at
 overflow_mul-at c = omega (arith, c.requires.touching.workspace.small)
@@ -72,10 +72,10 @@ offset_bounds-work-at : tie.Need-offset_bounds-work-at
 offset_bounds-work-at c = omega (arith, c.requires.touching.workspace.small)
 
 slice_bounds-update-count : tie.Need-slice_bounds-update-count
-slice_bounds-update-count c = simp length-set (omega (arith, column c))
+slice_bounds-update-count c = simp length-set (omega (arith, column c.before.before.before.before.before))
 
 slice_bounds-update-start : tie.Need-slice_bounds-update-start
-slice_bounds-update-start c = simp length-set (omega (arith, column c))
+slice_bounds-update-start c = simp length-set (omega (arith, column c.before.before.before.before.before))
 
 slice_bounds-update-end : tie.Need-slice_bounds-update-end
 slice_bounds-update-end c = search rules

@@ -2,15 +2,16 @@
 use mathlib.Core.Path.{ap, ◌∙◌}
 use native.Mathlib.Omega.{arith}
 use Rattle.hungarian_path.specs.inner.StepsSearch.{found_of}
+use Rattle.std.proofs.Common.{rules}
 use Rattle.hungarian_search.proofs.Applies.{apply_none, raise_asks, apply_along}
 use Rattle.hungarian_search.proofs.apply_path.Statement.{statement}
 use Rattle.hungarian_search.proofs.apply_path.Tie as tie
 
 enum_known-end : tie.Need-enum_known-end
-enum_known-end c = c.in-Path.keys1
+enum_known-end c = search rules
 
 enum_told-1 : tie.Need-enum_told-1
-enum_told-1 c = c.in_default.in_default-own.keys2
+enum_told-1 c = search rules
 
 returns-in_default : tie.Need-returns-in_default
 returns-in_default c = rw c.in_default.is (apply_none _ _ _ _ _ _ _)

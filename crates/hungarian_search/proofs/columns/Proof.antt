@@ -47,24 +47,24 @@ loop-j-preserved : tie.Need-loop-j-preserved invariant-loop-j decreases-loop-j
 loop-j-preserved c =
     let I = c.loop-j.invariant in
     let below = c.loop-j-test.true in
-    ⊎_elim (λ x. rw (x.17, x.18, x.19, x.20, x.21, x.22) (
-      column_searched _ _ _ _ _ _ _ _ I.0 below x.0.taken _ _ _ _ _ _ x.6.kept.1.1.1.1.1.0 x.6.kept.1.1.1.1.1.1.0
-          x.6.kept.1.1.1.1.1.1.1.0 x.6.ensures,
+    ⊎_elim (λ x. rw (x.u-is, x.work-is, x.pos-is, x.keys-is, x.d-is, x.s-is) (
+      column_searched _ _ _ _ _ _ _ _ I.0 below x.if-work-n.true _ _ _ _ _ _ x.augment-s.auto.work x.augment-s.auto.pos
+          x.augment-s.auto.keys x.augment-s.ensures,
       omega arith,
-      x.6.kept.1.1.1.1.0 ∙ I.2,
-      x.6.kept.1.1.1.1.1.0 ∙ I.3,
-      x.6.kept.1.1.1.1.1.1.0 ∙ I.4,
-      x.6.kept.1.1.1.1.1.1.1.0 ∙ I.5,
-      x.6.kept.1.1.1.1.1.1.1.1.0 ∙ I.6,
-    )) (λ x. rw (x.1, x.2, x.3, x.4, x.5, x.6) (
-      column_passes _ _ _ _ _ _ _ _ I.0 below x.0.left,
+      x.augment-s.auto.u ∙ I.2,
+      x.augment-s.auto.work ∙ I.3,
+      x.augment-s.auto.pos ∙ I.4,
+      x.augment-s.auto.keys ∙ I.5,
+      x.augment-s.auto.d ∙ I.6,
+    )) (λ x. rw (x.u-is, x.work-is, x.pos-is, x.keys-is, x.d-is, x.s-is) (
+      column_passes _ _ _ _ _ _ _ _ I.0 below x.if-work-n.false,
       omega arith,
       I.2,
       I.3,
       I.4,
       I.5,
       I.6,
-    )) c.if-work-n.branch
+    )) c.if-work-n.branch-raw
 
 shape_of-u : tie.Need-shape_of-u invariant-loop-j decreases-loop-j
 shape_of-u c = c.loop-j.invariant.2

@@ -160,8 +160,8 @@ shape_of-keys : tie.Need-shape_of-keys invariant-loop-p decreases-loop-p
 shape_of-keys c = simp length-set (c.loop-p.invariant.ready.keyed ∙ sym c.requires.0.keyed)
 
 returns : tie.Need-returns invariant-loop-p decreases-loop-p
-returns c = (let short = c.requires.1.1.1 in ⊎_elim (λ t. sinking_end _ _ _ _ _ _ _ short _ _ _ _ c.loop-p.invariant t.left)
-    (λ t. sinking_stop _ _ _ _ _ _ _ short _ _ _ _ c.loop-p.invariant _ t.3.ensures t.0.taken t.5.taken) c.loop-p-test.branch)
+returns c = (let short = c.requires.1.1.1 in ⊎_elim (λ t. sinking_end _ _ _ _ _ _ _ short _ _ _ _ c.loop-p.invariant t.loop-p-test.false)
+    (λ t. sinking_stop _ _ _ _ _ _ _ short _ _ _ _ c.loop-p.invariant _ t.chosen-child.ensures t.loop-p-test.true t.if-x-below.true) c.loop-p-test.branch-raw)
 
 pub sift_down_spec : {M : Type 1} → statement M
 sift_down_spec =

@@ -124,7 +124,7 @@ shape_of-keys c = simp length-set (c.loop-p.invariant.ready.keyed ∙ sym c.requ
 
 returns : tie.Need-returns invariant-loop-p decreases-loop-p
 returns c = rising_end _ _ _ _ _ _ _ c.requires.1.1.1 _ _ _ _ c.loop-p.invariant
-    (⊎_elim (λ t. inl t.left) (λ t. inr t.2.taken) c.loop-p-test.branch)
+    (⊎_elim (λ t. inl t.loop-p-test.false) (λ t. inr t.if-x-above.true) c.loop-p-test.branch-raw)
 
 pub sift_up_spec : {M : Type 1} → statement M
 sift_up_spec =

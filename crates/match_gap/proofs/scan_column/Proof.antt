@@ -46,8 +46,8 @@ bounds-cost-k c = omega arith
 
 excess_of-requires : tie.Need-excess_of-requires invariant-loop-k decreases-loop-k
 excess_of-requires c κs = (
-  dual_in c.requires.0 c.loop-k.k c.loop-k-test.true,
-  (cost_in c.requires.0 c.loop-k.k c.loop-k-test.true, (c.requires.0.units, c.upper_place-high.ensures.1)),
+  (dual_in c.requires.0 c.loop-k.k c.loop-k-test.true, cost_in c.requires.0 c.loop-k.k c.loop-k-test.true),
+  (c.requires.0.units, c.upper_place-high.ensures.1),
 )
 
 larger-excess-requires : tie.Need-larger-excess-requires invariant-loop-k decreases-loop-k

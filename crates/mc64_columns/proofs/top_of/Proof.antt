@@ -35,12 +35,12 @@ loop-k-smaller c = omega arith
 loop-k-preserved : tie.Need-loop-k-preserved invariant-loop-k decreases-loop-k
 loop-k-preserved c = (
   omega arith,
-  ⊎_elim (λ x. rw x.1 (largest_goes_on c.args.column.now
+  ⊎_elim (λ x. rw x.top-is (largest_goes_on c.args.column.now
       c.loop-k.top c.loop-k.k (omega arith)
-      c.loop-k.invariant.1 true x.0.taken))
-      (λ x. rw x.1 (largest_goes_on c.args.column.now
+      c.loop-k.invariant.1 true x.if-log-top.true))
+      (λ x. rw x.top-is (largest_goes_on c.args.column.now
       c.loop-k.top c.loop-k.k (omega arith)
-      c.loop-k.invariant.1 false x.0.left)) c.if-log-top.branch,
+      c.loop-k.invariant.1 false x.if-log-top.false)) c.if-log-top.branch-raw,
 )
 
 returns : tie.Need-returns invariant-loop-k decreases-loop-k

@@ -62,7 +62,7 @@ returns c =
     let l = c.loop-k in
     let a = c.args in
     let e : l.k ≡ length a.rows.now = omega arith in (
-      subst (λ (k : ℕ). Taken (triplets a.rows.now a.cols.now a.vals.now) k l.auto l.col_ptr l.row_idx l.values) e l.invariant.4,
+      subst (λ (k : ℕ). Taken (triplets a.rows.now a.cols.now a.vals.now) k l.kept l.col_ptr l.row_idx l.values) e l.invariant.4,
       l.invariant.5,
     )
 

@@ -109,16 +109,16 @@ clear-requires : tie.Need-clear-requires
 clear-requires c κs = tt
 
 shape_of-graph_ptr : tie.Need-shape_of-graph_ptr
-shape_of-graph_ptr c = c.build-count.auto.graph_rows
+shape_of-graph_ptr c = c.build-count.auto.graph_ptr
 
 shape_of-graph_rows : tie.Need-shape_of-graph_rows
-shape_of-graph_rows c = c.build-count.auto.cost
+shape_of-graph_rows c = c.build-count.auto.graph_rows
 
 shape_of-cost : tie.Need-shape_of-cost
-shape_of-cost c = c.build-count.auto.cmax
+shape_of-cost c = c.build-count.auto.cost
 
 shape_of-cmax : tie.Need-shape_of-cmax
-shape_of-cmax c = c.build-count.auto.work
+shape_of-cmax c = c.build-count.auto.cmax
 
 shape_of-work : tie.Need-shape_of-work
 shape_of-work c = c.clear.auto.list ∙ c.put_words.auto.words

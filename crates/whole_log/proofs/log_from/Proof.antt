@@ -16,7 +16,7 @@ here : (c : tie.After-square-s invariant-loop-left decreases-loop-left) → Turn
 here c =
     let a = c.args in
     let l = c.loop-left in
-    turn_facts 2098 a.leading a.known l.false l.m l.e c.square-s.result l.invariant c.square-s.ensures
+    turn_facts 2098 a.leading a.known l.left l.m l.e c.square-s.result l.invariant c.square-s.ensures
 
 loop-left-init : tie.Need-loop-left-init invariant-loop-left decreases-loop-left
 loop-left-init c = start 2098 c.args.leading c.args.known c.requires.0 c.ranges.leading.fits c.requires.1
@@ -49,13 +49,13 @@ loop-left-preserved : tie.Need-loop-left-preserved invariant-loop-left decreases
 loop-left-preserved c =
     let a = c.args in
     let l = c.loop-left in
-    turn 2098 a.leading a.known l.false l.m l.e c.square-s.result l.invariant c.loop-left-test.true c.square-s.ensures
+    turn 2098 a.leading a.known l.left l.m l.e c.square-s.result l.invariant c.loop-left-test.true c.square-s.ensures
 
 returns : tie.Need-returns invariant-loop-left decreases-loop-left
 returns c =
     let a = c.args in
     let l = c.loop-left in
-    stop 2098 a.leading a.known l.false l.m l.e l.invariant c.loop-left-test.false
+    stop 2098 a.leading a.known l.left l.m l.e l.invariant c.loop-left-test.false
 
 pub log_from_spec : {M : Type 1} → statement M
 log_from_spec =

@@ -47,15 +47,15 @@ loop-i-preserved c =
     ⊎_elim
     (λ x. (
       omega arith,
-      ap length x.1 ∙ simp length-set l.invariant.1,
-      rw x.1 (row_freed l.i js l.u (omega arith) (omega arith) (eq-eqb _ _ (e ∙ x.0.taken)) ∙ l.invariant.2),
+      ap length x.u-is ∙ simp length-set l.invariant.1,
+      rw x.u-is (row_freed l.i js l.u (omega arith) (omega arith) (eq-eqb _ _ (e ∙ x.if-work-i.true)) ∙ l.invariant.2),
     ))
     (λ x. (
       omega arith,
-      ap length x.1 ∙ l.invariant.1,
-      rw x.1 (row_stays l.i js l.u (omega arith) (omega arith) (ne_eqb _ _ (λ z. x.0.left (sym e ∙ z))) ∙ l.invariant.2),
+      ap length x.u-is ∙ l.invariant.1,
+      rw x.u-is (row_stays l.i js l.u (omega arith) (omega arith) (ne_eqb _ _ (λ z. x.if-work-i.false (sym e ∙ z))) ∙ l.invariant.2),
     ))
-    c.if-work-i.branch
+    c.if-work-i.branch-raw
 
 shape_of-u : tie.Need-shape_of-u invariant-loop-i decreases-loop-i
 shape_of-u c = omega arith

@@ -17,7 +17,7 @@ lengths_are : (c : tie.Joined-col_ptr-size) → let a = c.args in
     c.if-col_ptr-size.lengths ≡ matrix_lengths a.n a.col_ptr.now a.row_idx.now a.values.now
 lengths_are c =
     let a = c.args in
-    ⊎_elim (λ w. w.1 ∙ rw (eq-eqb _ _ w.0.taken)) (λ w. w.1 ∙ rw (ne_eqb _ _ w.0.left)) c.if-col_ptr-size.branch
+    ⊎_elim (λ w. w.lengths-is ∙ rw (eq-eqb _ _ w.if-col_ptr-size.true)) (λ w. w.lengths-is ∙ rw (ne_eqb _ _ w.if-col_ptr-size.false)) c.if-col_ptr-size.branch-raw
 
 sizes-are : (c : tie.After-size_fault-sizes) → let a = c.args in
     c.size_fault-sizes.result ≡ size_fault a.n a.limit (length a.row_idx.now) (matrix_lengths a.n a.col_ptr.now a.row_idx.now a.values.now)
