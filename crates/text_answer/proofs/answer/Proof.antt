@@ -10,7 +10,7 @@ use Rattle.text_answer.proofs.answer.Statement.{statement}
 use Rattle.text_answer.proofs.answer.Tie as tie
 
 slice_bounds-answer_input-end : tie.Need-slice_bounds-answer_input-end
-slice_bounds-answer_input-end c = sym (length-take-le _ _ (omega (arith, c.all-1.given.0, c.if-count-lt-BUFFER_LENGTH.true)))
+slice_bounds-answer_input-end c = sym (length-take-le _ _ (omega (arith, c.all-1.given, c.if-count-lt-BUFFER_LENGTH.true)))
 
 answer_input-requires : tie.Need-answer_input-requires
 answer_input-requires c κs = search rules
@@ -18,7 +18,7 @@ answer_input-requires c κs = search rules
 returns-then-count-lt-BUFFER_LENGTH : tie.Need-returns-then-count-lt-BUFFER_LENGTH
 returns-then-count-lt-BUFFER_LENGTH c =
     let args = c.args in
-    let w = whole args.form args.count args.buffer.now args.output.now c.all-1.given.0
+    let w = whole args.form args.count args.buffer.now args.output.now c.all-1.given
     c.answer_input.ensures.0 in
     record {
       text = c.answer_input.ensures.0;
@@ -35,9 +35,9 @@ answer_input-requires-2 c κs = search rules
 returns : tie.Need-returns
 returns c =
     let args = c.args in
-    let e = full args.form args.count args.buffer.now args.output.now (omega (arith, c.all-1.given.0, c.if-count-lt-BUFFER_LENGTH.false))
+    let e = full args.form args.count args.buffer.now args.output.now (omega (arith, c.all-1.given, c.if-count-lt-BUFFER_LENGTH.false))
     c.answer_input-2.ensures.0 in
-    let w = whole args.form args.count args.buffer.now args.output.now c.all-1.given.0 e in
+    let w = whole args.form args.count args.buffer.now args.output.now c.all-1.given e in
     record {
       text = e;
       whole = w;

@@ -19,9 +19,6 @@ use Rattle.text_answer.proofs.answer_symmetric.Statement.{statement}
 use Rattle.text_answer.proofs.answer_symmetric.Tie as tie
 
 -- places of the proof, each from a later one
-abbrev symmetric_graph-built-of-in-Graph-2 : tie.In-Graph-2 → tie.After-symmetric_graph-built
-symmetric_graph-built-of-in-Graph-2 c = c.before.before.before.before.before
-
 abbrev symmetric_graph-built-of-in-Graph : tie.In-Graph → tie.After-symmetric_graph-built
 symmetric_graph-built-of-in-Graph c = c.before.before.before.before
 
@@ -68,21 +65,21 @@ rows_long c = c.symmetric_graph-built.auto.graph_rows ∙ part_length _ 1024 _ (
 cost-long : (c : tie.After-symmetric_graph-built) → length (cost-left c) ≡ 2 * length c.args.rows.now
 cost-long c = c.symmetric_graph-built.auto.cost ∙ part_length _ 1024 _ (short c)
 
-abbrev kept : tie.In-Graph-2 → ℕ
+abbrev kept : tie.In-Graph → ℕ
 kept c = c.in-Graph.kept
 
-holds : (c : tie.In-Graph-2)
+holds : (c : tie.In-Graph)
     → 
     let args = c.args in
-    HoldsGraph args.n (triplets args.rows.now args.cols.now args.values.now) (pointers (symmetric_graph-built-of-in-Graph-2 c)) (rows_left (symmetric_graph-built-of-in-Graph-2 c)) (cost-left (symmetric_graph-built-of-in-Graph-2 c)) (kept c)
+    HoldsGraph args.n (triplets args.rows.now args.cols.now args.values.now) (pointers (symmetric_graph-built-of-in-Graph c)) (rows_left (symmetric_graph-built-of-in-Graph c)) (cost-left (symmetric_graph-built-of-in-Graph c)) (kept c)
 holds c =
-    held_graph c.requires (pointers (symmetric_graph-built-of-in-Graph-2 c)) (rows_left (symmetric_graph-built-of-in-Graph-2 c)) (cost-left (symmetric_graph-built-of-in-Graph-2 c)) c.in-Graph.is c.symmetric_graph-built.ensures.0
+    held_graph c.requires (pointers (symmetric_graph-built-of-in-Graph c)) (rows_left (symmetric_graph-built-of-in-Graph c)) (cost-left (symmetric_graph-built-of-in-Graph c)) c.in-Graph.is c.symmetric_graph-built.ensures.0
 
-rows_room : (c : tie.In-Graph-2) → kept c ≤ length (rows_left (symmetric_graph-built-of-in-Graph-2 c))
-rows_room c = omega (arith, (holds c).ranges, rows_long (symmetric_graph-built-of-in-Graph-2 c))
+rows_room : (c : tie.In-Graph) → kept c ≤ length (rows_left (symmetric_graph-built-of-in-Graph c))
+rows_room c = omega (arith, (holds c).fits, rows_long (symmetric_graph-built-of-in-Graph c))
 
-cost_room_lem : (c : tie.In-Graph-2) → kept c ≤ length (cost-left (symmetric_graph-built-of-in-Graph-2 c))
-cost_room_lem c = omega (arith, (holds c).ranges, cost-long (symmetric_graph-built-of-in-Graph-2 c))
+cost_room_lem : (c : tie.In-Graph) → kept c ≤ length (cost-left (symmetric_graph-built-of-in-Graph c))
+cost_room_lem c = omega (arith, (holds c).fits, cost-long (symmetric_graph-built-of-in-Graph c))
 
 -- a part that is left, with anything behind it, has room
 with-more : {A : Type 0} (k : ℕ) (l m : List A) → k ≤ length l → k ≤ length (l ++ m)
@@ -142,24 +139,24 @@ slice_bounds-answer_graph-end c =
     sym (part_again _ 65 _ (pointers (symmetric_graph-built-of-graph_ptr-in-Graph-1 c)) (few (symmetric_graph-built-of-graph_ptr-in-Graph-1 c)) c.symmetric_graph-built.auto.graph_ptr)
 
 slice_bounds-graph_rows-end-in-Graph : tie.Need-slice_bounds-graph_rows-end-in-Graph
-slice_bounds-graph_rows-end-in-Graph c = with-more (kept built) (rows_left (symmetric_graph-built-of-graph_ptr-in-Graph-1 c)) _ (rows_room built)
+slice_bounds-graph_rows-end-in-Graph c = with-more (kept c.before) (rows_left (symmetric_graph-built-of-graph_ptr-in-Graph-1 c)) _ (rows_room c.before)
 
 slice_bounds-answer_graph-end-in-Graph : tie.Need-slice_bounds-answer_graph-end-in-Graph
 slice_bounds-answer_graph-end-in-Graph c =
-    sym (length-take-le _ _ (with-more (kept built) (rows_left (symmetric_graph-built-of-graph_rows-in-Graph-1 c)) _ (rows_room built)))
+    sym (length-take-le _ _ (with-more (kept c.before.before) (rows_left (symmetric_graph-built-of-graph_rows-in-Graph-1 c)) _ (rows_room c.before.before)))
 
 slice_bounds-cost-end-in-Graph : tie.Need-slice_bounds-cost-end-in-Graph
-slice_bounds-cost-end-in-Graph c = with-more (kept built) (cost-left (symmetric_graph-built-of-graph_rows-in-Graph-1 c)) _ (cost_room_lem built)
+slice_bounds-cost-end-in-Graph c = with-more (kept c.before.before) (cost-left (symmetric_graph-built-of-graph_rows-in-Graph-1 c)) _ (cost_room_lem c.before.before)
 
 slice_bounds-answer_graph-end-in-Graph-2 : tie.Need-slice_bounds-answer_graph-end-in-Graph-2
 slice_bounds-answer_graph-end-in-Graph-2 c =
-    sym (length-take-le _ _ (with-more (kept built) (cost-left (symmetric_graph-built-of-cost-in-Graph-1 c)) _ (cost_room_lem built)))
+    sym (length-take-le _ _ (with-more (kept c.before.before.before) (cost-left (symmetric_graph-built-of-cost-in-Graph-1 c)) _ (cost_room_lem c.before.before.before)))
 
 answer_graph-requires : tie.Need-answer_graph-requires
 answer_graph-requires c κs =
-    reportable c.requires (pointers (symmetric_graph-built-of-answer_graph-arg-1 c)) (rows_left (symmetric_graph-built-of-answer_graph-arg-1 c)) (cost-left (symmetric_graph-built-of-answer_graph-arg-1 c)) (holds built)
-    (take_at (pointers (symmetric_graph-built-of-answer_graph-arg-1 c)) _ _ (pointers-long (symmetric_graph-built-of-answer_graph-arg-1 c))) (take-append-le (kept built) (rows_left (symmetric_graph-built-of-answer_graph-arg-1 c)) _ (rows_room built))
-    (take-append-le (kept built) (cost-left (symmetric_graph-built-of-answer_graph-arg-1 c)) _ (cost_room_lem built))
+    reportable c.requires (pointers (symmetric_graph-built-of-answer_graph-arg-1 c)) (rows_left (symmetric_graph-built-of-answer_graph-arg-1 c)) (cost-left (symmetric_graph-built-of-answer_graph-arg-1 c)) (holds c.before.before.before.before)
+    (take_at (pointers (symmetric_graph-built-of-answer_graph-arg-1 c)) _ _ (pointers-long (symmetric_graph-built-of-answer_graph-arg-1 c))) (take-append-le (kept c.before.before.before.before) (rows_left (symmetric_graph-built-of-answer_graph-arg-1 c)) _ (rows_room c.before.before.before.before))
+    (take-append-le (kept c.before.before.before.before) (cost-left (symmetric_graph-built-of-answer_graph-arg-1 c)) _ (cost_room_lem c.before.before.before.before))
 
 enum_told-1 : tie.Need-enum_told-1
 enum_told-1 c = search rules
@@ -174,9 +171,9 @@ returns-in-Graph : tie.Need-returns-in-Graph
 returns-in-Graph c =
     (
       λ weights v. c.answer_graph.ensures.0 ∙ ap (λ (text : List ℕ). report_written text c.args.output.now)
-          (graph_text_lem c.requires (pointers (symmetric_graph-built-of-slice_known-in-Graph-1 c)) (rows_left (symmetric_graph-built-of-slice_known-in-Graph-1 c)) (cost-left (symmetric_graph-built-of-slice_known-in-Graph-1 c)) (holds built)
-          (take_at (pointers (symmetric_graph-built-of-slice_known-in-Graph-1 c)) _ _ (pointers-long (symmetric_graph-built-of-slice_known-in-Graph-1 c))) (take-append-le (kept built) (rows_left (symmetric_graph-built-of-slice_known-in-Graph-1 c)) _ (rows_room built))
-          (take-append-le (kept built) (cost-left (symmetric_graph-built-of-slice_known-in-Graph-1 c)) _ (cost_room_lem built)) c.args.form weights v),
+          (graph_text_lem c.requires (pointers (symmetric_graph-built-of-slice_known-in-Graph-1 c)) (rows_left (symmetric_graph-built-of-slice_known-in-Graph-1 c)) (cost-left (symmetric_graph-built-of-slice_known-in-Graph-1 c)) (holds c.before.before.before.before.before.before.before)
+          (take_at (pointers (symmetric_graph-built-of-slice_known-in-Graph-1 c)) _ _ (pointers-long (symmetric_graph-built-of-slice_known-in-Graph-1 c))) (take-append-le (kept c.before.before.before.before.before.before.before) (rows_left (symmetric_graph-built-of-slice_known-in-Graph-1 c)) _ (rows_room c.before.before.before.before.before.before.before))
+          (take-append-le (kept c.before.before.before.before.before.before.before) (cost-left (symmetric_graph-built-of-slice_known-in-Graph-1 c)) _ (cost_room_lem c.before.before.before.before.before.before.before)) c.args.form weights v),
       c.answer_graph.ensures.1,
     )
 
