@@ -10,10 +10,9 @@ use lib.Dec.{T, ltb}
 use lib.IntN.{ℤ, pos, negsuc, nat_abs}
 use lib.ListN.{length, take, drop, length-take, length-drop}
 use lib.Signed.{lt_z, non_neg}
-use Rattle.libc.specs.Io.{Moved}
 use Rattle.text_program.specs.declared.Input.TheVariants.{More, All, Failed}
 use Rattle.text_answer.specs.Answer.{buffer_length}
-use Rattle.text_program.specs.Input.{input_after}
+use Rattle.text_program.specs.Input.{Moved, input_after}
 
 never : {X : Type 0} → true ≡ false → X
 never e = absurd (subst T e tt)

@@ -1,8 +1,13 @@
 -- SPECIFICATION 11.1: The result of the reads of standard input.
-use Rattle.std.specs.Prelude.{cond, ℕ, zero, suc, ◌+◌, ◌≤◌, ltb, ℤ, pos, negsuc}
+use Rattle.std.specs.Prelude.{◌≡◌, cond, ℕ, zero, suc, ◌+◌, ◌≤◌, ltb, ℤ, pos, negsuc}
 use Rattle.text_answer.specs.Answer.{buffer_length}
 use Rattle.text_program.specs.declared.Input.{Input}
 use Rattle.text_program.specs.declared.Input.TheVariants.{More, All, Failed}
+
+-- what a read with room for n bytes answers: -1, or how many bytes it brought, at most n
+abbrev pub Moved : ℕ → ℤ → Type 0
+Moved n (pos k) = k ≤ n
+Moved n (negsuc k) = k ≡ 0
 
 -- a full buffer needs no further read
 abbrev pub taken : ℕ → Input

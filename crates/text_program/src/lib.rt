@@ -1,11 +1,11 @@
 // A program that reads a file from standard input and prints the text of its match. Nothing is printed for an input
 // that was not read to its end, or as far as it counts; standard error says what went wrong.
-ghost use Rattle.std.specs.Prelude.{◌≡◌, ◌<◌, ◌-◌, length};
-ghost use Rattle.libc.specs.Io.{Moved};
+ghost use Rattle.std.specs.Prelude.{◌≡◌, ◌<◌, ◌≤◌, ◌-◌, length};
 ghost use Rattle.text_answer.specs.Answer.{buffer_length};
-ghost use Rattle.text_program.specs.Input.{input_after, Settled};
+ghost use Rattle.text_program.specs.Input.{Moved, input_after, Settled};
 ghost use Rattle.text_program.specs.Told.{telling, told_of, Fits};
 
+use std::io::Read;
 use text_report::Form;
 
 // The result of the reads: the first bytes, with more to read; all of the input, or as much of it as counts; or a read
@@ -36,16 +36,26 @@ fn after_read(at: usize, got: isize) -> Input
     Input::All(at + more)
 }
 
-// Reads standard input to its end, until the buffer is full, or to a read that fails.
-fn read_input(buffer: &mut [u8]) -> Input
+// One read: how many bytes it brought, or -1 if it failed.
+fn read(input: &mut impl Read, buffer: &mut [u8]) -> isize
+    requires { length buffer.old ≤ buffer_length }
+    ensures { Moved (length buffer.old) result }
+{
+    match input.read(buffer) {
+        Ok(count) => count as isize,
+        Err(_) => -1,
+    }
+}
+
+// Reads the input to its end, until the buffer is full, or to a read that fails.
+fn read_input(input: &mut impl Read, buffer: &mut [u8]) -> Input
     requires { length buffer.old ≡ buffer_length }
     ensures { Settled result }
 {
     let mut at = 0;
     loop {
-        let got = libc::read(0, &mut buffer[at..]);
-        let input = after_read(at, got);
-        match input {
+        let got = read(input, &mut buffer[at..]);
+        match after_read(at, got) {
             Input::More(count) => at = count,
             Input::All(count) => return Input::All(count),
             Input::Failed => return Input::Failed,
@@ -77,13 +87,13 @@ fn tell(
     }
 }
 
-// The program, with the form of its text and what it says if it cannot read or write: read, tell, write. No contract
-// says which bytes a read brings or a write takes, so none says what this does.
-pub fn run(form: Form, unread: &[u8], unwritten: &[u8]) {
+// The program, with its input, the form of its text and what it says if it cannot read or write: read, tell, write. No
+// contract says which bytes a read brings or a write takes, so none says what this does.
+pub fn run(input: &mut impl Read, form: Form, unread: &[u8], unwritten: &[u8]) {
     let mut buffer = [0u8; text_answer::BUFFER_LENGTH];
     let mut output = [0u8; text_report::OUTPUT_LENGTH];
-    let input = read_input(&mut buffer);
-    let Told::Text(length) = tell(form, &buffer, input, &mut output) else {
+    let read = read_input(input, &mut buffer);
+    let Told::Text(length) = tell(form, &buffer, read, &mut output) else {
         io::write_all(2, unread);
         return;
     };
