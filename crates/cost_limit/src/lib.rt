@@ -1,5 +1,7 @@
 // The test of one cost and of one log in a graph of n columns: n times its size, the exact product, is below 2^48 or
 // 2^47. A limit is made once a call; a cost is compared with 0 and with the limit, the size of a log with the limit.
+#![tactic(auto)]
+
 ghost use Rattle.std.specs.Prelude.{◌≡◌, ℕ, ◌≤◌, ◌<◌};
 ghost use Rattle.limits.specs.Limits.{max_columns};
 ghost use Rattle.cost_limit.specs.Range.{in_range, in_log_range};

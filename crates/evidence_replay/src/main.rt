@@ -1,5 +1,7 @@
 // Replays a list of the original's answers, and prints for each call its cases and its differences. oracle/README.md
 // says how the list was made.
+#![tactic(auto)]
+
 mod choices;
 
 use evidence_cases::list::Place;

@@ -1,5 +1,7 @@
 // The exponents of a match's factors under the whole-number profile: rows from u, columns from v - cmax, each divided
 // by 65,536 and rounded down.
+#![tactic(auto)]
+
 ghost use Rattle.std.specs.Prelude.{◌≡◌, map, length};
 ghost use Rattle.exponents.specs.Exponent.{exponent_of};
 ghost use Rattle.exponents.specs.Call.{duals, differences, factors_fault, Promises};

@@ -1,5 +1,7 @@
 // A general matrix scaled in place by powers of two, through the exponents of its values alone. Values are lent as the
 // bits of doubles, so that a refused call leaves every one as it was, NaNs included.
+#![tactic(auto)]
+
 ghost use Rattle.std.specs.Prelude.{◌≡◌, true, ◌+◌, ◌≤◌, ◌<◌, ℤ, ◌+ℤ◌, length, get_or};
 ghost use Rattle.exponents_powers.specs.Power.{within_limit, scaled_bits, exponents};
 ghost use Rattle.sparse.specs.Pattern.{pattern};

@@ -1,4 +1,6 @@
 // One double scaled by a power of two, by its bits (specs/Power.antt).
+#![tactic(auto)]
+
 ghost use Rattle.std.specs.Prelude.{◌≡◌, true, ◌+◌, ◌≤◌, pos, ◌+ℤ◌};
 ghost use Rattle.exponents_powers.specs.Power.{within_limit, scalable, scaled_bits};
 

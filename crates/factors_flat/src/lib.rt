@@ -1,4 +1,6 @@
 // Log factors by a rule for the unmatched indices: the identity rule gives them 0, Duff and Pralet's leaves them flat.
+#![tactic(auto)]
+
 ghost use Rattle.std.specs.Prelude.{◌≡◌, true, ◌+◌, ◌-◌, ◌^◌, ◌≤◌, ◌<◌, eqb, length, get_or, replicate};
 ghost use Rattle.limits.specs.Limits.{max_columns};
 ghost use Rattle.slices.specs.Outcome.{outcome_is};

@@ -1,4 +1,6 @@
 // Identity factors: the matrix is tested, and every factor is 1.0.
+#![tactic(auto)]
+
 ghost use Rattle.std.specs.Prelude.{◌≡◌};
 ghost use Rattle.slices.specs.Outcome.{outcome_is};
 ghost use Rattle.sparse.specs.Matrix.{matrix};

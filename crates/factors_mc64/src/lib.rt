@@ -1,4 +1,6 @@
 // Log factors: the Rust's scaling factors before `exp`.
+#![tactic(auto)]
+
 ghost use Rattle.std.specs.Prelude.{◌≡◌, ◌-◌, ◌≤◌, length, replicate};
 ghost use Rattle.limits.specs.Limits.{max_columns};
 ghost use Rattle.sparse.specs.Fault.{or_else};

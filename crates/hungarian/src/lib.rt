@@ -1,6 +1,8 @@
 // The match of SPECIFICATION 5: its definition (specs/), its theory (proofs/), and the counts. The code is in the
 // crates above: hungarian_claim, hungarian_best and hungarian_init (phases 1 to 3), hungarian_path and hungarian_search
 // (the searches) and hungarian_match (the call).
+#![tactic(auto)]
+
 ghost use Rattle.std.specs.Prelude.{◌≡◌, ◌+◌, ◌<◌, ◌^◌};
 ghost use Rattle.hungarian.specs.Counts.{no_counts, heap_made, search_begun, search_ended, inner_step, column_scanned};
 ghost use Rattle.hungarian.specs.Counts.{rows_popped, larger as largerOf, heap_seen};

@@ -1,5 +1,7 @@
 // Two steps of phase 3 of the match: the best entry of a column, and a row and a column paired by an entry. The work
 // slice is cut into regions of n words (hungarian's Layout), as hungarian_init has them.
+#![tactic(auto)]
+
 ghost use Rattle.std.specs.Prelude.{◌+◌, ◌<◌, get_or};
 ghost use Rattle.limits.specs.Limits.{max_general};
 ghost use Rattle.hungarian.specs.inner.Layout.{region, iperm_at, Workspace};

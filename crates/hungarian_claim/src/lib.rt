@@ -1,6 +1,8 @@
 // Phases 1 and 2 of the match, the first part of the Rust's hungarian_init_heuristic, as in the definition. The work
 // slice is cut into regions of n words (hungarian's Layout): each row's column from 0, each column's entry from n, each
 // row's least entry from 2 n.
+#![tactic(auto)]
+
 ghost use Rattle.std.specs.Prelude.{◌≤◌, ◌<◌, ◌≡◌, cond, length};
 ghost use Rattle.std.specs.Float.Ieee.{le};
 ghost use Rattle.hungarian.specs.inner.Layout.{Workspace};

@@ -2,6 +2,8 @@
 // slice is cut into regions of n words (hungarian's Layout): each row's column from 0, each column's entry from n, each
 // row's least entry from 2 n, and the place from which phase 3 still searches a column from 3 n. The second region of
 // the doubles has phase 3's value of a column.
+#![tactic(auto)]
+
 ghost use Rattle.std.specs.Prelude.{◌≡◌, ◌+◌, ◌*◌, length};
 ghost use Rattle.hungarian.specs.inner.Layout.{Workspace};
 ghost use Rattle.hungarian.specs.Graph.{graph_of};

@@ -1,4 +1,6 @@
 // The call of the match: it tests the graph, runs the phases and the searches, and finishes perm, u and v.
+#![tactic(auto)]
+
 ghost use Rattle.std.specs.Prelude.{◌≡◌, ◌+◌, ◌*◌, ◌^◌, ◌<◌, length};
 ghost use Rattle.hungarian.specs.Graph.{graph_of};
 ghost use Rattle.hungarian_init.specs.inner.Steps.{Startable};

@@ -2,6 +2,8 @@
 // before and after. These are regions of `work`, n words each (hungarian's Layout), and the distances d. The heap's
 // rows are the last n + 1 words of `work`, the places of rows are `pos`, and the distance of the row at each place is
 // in `keys`. A popped row has NONE for its place. The rest of a search's state is passed from step to step by value.
+#![tactic(auto)]
+
 ghost use Rattle.std.specs.Prelude.{◌≡◌, cond, suc, ◌+◌, ◌-◌, ◌*◌, ◌≤◌, ◌<◌, ◌^◌, length, get_or};
 ghost use Rattle.std.specs.Float.{nan, binary64};
 ghost use Rattle.std.specs.Float.Ieee.{add, sub, lt};

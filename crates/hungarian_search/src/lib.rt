@@ -1,5 +1,7 @@
 // The shortest-path searches of the match, one from each free column: what the answer of one (hungarian_path) does to
 // the pairs and the duals, and the turns of all columns. `work`, `pos`, `keys` and d are as in hungarian_path.
+#![tactic(auto)]
+
 ghost use Rattle.std.specs.Prelude.{◌≡◌, ℕ, ◌+◌, ◌*◌, ◌≤◌, ◌<◌, length, get_or, take};
 ghost use Rattle.hungarian.specs.inner.Layout.{region, popped_at};
 ghost use Rattle.hungarian.specs.Graph.{graph_of};

@@ -1,6 +1,8 @@
 // The binary heap of rows by distance, in two slices and a length: heap[p] is the row at place p, from 1 to the length,
 // and pos[i] the place of row i, 0 for a row that is not in the heap. keys[p - 1] is the distance of the row at place
 // p.
+#![tactic(auto)]
+
 ghost use Rattle.std.specs.Prelude.{◌≡◌, ◌≤◌, ◌<◌, ◌^◌, length, get_or};
 ghost use Rattle.index_heap.specs.IndexHeap.{chosen};
 ghost use Rattle.index_heap.specs.inner.Slices.{Ready, Lifted, Updated, Sunk, Popped};

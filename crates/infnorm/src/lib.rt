@@ -1,4 +1,6 @@
 // Inf-norm factors of a symmetric matrix, iterated and one-pass: the two calls and their tests.
+#![tactic(auto)]
+
 ghost use Rattle.std.specs.Prelude.{◌≡◌, ◌^◌, ◌<◌};
 ghost use Rattle.sparse.specs.Matrix.{matrix};
 ghost use Rattle.infnorm.specs.Call.{lengths_fit, input_fault, InfnormPromises, OnepassPromises};

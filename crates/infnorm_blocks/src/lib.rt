@@ -1,4 +1,6 @@
 // The one-pass inf-norm factors from the maxima, block by block.
+#![tactic(auto)]
+
 ghost use Rattle.std.specs.Prelude.{◌≡◌, map, ◌+◌, ◌≤◌, length};
 ghost use Rattle.root_blocks.specs.inner.Blocks.{Roots};
 ghost use Rattle.infnorm_factors.specs.Factors as Factors;

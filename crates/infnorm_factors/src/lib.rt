@@ -1,5 +1,7 @@
 // The inf-norm factor of one row, iterated and one-pass: the size of an entry, the larger of two sizes, and the new
 // factor that a maximum gives.
+#![tactic(auto)]
+
 ghost use Rattle.std.specs.Prelude.{◌≡◌, true};
 ghost use Rattle.std.specs.Float.Ieee.{lt};
 ghost use Rattle.float64.specs.Constants as Constants;

@@ -1,4 +1,6 @@
 // The largest size in each row, under factors and of the values alone.
+#![tactic(auto)]
+
 ghost use Rattle.std.specs.Prelude.{◌≡◌, ◌-◌, length};
 ghost use Rattle.sparse.specs.Matrix.{matrix};
 ghost use Rattle.infnorm_factors.specs.Maxima as Maxima;

@@ -1,4 +1,6 @@
 // The rounds of the iterated inf-norm factors.
+#![tactic(auto)]
+
 ghost use Rattle.std.specs.Prelude.{◌≡◌, not, ◌&&◌, ◌+◌, ◌≤◌, length};
 ghost use Rattle.std.specs.Float.Ieee.{lt, le};
 ghost use Rattle.root_blocks.specs.inner.Blocks.{Roots};

@@ -1,4 +1,5 @@
 // The limits of a call, and the number for none (SPECIFICATION 3).
+#![tactic(auto)]
 
 // No row, column or entry.
 pub const NONE: u32 = 4294967295;

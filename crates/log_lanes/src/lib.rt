@@ -1,5 +1,7 @@
 // The logarithms of many values, sixteen in lockstep: the digits of each stand in a 32-bit word of its own, its lane,
 // so that the compiler takes several lanes in one instruction.
+#![tactic(auto)]
+
 ghost use Rattle.std.specs.Prelude.{◌≡◌, List, ℕ, ◌+◌, ◌*◌, ◌-◌, ◌^◌, ◌≤◌, ◌<◌, Float, length, get_or};
 ghost use Rattle.std.specs.Float.{nan};
 ghost use Rattle.whole_log.specs.Log.{digit_of, squared, log_from, whole_log, double_of};

@@ -1,5 +1,7 @@
 // The check of a match that others made: a pairing with whole duals against its graph, without a search. The loops of
 // the tests have no early exit.
+#![tactic(auto)]
+
 ghost use Rattle.std.specs.Prelude.{◌≡◌, not, ◌||◌, ◌+◌, ◌-◌, ◌^◌, ◌≤◌, ◌<◌, T, eqb, length, get_or, replicate};
 ghost use Rattle.std.specs.Float.{nan, binary64};
 ghost use Rattle.std.specs.Float.Ieee.{add, le};

@@ -1,5 +1,7 @@
 // How far a complete matching can be from the least total, whoever made it, for any costs: the sum over the columns of
 // the excess of the duals over a cost and of their lack on the pair, in whole steps of 2 ^ -digits. Integers only.
+#![tactic(auto)]
+
 ghost use Rattle.std.specs.Prelude.{◌≡◌, cond, ◌+◌, ◌-◌, ◌*◌, ◌^◌, ◌≤◌, ◌<◌, eqb, length, get_or};
 ghost use Rattle.std.specs.Float.{nan, binary64};
 ghost use Rattle.std.specs.Float.Ieee.{of_bits};

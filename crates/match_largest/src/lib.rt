@@ -1,5 +1,7 @@
 // Checks whether a pairing, complete or not, is a largest matching of a pattern, by a search from the columns without a
 // row, whose marks show why no matching has more pairs. Nothing lent is written before the search has ended.
+#![tactic(auto)]
+
 ghost use Rattle.std.specs.Prelude.{◌≡◌, true, not, cond, ◌||◌, ◌≢◌, ℕ, ◌+◌, ◌^◌, ◌≤◌, ◌<◌, eqb, ltb, length, get_or, replicate};
 ghost use Rattle.limits.specs.Limits.{none, max_columns};
 ghost use Rattle.slices.specs.Lists.{tabulate};

@@ -1,4 +1,6 @@
 // MC64 scaling of a symmetric matrix: its cost graph, the match of the graph, and the log factors.
+#![tactic(auto)]
+
 ghost use Rattle.std.specs.Prelude.{◌≡◌};
 ghost use Rattle.sparse.specs.Matrix.{matrix};
 ghost use Rattle.hungarian.specs.Graph.{graph_of};

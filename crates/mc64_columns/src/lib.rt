@@ -1,4 +1,6 @@
 // What both builders of cost graphs do to a column of logs.
+#![tactic(auto)]
+
 ghost use Rattle.std.specs.Prelude.{◌≡◌, ◌+◌, ◌≤◌, ◌<◌, length};
 ghost use Rattle.mc64_columns.specs.Columns.{largest, below, normalised};
 ghost use Rattle.mc64_columns.specs.inner.Steps.{entry_log, WordOf, WordsPut};

@@ -1,4 +1,6 @@
 // Prints the match of a tie file as a pattern file of its pairs, or its refusal.
+#![tactic(auto)]
+
 use text_report::Form;
 
 fn main(rt: HostRuntime) {

@@ -1,5 +1,6 @@
 // The numbers of SPECIFICATION 3.4's table of refusals, in one place. Every crate that refuses answers by these names;
 // specs/Refusal.antt has the same names for contracts.
+#![tactic(auto)]
 
 pub const ACCEPTED: u32 = 0;
 

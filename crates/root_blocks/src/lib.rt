@@ -1,6 +1,8 @@
 // Square roots in blocks of sixteen: candidates in floating point, of which nothing is proved, and one exact check of
 // each in integers. Loops of constant length over local arrays, without a branch, let the compiler take several numbers
 // at a time. A block with a candidate that is not the root is done again, number by number.
+#![tactic(auto)]
+
 ghost use Rattle.std.specs.Prelude.{◌≡◌, ◌+◌, ◌*◌, ◌/◌, ◌%◌, ◌^◌, ◌<◌, ◌≤◌, not, T, length, from_bits, is_nan};
 ghost use Rattle.std.specs.Float.{binary64};
 ghost use Rattle.std.specs.Float.Ieee.{nan_bits};

@@ -1,4 +1,6 @@
 // The chooser: the factors of a symmetric matrix by the strategy that the host names.
+#![tactic(auto)]
+
 ghost use Rattle.std.specs.Prelude.{◌≡◌, length};
 ghost use Rattle.sparse.specs.Matrix.{matrix};
 ghost use Rattle.sparse.specs.Validate.{number_of as factorNumber};

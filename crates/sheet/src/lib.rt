@@ -1,4 +1,6 @@
 // One record of a sheet file: reading it, and its length.
+#![tactic(auto)]
+
 ghost use Rattle.std.specs.Prelude.{◌≡◌, ◌+◌, ◌≤◌, length};
 ghost use Rattle.limits.specs.Limits.{none, max_columns};
 ghost use Rattle.byte_numbers.specs.Bytes.{number_at};

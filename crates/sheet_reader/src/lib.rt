@@ -1,4 +1,6 @@
 // A sheet file read into a match: every record is tested first, then the slices are written.
+#![tactic(auto)]
+
 ghost use Rattle.std.specs.Prelude.{◌≡◌, true, false, ◌≤◌, length, drop, replicate};
 ghost use Rattle.limits.specs.Limits.{none, max_columns};
 ghost use Rattle.sparse.specs.Fault.{or_else};

@@ -2,6 +2,8 @@
 // No integer is wide enough for the square of a result, so the root of a significand is found in two
 // halves. A guess in floating point, of which nothing is proved, is walked to the exact whole root of
 // the upper half; one division then gives the lower half.
+#![tactic(auto)]
+
 ghost use Rattle.std.specs.Prelude.{◌≡◌, ◌*◌, ◌^◌, ◌≤◌, ◌<◌};
 ghost use Rattle.std.specs.Float.{binary64};
 ghost use Rattle.std.specs.Float.Ieee.{of_bits};

@@ -1,4 +1,6 @@
 // What a host links: functions of a C interface on numbers and slices. A slice is passed as a pointer, then its length.
+#![tactic(auto)]
+
 ghost use Rattle.std.specs.Prelude.{◌≡◌};
 ghost use Rattle.refusal.specs.Listed.{OneOf, root_byte_numbers};
 ghost use Rattle.byte_numbers.specs.Root.{root_number, root_bytes, RootPromised};

@@ -1,4 +1,6 @@
 // From the bytes of a tie file to the bytes of its text: the report of its match, or the match's pairs.
+#![tactic(auto)]
+
 ghost use Rattle.std.specs.Prelude.{◌≡◌, ◌^◌, ◌≤◌, length};
 ghost use Rattle.hungarian.specs.Graph.{graph_of};
 ghost use Rattle.triplets.specs.Order.{Below};

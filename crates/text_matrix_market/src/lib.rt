@@ -1,4 +1,6 @@
 // The tie file, read in one pass.
+#![tactic(auto)]
+
 pub mod banner;
 mod numbers;
 mod stages;

@@ -1,5 +1,7 @@
 // A program that reads a file from standard input and prints the text of its match. Nothing is printed for an input
 // that was not read to its end, or as far as it counts; standard error says what went wrong.
+#![tactic(auto)]
+
 ghost use Rattle.std.specs.Prelude.{◌≡◌, ◌<◌, ◌≤◌, ◌-◌, length};
 ghost use Rattle.text_answer.specs.Answer.{buffer_length};
 ghost use Rattle.text_program.specs.Input.{Moved, input_after, Settled};

@@ -1,5 +1,7 @@
 // The texts that the programs print, written into a lent slice of bytes. A function that writes at a place answers the
 // next place.
+#![tactic(auto)]
+
 ghost use Rattle.std.specs.Prelude.{◌≡◌, ◌+◌, ◌≤◌, length};
 ghost use Rattle.std.proofs.lemmas.List.Edits.{sets};
 ghost use Rattle.std.specs.Float.Ieee.{lt};

@@ -1,4 +1,6 @@
 // The cost graph of a symmetric file's entries.
+#![tactic(auto)]
+
 ghost use Rattle.std.specs.Prelude.{◌≡◌, length};
 ghost use Rattle.triplets.specs.Built.{triplets};
 ghost use Rattle.triplets.specs.inner.Steps.{Sized, Roomy};

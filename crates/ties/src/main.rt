@@ -1,4 +1,6 @@
 // Prints the report of a tie file: its match with the duals, or its refusal.
+#![tactic(auto)]
+
 use text_report::Form;
 
 fn main(rt: HostRuntime) {

@@ -1,4 +1,6 @@
 // Cost graphs from whole-number logarithms of the values: the builders' own passes, with the values lent for logs.
+#![tactic(auto)]
+
 ghost use Rattle.std.specs.Prelude.{◌≡◌};
 ghost use Rattle.sparse.specs.Matrix.{matrix};
 ghost use Rattle.mc64_columns.specs.Graphs.{slices};

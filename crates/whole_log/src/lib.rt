@@ -1,5 +1,7 @@
 // The base-two logarithm of a double in units of 1/65,536, by integers only (specs/Log.antt). The 32 leading digits are
 // squared sixteen times; each square gives one binary digit and is cut to 32 digits again.
+#![tactic(auto)]
+
 ghost use Rattle.std.specs.Prelude.{◌≡◌, ◌*◌, ◌^◌, ◌≤◌, ◌<◌};
 ghost use Rattle.std.specs.Float.{binary64};
 ghost use Rattle.std.specs.Float.Ieee.{of_bits};

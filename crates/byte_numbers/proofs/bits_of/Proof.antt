@@ -1,7 +1,6 @@
 -- `bits_of` meets its contract: only a NaN differs from itself, and the bits of a NaN are by definition those.
 use Rattle.std.proofs.Common.{rules}
 use Rattle.byte_numbers.proofs.Words.{nan_bits_lem, itself_no_nan}
-use borrow.Author.Rules.{rules}
 use Rattle.byte_numbers.proofs.bits_of.Statement.{statement}
 use Rattle.byte_numbers.proofs.bits_of.Tie as tie
 

@@ -2,7 +2,6 @@
 use Rattle.std.proofs.Common.{rules}
 use mathlib.Core.Path.{◌∙◌}
 use Rattle.byte_numbers.proofs.Words.{nan_pattern, no_nan_pattern}
-use borrow.Author.Rules.{rules}
 use Rattle.byte_numbers.proofs.double_of.Statement.{statement}
 use Rattle.byte_numbers.proofs.double_of.Tie as tie
 

@@ -2,7 +2,6 @@
 use Rattle.std.proofs.Common.{rules}
 use mathlib.Core.Path.{ap, ◌∙◌}
 use lib.Ieee.{binary64, of_bits}
-use borrow.Author.Rules.{rules}
 use Rattle.byte_numbers.proofs.get_double.Statement.{statement}
 use Rattle.byte_numbers.proofs.get_double.Tie as tie
 

@@ -2,7 +2,6 @@
 use Rattle.std.proofs.Common.{rules}
 use Prim.Native.Nat.{◌+◌}
 use native.Mathlib.Omega.{arith}
-use borrow.Author.Rules.{rules}
 use Rattle.byte_numbers.proofs.Words.{word_is}
 use Rattle.byte_numbers.proofs.get_u32.Statement.{statement}
 use Rattle.byte_numbers.proofs.get_u32.Tie as tie

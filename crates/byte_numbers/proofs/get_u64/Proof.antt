@@ -1,7 +1,6 @@
 -- `get_u64` meets its contract: two words, the low one first.
 use Rattle.std.proofs.Common.{rules}
 use Rattle.byte_numbers.proofs.Words.{long_is}
-use borrow.Author.Rules.{rules}
 use Rattle.byte_numbers.proofs.get_u64.Statement.{statement}
 use Rattle.byte_numbers.proofs.get_u64.Tie as tie
 

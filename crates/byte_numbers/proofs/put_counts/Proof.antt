@@ -3,7 +3,6 @@ use Rattle.std.proofs.Common.{rules}
 use mathlib.Core.Path.{◌∙◌}
 use native.Mathlib.Omega.{arith}
 use Rattle.byte_numbers.proofs.Words.{eight_written}
-use borrow.Author.Rules.{rules}
 use Rattle.byte_numbers.proofs.put_counts.Statement.{statement}
 use Rattle.byte_numbers.proofs.put_counts.Tie as tie
 

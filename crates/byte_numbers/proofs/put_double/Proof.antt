@@ -4,7 +4,6 @@ use mathlib.Core.Path.{ap, ◌∙◌}
 use Prim.Native.Nat.{ℕ}
 use lib.Seq.{sets}
 use Rattle.byte_numbers.specs.Bytes.{bytes_of}
-use borrow.Author.Rules.{rules}
 use Rattle.byte_numbers.proofs.put_double.Statement.{statement}
 use Rattle.byte_numbers.proofs.put_double.Tie as tie
 

@@ -3,7 +3,6 @@ use Rattle.std.proofs.Common.{rules}
 use native.Mathlib.Omega.{arith}
 use lib.ListN.{length-set}
 use Rattle.byte_numbers.proofs.Stores.{four_stores}
-use borrow.Author.Rules.{rules}
 use Rattle.byte_numbers.proofs.put_u32.Statement.{statement}
 use Rattle.byte_numbers.proofs.put_u32.Tie as tie
 

@@ -3,7 +3,6 @@ use Rattle.std.proofs.Common.{rules}
 use native.Mathlib.Omega.{arith}
 use lib.ListN.{length-set}
 use Rattle.byte_numbers.proofs.Stores.{eight_stores}
-use borrow.Author.Rules.{rules}
 use Rattle.byte_numbers.proofs.put_u64.Statement.{statement}
 use Rattle.byte_numbers.proofs.put_u64.Tie as tie
 

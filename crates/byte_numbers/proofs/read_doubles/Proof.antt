@@ -5,7 +5,6 @@ use Prim.Native.Nat.{◌-◌, ◌≤◌}
 use native.Mathlib.Omega.{arith}
 use lib.ListN.{length, length-set}
 use Rattle.byte_numbers.specs.Bytes.{doubles}
-use borrow.Author.Rules.{rules}
 use Rattle.byte_numbers.proofs.Words.{filled, fill_none, fill_more, fill_all, double_at, doubles_are}
 use Rattle.byte_numbers.proofs.read_doubles.Statement.{statement}
 use Rattle.byte_numbers.proofs.read_doubles.Tie as tie

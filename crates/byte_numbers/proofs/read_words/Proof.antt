@@ -5,7 +5,6 @@ use Prim.Native.Nat.{◌-◌, ◌≤◌}
 use native.Mathlib.Omega.{arith}
 use lib.ListN.{length, length-set}
 use Rattle.byte_numbers.specs.Bytes.{words}
-use borrow.Author.Rules.{rules}
 use Rattle.byte_numbers.proofs.Words.{filled, fill_none, fill_more, fill_all, word_at, words_are}
 use Rattle.byte_numbers.proofs.read_words.Statement.{statement}
 use Rattle.byte_numbers.proofs.read_words.Tie as tie

@@ -1,7 +1,6 @@
 -- `sqrt` meets its contract: the test of the length, then the root's answer by its cases.
 use Rattle.std.proofs.Common.{rules}
 use mathlib.Core.Path.{sym, ◌∙◌, subst}
-use borrow.Author.Rules.{rules}
 use lib.Dec.{T}
 use lib.Ieee.{binary64, fits}
 use Rattle.byte_numbers.proofs.Roots.{root_double, other_length, answered, no_root_lem}

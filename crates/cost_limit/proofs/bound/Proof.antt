@@ -1,6 +1,5 @@
 -- `bound` meets its contract: its bits are those of the limit made of the quotient's digits.
 use Rattle.std.proofs.Common.{rules}
-use borrow.Author.Rules.{rules}
 use mathlib.Core.Path.{◌≡◌, sym, ap, subst}
 use Prim.Native.Nat.{ℕ, ◌+◌, ◌-◌, ◌*◌, ◌/◌, ◌^◌, ◌<◌}
 use native.Mathlib.Omega.{arith}

@@ -1,6 +1,5 @@
 -- `cost_limit` meets its contract: two comparisons with a bound are the test.
 use Rattle.std.proofs.Common.{rules}
-use borrow.Author.Rules.{rules}
 use Rattle.cost_limit.proofs.Limits.{cost_limit_lem}
 use Rattle.cost_limit.proofs.cost_limit.Statement.{statement}
 use Rattle.cost_limit.proofs.cost_limit.Tie as tie

@@ -1,7 +1,6 @@
 -- `in_log_range` meets its contract: its comparison of the size is that of a limit.
 use Rattle.std.proofs.Common.{rules}
 use mathlib.Core.Path.{sym, subst, ap, ◌∙◌}
-use borrow.Author.Rules.{rules}
 use lib.Dec.{T}
 use lib.Ieee.{Float, lt}
 use Rattle.cost_limit.proofs.in_log_range.Statement.{statement}

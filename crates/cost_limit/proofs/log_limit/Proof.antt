@@ -1,6 +1,5 @@
 -- `log_limit` meets its contract: two comparisons with a bound are the test.
 use Rattle.std.proofs.Common.{rules}
-use borrow.Author.Rules.{rules}
 use Rattle.cost_limit.proofs.Limits.{log_limit}
 use Rattle.cost_limit.proofs.log_limit.Statement.{statement}
 use Rattle.cost_limit.proofs.log_limit.Tie as tie

@@ -4,7 +4,6 @@ use mathlib.Core.Path.{◌≡◌, sym, ◌∙◌}
 use mathlib.Core.List.{List}
 use lib.IntN.{ℤ}
 use lib.ListN.{length}
-use borrow.Author.Rules.{rules}
 use Rattle.sparse.specs.Validate.{size_fault}
 use Rattle.sparse.proofs.First.{or-none, answer_first, answer_second}
 use Rattle.exponents.specs.Call.{Duals, duals, row_factors, column_factors, lengths_fit, factors_fault, exponents_fault}

@@ -6,7 +6,6 @@ use Prim.Native.Nat.{◌-◌}
 use native.Mathlib.Omega.{arith}
 use lib.Ieee.{nan}
 use lib.ListN.{length, get_or}
-use borrow.Author.Rules.{rules}
 use borrow.Author.Tests.{not-true, not-false}
 use Rattle.refusal.specs.Refusal.{exponent_range}
 use Rattle.sparse.specs.Fault.{unless}
@@ -41,7 +40,7 @@ within_limit-requires : tie.Need-within_limit-requires invariant-loop-i decrease
 within_limit-requires c κs = tt
 
 -- the test at i, of the exponent that was found there
-tested : (c : tie.After-within_limit invariant-loop-i decreases-loop-i) → 
+tested : (c : tie.After-within_limit invariant-loop-i decreases-loop-i) →
     factor_fits (get_or c.args.u.now c.loop-i.i nan) ≡ c.within_limit.result
 tested c = sym (c.within_limit.ensures ∙ ap within_limit (read_is c.exponent_of-exponent.result c.exponent_of-exponent.type_inv)
     ∙ c.exponent_of-exponent.ensures.fits)

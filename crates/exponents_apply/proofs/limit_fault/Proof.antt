@@ -5,7 +5,6 @@ use mathlib.Core.Bool.{Bool}
 use Prim.Native.Nat.{◌-◌}
 use native.Mathlib.Omega.{arith}
 use lib.ListN.{length}
-use borrow.Author.Rules.{rules}
 use borrow.Author.Tests.{not-true, not-false}
 use Rattle.refusal.specs.Refusal.{exponent_range}
 use Rattle.sparse.specs.Fault.{unless}
@@ -36,7 +35,7 @@ within_limit-requires : tie.Need-within_limit-requires invariant-loop-i decrease
 within_limit-requires c κs = search rules
 
 -- the test at i, of the exponent that was read there
-tested : (c : tie.After-within_limit invariant-loop-i decreases-loop-i) → 
+tested : (c : tie.After-within_limit invariant-loop-i decreases-loop-i) →
     c.within_limit.result ≡ within_limit (exponent_at c.args.exponents.now c.loop-i.i)
 tested c = c.within_limit.ensures ∙ ap within_limit (read_is _ c.exponent-1.given)
 

@@ -4,7 +4,6 @@ use mathlib.Core.Path.{ap}
 use mathlib.Core.Bool.{Bool, ◌&&◌, ◌||◌}
 use Prim.Native.Nat.{◌+◌}
 use lib.IntN.{pos, ◌+ℤ◌}
-use borrow.Author.Rules.{rules}
 use Rattle.exponents_powers.specs.Power.{field_of, is_zero, is_normal, scalable}
 use Rattle.exponents_powers.proofs.Fields.{read_raised, shifted_parts, normal_test}
 use Rattle.exponents_powers.proofs.is_scalable.Statement.{statement}

@@ -1,6 +1,5 @@
 -- `within_limit` meets its contract by computing.
 use Rattle.std.proofs.Common.{rules}
-use borrow.Author.Rules.{rules}
 use Rattle.exponents_powers.specs.Power.{within_limit}
 use Rattle.exponents_powers.proofs.within_limit.Statement.{statement}
 use Rattle.exponents_powers.proofs.within_limit.Tie as tie

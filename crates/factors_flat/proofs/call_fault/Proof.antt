@@ -1,7 +1,6 @@
 -- `call_fault` meets its contract: the matrix's fault, else the matching's.
 use Rattle.std.proofs.Common.{rules}
 use Rattle.sparse.proofs.First.{answer_first, answer_second}
-use borrow.Author.Rules.{rules}
 use Rattle.factors_flat.proofs.call_fault.Statement.{statement}
 use Rattle.factors_flat.proofs.call_fault.Tie as tie
 

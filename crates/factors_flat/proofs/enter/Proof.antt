@@ -2,7 +2,6 @@
 use borrow.Author.Tests.{eq-eqb, ne_eqb}
 use Rattle.std.proofs.Common.{rules}
 use mathlib.Core.Path.{refl}
-use borrow.Author.Rules.{rules}
 use Rattle.factors_flat.proofs.enter.Statement.{statement}
 use Rattle.factors_flat.proofs.enter.Tie as tie
 

@@ -2,7 +2,6 @@
 use Rattle.std.proofs.Common.{rules}
 use Prim.Native.Nat.{◌≤◌}
 use native.Mathlib.Omega.{arith}
-use borrow.Author.Rules.{rules}
 use Rattle.sparse.specs.Matrix.{matrix}
 use Rattle.matching.specs.Match.{match_of}
 use Rattle.factors_mc64.specs.Calls.{slices}

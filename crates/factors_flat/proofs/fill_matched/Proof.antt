@@ -1,7 +1,6 @@
 -- `fill_matched` meets its contract: cleared work is marked by rows, the factors are filled, the work is marked by indices.
 use Rattle.std.proofs.Common.{rules}
 use native.Mathlib.Omega.{arith}
-use borrow.Author.Rules.{rules}
 use Rattle.matching.specs.Match.{match_of}
 use Rattle.factors_mc64.proofs.Loops.{no_marks_lem}
 use Rattle.factors_flat.proofs.Ends.{marked_start, levelled_start}

@@ -1,7 +1,6 @@
 -- `flat_factors` meets its contract: a fault is refused with nothing changed, an accepted call writes the factors.
 use Rattle.std.proofs.Common.{rules}
 use mathlib.Core.Path.{◌≡◌, refl, sym, ◌∙◌}
-use borrow.Author.Rules.{rules}
 use Rattle.sparse.specs.Matrix.{matrix}
 use Rattle.matching.specs.Match.{match_of}
 use Rattle.factors_mc64.specs.Calls.{Slices, slices}

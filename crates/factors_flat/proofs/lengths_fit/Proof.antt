@@ -2,7 +2,6 @@
 use Rattle.std.proofs.Common.{rules}
 use mathlib.Core.Path.{refl}
 use Rattle.factors_flat.specs.Call.{flat_lengths}
-use borrow.Author.Rules.{rules}
 use Rattle.factors_flat.proofs.lengths_fit.Statement.{statement}
 use Rattle.factors_flat.proofs.lengths_fit.Tie as tie
 

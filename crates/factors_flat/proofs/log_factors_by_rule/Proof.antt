@@ -1,6 +1,5 @@
 -- `log_factors_by_rule` meets its contract: each rule's call leaves that rule's outcome.
 use Rattle.std.proofs.Common.{rules}
-use borrow.Author.Rules.{rules}
 use Rattle.sparse.specs.Matrix.{matrix}
 use Rattle.matching.specs.Match.{match_of}
 use Rattle.factors_mc64.specs.Calls.{slices}

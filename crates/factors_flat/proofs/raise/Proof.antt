@@ -2,7 +2,6 @@
 use Rattle.std.proofs.Common.{rules}
 use mathlib.Core.Path.{refl}
 use Rattle.factors_flat.specs.inner.Steps.{raised_at}
-use borrow.Author.Rules.{rules}
 use Rattle.factors_flat.proofs.raise.Statement.{statement}
 use Rattle.factors_flat.proofs.raise.Tie as tie
 

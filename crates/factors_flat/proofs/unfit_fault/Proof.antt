@@ -1,6 +1,5 @@
 -- `unfit_fault` meets its contract: the sizes of each rule.
 use Rattle.std.proofs.Common.{rules}
-use borrow.Author.Rules.{rules}
 use Rattle.factors_flat.proofs.Numbers.{unfit_identity, unfit_flat}
 use Rattle.factors_flat.proofs.unfit_fault.Statement.{statement}
 use Rattle.factors_flat.proofs.unfit_fault.Tie as tie

@@ -1,7 +1,6 @@
 -- `write_flat` meets its contract: the matched factors, then all entries, then the signs turned and the work cleared.
 use Rattle.std.proofs.Common.{rules}
 use mathlib.Core.Path.{◌∙◌}
-use borrow.Author.Rules.{rules}
 use Rattle.sparse.specs.Matrix.{matrix}
 use Rattle.matching.specs.Match.{match_of}
 use Rattle.factors_flat.proofs.Ends.{flat_written}

@@ -8,7 +8,6 @@ use Rattle.sparse.specs.Matrix.{matrix}
 use Rattle.infnorm.proofs.Calls.{onepass_fault_lem, onepass_room}
 use Rattle.factors_identity.specs.Identity.{identity_factors}
 use Rattle.factors_identity.proofs.Filled.{filled_refused, filled_done}
-use borrow.Author.Rules.{rules}
 use Rattle.factors_identity.proofs.identity_factors.Statement.{statement}
 use Rattle.factors_identity.proofs.identity_factors.Tie as tie
 

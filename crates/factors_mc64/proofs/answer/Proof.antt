@@ -2,7 +2,6 @@
 use Rattle.std.proofs.Common.{rules}
 use mathlib.Core.Path.{refl}
 use borrow.Author.Tests.{eq-eqb, ne_eqb}
-use borrow.Author.Rules.{rules}
 use Rattle.factors_mc64.proofs.answer.Statement.{statement}
 use Rattle.factors_mc64.proofs.answer.Tie as tie
 

@@ -5,7 +5,6 @@ use mathlib.Core.Bool.{true, false, true≢false}
 use lib.Ieee.{Float, nan, inf, fin, is_nan, ne}
 use lib.Ieee.Compare.{differs_from_itself}
 use Rattle.factors_mc64.specs.Factors.{held}
-use borrow.Author.Rules.{rules}
 use Rattle.factors_mc64.proofs.hold.Statement.{statement}
 use Rattle.factors_mc64.proofs.hold.Tie as tie
 

@@ -2,7 +2,6 @@
 use Rattle.std.proofs.Common.{rules}
 use mathlib.Core.Path.{refl}
 use Rattle.factors_mc64.specs.Factors.{log_factor}
-use borrow.Author.Rules.{rules}
 use Rattle.factors_mc64.proofs.log_factor.Statement.{statement}
 use Rattle.factors_mc64.proofs.log_factor.Tie as tie
 

@@ -2,7 +2,6 @@
 use Rattle.std.proofs.Common.{rules}
 use mathlib.Core.Path.{sym, ◌∙◌}
 use Rattle.factors_mc64.proofs.Outcomes.{fault_is, refuses, accepted, few_matched, applies}
-use borrow.Author.Rules.{rules}
 use Rattle.factors_mc64.proofs.Theorems.{with_number}
 use Rattle.factors_mc64.proofs.log_factors.Statement.{statement}
 use Rattle.factors_mc64.proofs.log_factors.Tie as tie

@@ -3,7 +3,6 @@ use Rattle.std.proofs.Common.{rules}
 use mathlib.Core.Path.{sym, ap, ◌∙◌}
 use Rattle.factors_mc64.specs.Calls.{sizes}
 use Rattle.factors_mc64.proofs.Outcomes.{sides_refuse, side_room, sides_apply}
-use borrow.Author.Rules.{rules}
 use Rattle.factors_mc64.proofs.Theorems.{sides_number}
 use Rattle.factors_mc64.proofs.unsymmetric_factors.Statement.{statement}
 use Rattle.factors_mc64.proofs.unsymmetric_factors.Tie as tie

@@ -3,7 +3,6 @@ use Rattle.std.proofs.Common.{rules}
 use mathlib.Core.Path.{refl}
 use native.Mathlib.Omega.{arith}
 use Rattle.factors_mc64.proofs.Loops.{no_marks_lem}
-use borrow.Author.Rules.{rules}
 use Rattle.factors_mc64.proofs.write_factors.Statement.{statement}
 use Rattle.factors_mc64.proofs.write_factors.Tie as tie
 

@@ -64,16 +64,15 @@ loop-i-smaller : tie.Need-loop-i-smaller invariant-loop-i decreases-loop-i
 loop-i-smaller c = omega arith
 
 loop-i-preserved : tie.Need-loop-i-preserved invariant-loop-i decreases-loop-i
-loop-i-preserved c =
-    (
-      omega arith,
-      simp length-set c.loop-i.invariant.1,
-      simp length-set c.loop-i.invariant.2,
-      fill_goes_on _ _ c.loop-i.i _
-          (omega arith) c.hold.ensures c.loop-i.invariant.3,
-      fill_goes_on _ _ c.loop-i.i _
-          (omega arith) c.hold-in-loop-i.ensures c.loop-i.invariant.4,
-    )
+loop-i-preserved c = (
+  omega arith,
+  simp length-set c.loop-i.invariant.1,
+  simp length-set c.loop-i.invariant.2,
+  fill_goes_on _ _ c.loop-i.i _
+      (omega arith) c.hold.ensures c.loop-i.invariant.3,
+  fill_goes_on _ _ c.loop-i.i _
+      (omega arith) c.hold-in-loop-i.ensures c.loop-i.invariant.4,
+)
 
 shape_of-rows : tie.Need-shape_of-rows invariant-loop-i decreases-loop-i
 shape_of-rows c = omega arith

@@ -1,7 +1,6 @@
 -- `float64::abs` meets its contract: the turned number is the size, but for a zero.
 use Rattle.std.proofs.Common.{rules}
 use mathlib.Core.Path.{sym, subst, ◌∙◌}
-use borrow.Author.Rules.{rules}
 use lib.Dec.{T}
 use Rattle.float64.specs.Constants as Constants
 use Rattle.float64.proofs.Functions.{size-zero, size_other}

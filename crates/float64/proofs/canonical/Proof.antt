@@ -1,7 +1,6 @@
 -- `float64::canonical` meets its contract: only a NaN differs from itself, and the logic has one NaN.
 use Rattle.std.proofs.Common.{rules}
 use mathlib.Core.Path.{◌∙◌}
-use borrow.Author.Rules.{rules}
 use Rattle.float64.proofs.Functions.{nan_is_quiet}
 use Rattle.float64.proofs.canonical.Statement.{statement}
 use Rattle.float64.proofs.canonical.Tie as tie

@@ -1,6 +1,5 @@
 -- `scaled` meets its contract, by the laws of a normal and of a subnormal pattern.
 use Rattle.std.proofs.Common.{rules}
-use borrow.Author.Rules.{rules}
 use mathlib.Core.Path.{sym, subst}
 use Prim.Native.Nat.{ℕ, ◌-◌, ◌*◌}
 use native.Mathlib.Omega.{arith}

@@ -1,7 +1,6 @@
 -- `hungarian_init::start` meets its contract: each phase leaves what the next requires, by the laws of Begins.
 use Rattle.std.proofs.Common.{rules}
 use mathlib.Core.Path.{◌∙◌}
-use borrow.Author.Rules.{rules}
 use native.Mathlib.Omega.{arith}
 use Rattle.hungarian.specs.Graph.{graph_of}
 use Rattle.hungarian_claim.specs.inner.Memory.{Sound}

@@ -1,7 +1,6 @@
 -- `hungarian_match` meets its contract: a fault is refused with nothing changed, an accepted graph is solved.
 use Rattle.std.proofs.Common.{rules}
 use mathlib.Core.Path.{sym, ◌∙◌}
-use borrow.Author.Rules.{rules}
 use Rattle.hungarian_match.proofs.hungarian_match.Statement.{statement}
 use Rattle.hungarian_match.proofs.hungarian_match.Tie as tie
 use Rattle.hungarian_match.proofs.Calls.{accepted_lengths}

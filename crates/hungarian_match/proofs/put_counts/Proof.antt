@@ -1,7 +1,6 @@
 -- `put_counts` meets its contract: eight places are written, one after the other.
 use Rattle.std.proofs.Common.{rules}
 use native.Mathlib.Omega.{arith}
-use borrow.Author.Rules.{rules}
 use lib.ListN.{length-set}
 use Rattle.hungarian_match.proofs.Outcomes.{eight_set}
 use Rattle.hungarian_match.proofs.put_counts.Statement.{statement}

@@ -1,6 +1,5 @@
 -- `hungarian_path::pop_nearest` meets its contract: what the heap's `pop` promises and two stores, by Popping.
 use Rattle.std.proofs.Common.{rules}
-use borrow.Author.Rules.{rules}
 use Prim.Native.Nat.{◌<◌}
 use native.Mathlib.Omega.{arith}
 use lib.ListN.{length-set}

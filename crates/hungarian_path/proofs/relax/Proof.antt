@@ -1,6 +1,5 @@
 -- `hungarian_path::relax` meets its contract: its stores and the heap's step are laws of Relaxing.
 use Rattle.std.proofs.Common.{rules}
-use borrow.Author.Rules.{rules}
 use mathlib.Core.Path.{◌≡◌, ◌∙◌}
 use Prim.Native.Nat.{◌+◌, ◌*◌, ◌<◌}
 use native.Mathlib.Omega.{arith}

@@ -34,20 +34,19 @@ scan-first-requires : tie.Need-scan-first-requires
 scan-first-requires c κs = root_asks _ _ _ _ _ _ _ _ c.requires _
 
 grow-grown-requires : tie.Need-grow-grown-requires
-grow-grown-requires c κs =
-    (
-      rw (
-        c.column_scanned-counted.ensures,
-        c.column_length.ensures,
-        c.search_begun.ensures,
-      )
-          (root_growing _ _ _ _ _ _ _ _ c.requires _ _ _ _ _ _ c.scan-first.ensures
-          c.scan-first.auto.work
-          (c.scan-first.auto.pos, c.scan-first.auto.keys)).0,
+grow-grown-requires c κs = (
+  rw (
+    c.column_scanned-counted.ensures,
+    c.column_length.ensures,
+    c.search_begun.ensures,
+  )
       (root_growing _ _ _ _ _ _ _ _ c.requires _ _ _ _ _ _ c.scan-first.ensures
-          c.scan-first.auto.work
-          (c.scan-first.auto.pos, c.scan-first.auto.keys)).1,
-    )
+      c.scan-first.auto.work
+      (c.scan-first.auto.pos, c.scan-first.auto.keys)).0,
+  (root_growing _ _ _ _ _ _ _ _ c.requires _ _ _ _ _ _ c.scan-first.ensures
+      c.scan-first.auto.work
+      (c.scan-first.auto.pos, c.scan-first.auto.keys)).1,
+)
 
 ended-end-requires : tie.Need-ended-end-requires
 ended-end-requires c κs = tt

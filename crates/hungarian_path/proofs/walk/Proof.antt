@@ -185,12 +185,11 @@ loop-left-smaller : tie.Need-loop-left-smaller invariant-loop-left decreases-loo
 loop-left-smaller c = omega arith
 
 loop-left-preserved : tie.Need-loop-left-preserved invariant-loop-left decreases-loop-left
-loop-left-preserved c =
-    (
-      c.loop-left.invariant.0,
-      walk_turn _ _ _ _ _ c.loop-left.invariant.0 _ _ _ c.loop-left.invariant.1 c.loop-left-test.true
-          c.if-work-n.false,
-    )
+loop-left-preserved c = (
+  c.loop-left.invariant.0,
+  walk_turn _ _ _ _ _ c.loop-left.invariant.0 _ _ _ c.loop-left.invariant.1 c.loop-left-test.true
+      c.if-work-n.false,
+)
 
 shape_of-work-after-loop-left : tie.Need-shape_of-work-after-loop-left invariant-loop-left decreases-loop-left
 shape_of-work-after-loop-left c = c.loop-left.invariant.1.long

@@ -6,7 +6,6 @@ use Prim.Native.Nat.{◌≤◌}
 use native.Mathlib.Omega.{arith}
 use lib.ListN.{length, take}
 use lib.Seq.{length-take-le}
-use borrow.Author.Rules.{rules}
 use Rattle.hungarian_search.proofs.Starts.{few, slots, start_stands, end_searched}
 use Rattle.hungarian_search.proofs.run.Statement.{statement}
 use Rattle.hungarian_search.proofs.run.Tie as tie

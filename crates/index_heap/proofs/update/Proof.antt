@@ -1,6 +1,5 @@
 -- `index_heap::update` meets its contract: the place that it reads is the row's, and `sift_up` does the rest.
 use Rattle.std.proofs.Common.{rules}
-use borrow.Author.Rules.{rules}
 use Rattle.index_heap.proofs.Steps.{update_done}
 use Rattle.index_heap.proofs.update.Statement.{statement}
 use Rattle.index_heap.proofs.update.Tie as tie

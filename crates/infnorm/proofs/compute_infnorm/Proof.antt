@@ -5,7 +5,6 @@ use Rattle.sparse.specs.Matrix.{matrix}
 use Rattle.infnorm.proofs.Calls.{infnorm_lengths, matrix_accepted, infnorm_fault_lem, infnorm_room, infnorm_refused, infnorm_done}
 use Rattle.infnorm.proofs.Refusals.{infnorm_promised}
 use Rattle.sparse.proofs.Validities.{accepted_is, refused_is}
-use borrow.Author.Rules.{rules}
 use Rattle.infnorm.proofs.compute_infnorm.Statement.{statement}
 use Rattle.infnorm.proofs.compute_infnorm.Tie as tie
 
@@ -33,8 +32,7 @@ fill-requires c κs = search rules
 
 iterate-requires : tie.Need-iterate-requires
 iterate-requires c κs =
-    let args = c.args in
-    (
+    let args = c.args in (
       matrix_accepted (matrix args.n args.col_ptr.now args.row_idx.now args.values.now)
           (infnorm_lengths (matrix args.n args.col_ptr.now args.row_idx.now args.values.now) args.factors.now
           args.work.now) (sym (infnorm_fault_lem (matrix args.n args.col_ptr.now args.row_idx.now args.values.now)

@@ -6,7 +6,6 @@ use Rattle.infnorm.specs.Call.{lengths_fit}
 use Rattle.infnorm.proofs.Calls.{matrix_accepted, onepass_fault_lem, onepass_room, onepass_refused, onepass_done}
 use Rattle.infnorm.proofs.Refusals.{onepass_promised}
 use Rattle.sparse.proofs.Validities.{accepted_is, refused_is}
-use borrow.Author.Rules.{rules}
 use Rattle.infnorm.proofs.compute_onepass.Statement.{statement}
 use Rattle.infnorm.proofs.compute_onepass.Tie as tie
 
@@ -29,8 +28,7 @@ returns-then-fault-ne-ACCEPTED c =
 
 value_maxima-requires : tie.Need-value_maxima-requires
 value_maxima-requires c κs =
-    let args = c.args in
-    (
+    let args = c.args in (
       matrix_accepted (matrix args.n args.col_ptr.now args.row_idx.now args.values.now)
           (lengths_fit (matrix args.n args.col_ptr.now args.row_idx.now args.values.now) args.factors.now)
           (sym (onepass_fault_lem (matrix args.n args.col_ptr.now args.row_idx.now args.values.now) args.factors.now

@@ -3,7 +3,6 @@ use Rattle.std.proofs.Common.{rules}
 use Rattle.sparse.proofs.First.{answer_first, answer_second}
 use Rattle.sparse.proofs.Validities.{number_told}
 use Rattle.infnorm.specs.Call.{input_fault}
-use borrow.Author.Rules.{rules}
 use Rattle.infnorm.proofs.input_fault.Statement.{statement}
 use Rattle.infnorm.proofs.input_fault.Tie as tie
 

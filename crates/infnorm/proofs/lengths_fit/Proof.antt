@@ -2,7 +2,6 @@
 use Rattle.std.proofs.Common.{rules}
 use mathlib.Core.Path.{refl}
 use Rattle.infnorm.specs.Call.{lengths_fit}
-use borrow.Author.Rules.{rules}
 use Rattle.infnorm.proofs.lengths_fit.Statement.{statement}
 use Rattle.infnorm.proofs.lengths_fit.Tie as tie
 

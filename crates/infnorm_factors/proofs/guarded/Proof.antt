@@ -2,7 +2,6 @@
 use Rattle.std.proofs.Common.{rules}
 use mathlib.Core.Path.{refl}
 use Rattle.infnorm_factors.specs.Factors.{guarded}
-use borrow.Author.Rules.{rules}
 use Rattle.infnorm_factors.proofs.guarded.Statement.{statement}
 use Rattle.infnorm_factors.proofs.guarded.Tie as tie
 

@@ -3,7 +3,6 @@ use Rattle.std.proofs.Common.{rules}
 use mathlib.Core.Path.{refl}
 use lib.Ieee.{of_bits}
 use Rattle.infnorm_factors.specs.Factors.{inv_sqrt_scale_guarded}
-use borrow.Author.Rules.{rules}
 use Rattle.infnorm_factors.proofs.inv_sqrt_scale_guarded.Statement.{statement}
 use Rattle.infnorm_factors.proofs.inv_sqrt_scale_guarded.Tie as tie
 

@@ -2,7 +2,6 @@
 use Rattle.std.proofs.Common.{rules}
 use mathlib.Core.Path.{refl}
 use Rattle.infnorm_factors.specs.Factors.{new_factor}
-use borrow.Author.Rules.{rules}
 use Rattle.infnorm_factors.proofs.new_factor.Statement.{statement}
 use Rattle.infnorm_factors.proofs.new_factor.Tie as tie
 

@@ -1,7 +1,6 @@
 -- `scaled_size` meets its contract: the operations are the definition's.
 use Rattle.std.proofs.Common.{rules}
 use Rattle.infnorm_factors.specs.Factors.{scaled_size}
-use borrow.Author.Rules.{rules}
 use Rattle.infnorm_factors.proofs.scaled_size.Statement.{statement}
 use Rattle.infnorm_factors.proofs.scaled_size.Tie as tie
 

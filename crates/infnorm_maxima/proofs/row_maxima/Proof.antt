@@ -102,8 +102,7 @@ overflow_cast-to c =
 scan_column-requires : tie.Need-scan_column-requires invariant-loop-j decreases-loop-j
 scan_column-requires c κs =
     let args = c.args in
-    let pre = c.requires in
-    (
+    let pre = c.requires in (
       column_stretch c.loop-j.j (length c.loop-j.work)
           (matrix args.n args.col_ptr.now args.row_idx.now args.values.now) pre.0 c.loop-j.invariant.1
           c.loop-j-test.true,
@@ -118,8 +117,7 @@ loop-j-smaller c = omega (arith, c.loop-j-test.true)
 
 loop-j-preserved : tie.Need-loop-j-preserved invariant-loop-j decreases-loop-j
 loop-j-preserved c =
-    let args = c.args in
-    (
+    let args = c.args in (
       omega (arith, c.loop-j-test.true),
       c.scan_column.auto.work ∙ c.loop-j.invariant.1,
       walk_next

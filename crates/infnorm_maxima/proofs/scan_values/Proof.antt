@@ -106,8 +106,7 @@ loop-k-smaller c = omega (arith, c.loop-k-test.true)
 
 loop-k-preserved : tie.Need-loop-k-preserved invariant-loop-k decreases-loop-k
 loop-k-preserved c =
-    let args = c.args in
-    (
+    let args = c.args in (
       omega arith,
       omega (arith, c.loop-k-test.true),
       simp length-set c.loop-k.invariant.2,

@@ -112,8 +112,7 @@ loop-j-smaller c = omega (arith, c.loop-j-test.true)
 
 loop-j-preserved : tie.Need-loop-j-preserved invariant-loop-j decreases-loop-j
 loop-j-preserved c =
-    let args = c.args in
-    (
+    let args = c.args in (
       omega (arith, c.loop-j-test.true),
       c.scan_values.auto.maxima ∙ c.loop-j.invariant.1,
       walk_next (own_sizes args.values.now)

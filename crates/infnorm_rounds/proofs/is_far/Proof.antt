@@ -2,7 +2,6 @@
 use Rattle.std.proofs.Common.{rules}
 use mathlib.Core.Path.{ap}
 use mathlib.Core.Bool.{Bool, ◌&&◌}
-use borrow.Author.Rules.{rules}
 use lib.Ieee.{lt}
 use Rattle.float64.specs.Constants as Constants
 use Rattle.infnorm_rounds.proofs.Far.{size_as_far}

@@ -51,8 +51,7 @@ loop-done-smaller c = omega (arith, c.loop-done-test.true)
 
 loop-done-preserved : tie.Need-loop-done-preserved invariant-loop-done decreases-loop-done
 loop-done-preserved c =
-    let args = c.args in
-    (
+    let args = c.args in (
       omega (arith, c.loop-done-test.true),
       c.one_round-far.auto.factors ∙
           c.loop-done.invariant.1,

@@ -1,6 +1,5 @@
 -- `lane_of` meets its contract: a value with a logarithm starts with its own digits, any other ends past all logarithms.
 use Rattle.std.proofs.Common.{rules}
-use borrow.Author.Rules.{rules}
 use mathlib.Core.Path.{sym, ap, ◌∙◌, subst}
 use Prim.Native.Nat.{◌-◌, ◌/◌, ◌^◌}
 use native.Mathlib.Omega.{arith}

@@ -1,6 +1,5 @@
 -- `next_digit` meets its contract: the three products make the upper word of the square and the digit behind it (`word`); the digit has two cases.
 use Rattle.std.proofs.Common.{rules}
-use borrow.Author.Rules.{rules}
 use Prim.Native.Nat.{◌+◌, ◌*◌, ◌/◌, ◌%◌, ◌^◌}
 use native.Mathlib.Omega.{arith}
 use Rattle.log_lanes.proofs.Lanes.{Word, word, digit_one, digit_none}

@@ -1,7 +1,6 @@
 -- `duals_hold` meets its contract: it is the definition's chain of tests.
 use Rattle.std.proofs.Common.{rules}
 use mathlib.Core.Path.{refl}
-use borrow.Author.Rules.{rules}
 use Rattle.match_check.specs.Check.{duals_hold}
 use Rattle.match_check.proofs.duals_hold.Statement.{statement}
 use Rattle.match_check.proofs.duals_hold.Tie as tie

@@ -1,7 +1,6 @@
 -- `lengths_fit` meets its contract: it is the definition's chain of tests.
 use Rattle.std.proofs.Common.{rules}
 use mathlib.Core.Path.{refl}
-use borrow.Author.Rules.{rules}
 use Rattle.match_check.specs.Check.{check_lengths}
 use Rattle.match_check.proofs.lengths_fit.Statement.{statement}
 use Rattle.match_check.proofs.lengths_fit.Tie as tie

@@ -2,7 +2,6 @@
 use Rattle.std.proofs.Common.{rules}
 use mathlib.Core.Path.{sym}
 use native.Mathlib.Omega.{arith}
-use borrow.Author.Rules.{rules}
 use Rattle.match_gap.proofs.Shifts.{small_digits, large_digits}
 use Rattle.match_gap.proofs.digits_of.Statement.{statement}
 use Rattle.match_gap.proofs.digits_of.Tie as tie

@@ -2,7 +2,6 @@
 use Rattle.std.proofs.Common.{rules}
 use mathlib.Core.Path.{sym, ap, ◌∙◌, subst}
 use Prim.Native.Nat.{ℕ, ◌/◌, ◌^◌, ◌≤◌}
-use borrow.Author.Rules.{rules}
 use Rattle.match_gap.specs.Rounding.{zero_step}
 use Rattle.match_gap.proofs.Shifts.{steps_few}
 use Rattle.match_gap.proofs.floor_steps.Statement.{statement}

@@ -1,6 +1,5 @@
 -- `gap_fault` meets its contract: each return is the first fault of the chain.
 use Rattle.std.proofs.Common.{rules}
-use borrow.Author.Rules.{rules}
 use borrow.Author.Tests.{not-true, not-false}
 use Rattle.match_check.proofs.Calling.{ready}
 use Rattle.match_gap.proofs.Faults.{lengths_are, pointers_fit, by_digits, by_graph, graph_passed, by_costs, by_pairs}
@@ -29,7 +28,7 @@ all_in_steps-requires : tie.Need-all_in_steps-requires
 all_in_steps-requires c κs = search rules
 
 returns-then-not-all_in_steps : tie.Need-returns-then-not-all_in_steps
-returns-then-not-all_in_steps c = 
+returns-then-not-all_in_steps c =
     by_costs _ _ _ _ c.if-digits-gt50.false (lengths_are _ _ _ c.lengths_fit.ensures) c.graph_fault-graph.ensures
     c.if-graph-ne-ACCEPTED.false c.all_in_steps.ensures c.if-not-all_in_steps.true
 
@@ -40,7 +39,7 @@ pairs_fault-requires c κs = let r =
     c.if-graph-ne-ACCEPTED.false) in (r.pattern, (r.rows, c.step_limit-limit.ensures))
 
 returns : tie.Need-returns
-returns c = 
+returns c =
     by_pairs _ _ _ _ c.if-digits-gt50.false (lengths_are _ _ _ c.lengths_fit.ensures) c.graph_fault-graph.ensures
     c.if-graph-ne-ACCEPTED.false c.all_in_steps.ensures c.if-not-all_in_steps.false
     c.pairs_fault.ensures

@@ -1,6 +1,5 @@
 -- `pair_lack` meets its contract: its test is the definition's.
 use Rattle.std.proofs.Common.{rules}
-use borrow.Author.Rules.{rules}
 use Rattle.match_gap.proofs.pair_lack.Statement.{statement}
 use Rattle.match_gap.proofs.pair_lack.Tie as tie
 

@@ -1,6 +1,5 @@
 -- `pairs_fault` meets its contract: each return is the first fault of the chain.
 use Rattle.std.proofs.Common.{rules}
-use borrow.Author.Rules.{rules}
 use borrow.Author.Tests.{not-true, not-false}
 use Rattle.match_gap.proofs.Faults.{by_pairing, by_nothing, by_duals}
 use Rattle.match_gap.proofs.pairs_fault.Statement.{statement}
@@ -21,12 +20,12 @@ all_in_steps-requires : tie.Need-all_in_steps-requires
 all_in_steps-requires c κs = search rules
 
 returns-then-rows-all_in_steps : tie.Need-returns-then-rows-all_in_steps
-returns-then-rows-all_in_steps c = 
+returns-then-rows-all_in_steps c =
     by_nothing _ _ _ c.pairing_fits.ensures c.if-not-pairing_fits.false c.all_in_steps-rows.ensures
     c.all_in_steps.ensures c.if-rows-all_in_steps.true
 
 returns-else-rows-all_in_steps : tie.Need-returns-else-rows-all_in_steps
-returns-else-rows-all_in_steps c = 
+returns-else-rows-all_in_steps c =
     by_duals _ _ _ c.pairing_fits.ensures c.if-not-pairing_fits.false c.all_in_steps-rows.ensures
     c.all_in_steps.ensures c.if-rows-all_in_steps.false
 

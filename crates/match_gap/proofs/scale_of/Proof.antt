@@ -1,7 +1,6 @@
 -- `scale_of` meets its contract: its test is the definition's.
 use Rattle.std.proofs.Common.{rules}
 use mathlib.Core.Path.{sym}
-use borrow.Author.Rules.{rules}
 use Rattle.match_gap.proofs.Shifts.{small_digits, large_digits}
 use Rattle.match_gap.proofs.scale_of.Statement.{statement}
 use Rattle.match_gap.proofs.scale_of.Tie as tie

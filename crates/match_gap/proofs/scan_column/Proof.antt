@@ -63,7 +63,7 @@ offset_bounds-u-i-in-loop-k : tie.Need-offset_bounds-u-i-in-loop-k invariant-loo
 offset_bounds-u-i-in-loop-k c = omega (arith, c.shared_slice_known-in-loop-k-1.given c.loop-k.k)
 
 bounds-u-i-in-loop-k : tie.Need-bounds-u-i-in-loop-k invariant-loop-k decreases-loop-k
-bounds-u-i-in-loop-k c = 
+bounds-u-i-in-loop-k c =
     row_in c.requires.0 c.loop-k.k c.loop-k-test.true
 
 offset_bounds-cost-k-in-loop-k : tie.Need-offset_bounds-cost-k-in-loop-k invariant-loop-k decreases-loop-k

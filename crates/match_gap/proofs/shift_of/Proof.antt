@@ -3,7 +3,6 @@ use Rattle.std.proofs.Common.{rules}
 use mathlib.Core.Path.{sym, subst}
 use Prim.Native.Nat.{ℕ, ◌-◌, ◌≤◌, ◌<◌}
 use native.Mathlib.Omega.{arith}
-use borrow.Author.Rules.{rules}
 use Rattle.match_gap.specs.inner.Scans.{Shifted}
 use Rattle.match_gap.proofs.Shifts.{scale_most, near_shift, far_shift}
 use Rattle.match_gap.proofs.shift_of.Statement.{statement}

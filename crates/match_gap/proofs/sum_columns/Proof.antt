@@ -59,7 +59,7 @@ overflow_add-gap : tie.Need-overflow_add-gap invariant-loop-j decreases-loop-j
 overflow_add-gap c = record { fits = omega (arith, c.scan_column-column.ensures.few) }
 
 overflow_add-gap-in-loop-j : tie.Need-overflow_add-gap-in-loop-j invariant-loop-j decreases-loop-j
-overflow_add-gap-in-loop-j c = 
+overflow_add-gap-in-loop-j c =
     record { fits = omega (arith, c.scan_column-column.ensures.few, c.loop-j.invariant.few, c.loop-j.invariant.below, c.requires.lists.pattern.few) }
 
 overflow_step-j : tie.Need-overflow_step-j invariant-loop-j decreases-loop-j

@@ -3,7 +3,6 @@ use Rattle.std.proofs.Common.{rules}
 use mathlib.Core.Path.{ap, ◌∙◌}
 use Prim.Native.Nat.{ℕ, ◌+◌, ◌-◌}
 use native.Mathlib.Omega.{arith}
-use borrow.Author.Rules.{rules}
 use Rattle.whole_log.proofs.Theorems.{finite_no_nan}
 use Rattle.match_gap.specs.Rounding.{zero_step}
 use Rattle.match_gap.proofs.Signs.{measured_clear, measured_raised, upper_clear, upper_raised}
@@ -26,20 +25,18 @@ overflow_sub-result : tie.Need-overflow_sub-result
 overflow_sub-result c = search rules
 
 returns-then-bits-lt-SIGN : tie.Need-returns-then-bits-lt-SIGN
-returns-then-bits-lt-SIGN c =
-    (
-      ap (λ (r : ℕ). zero_step + r) c.ceiling_steps.ensures.0 ∙ upper_clear c.args.unit c.args.x c.requires.0 c.requires.1
-          c.if-bits-lt-SIGN.true,
-      omega (arith, c.ceiling_steps.ensures.1),
-    )
+returns-then-bits-lt-SIGN c = (
+  ap (λ (r : ℕ). zero_step + r) c.ceiling_steps.ensures.0 ∙ upper_clear c.args.unit c.args.x c.requires.0 c.requires.1
+      c.if-bits-lt-SIGN.true,
+  omega (arith, c.ceiling_steps.ensures.1),
+)
 
 returns-else-bits-lt-SIGN : tie.Need-returns-else-bits-lt-SIGN
-returns-else-bits-lt-SIGN c =
-    (
-      ap (λ (r : ℕ). zero_step - r) c.floor_steps.ensures.0 ∙ upper_raised c.args.unit c.args.x c.requires.0 c.requires.1
-          c.if-bits-lt-SIGN.false,
-      omega arith,
-    )
+returns-else-bits-lt-SIGN c = (
+  ap (λ (r : ℕ). zero_step - r) c.floor_steps.ensures.0 ∙ upper_raised c.args.unit c.args.x c.requires.0 c.requires.1
+      c.if-bits-lt-SIGN.false,
+  omega arith,
+)
 
 pub upper_place_spec : {M : Type 1} → statement M
 upper_place_spec =

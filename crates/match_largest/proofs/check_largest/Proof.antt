@@ -4,7 +4,6 @@ use mathlib.Core.Path.{refl, sym, ap, ◌∙◌}
 use mathlib.Core.List.{[], ◌∷◌}
 use Prim.Native.Nat.{ℕ}
 use native.Mathlib.Omega.{arith}
-use borrow.Author.Rules.{rules}
 use Rattle.slices.proofs.Lists.{only}
 use Rattle.match_largest.specs.Call.{slices}
 use Rattle.match_largest.proofs.Calls.{pointers_fit, by_shape, fit, shape_is, by_pairing, rows_below_lem, found, all_promised}

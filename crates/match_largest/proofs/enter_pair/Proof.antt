@@ -2,7 +2,6 @@
 use Rattle.std.proofs.Common.{rules}
 use Prim.Native.Nat.{◌+◌}
 use native.Mathlib.Omega.{arith}
-use borrow.Author.Rules.{rules}
 use lib.ListN.{get_or}
 use Rattle.match_check.proofs.Columns.{rises, within}
 use Rattle.match_largest.proofs.Entering.{enters_none, enters_beyond, enters_twice, enters_pair}

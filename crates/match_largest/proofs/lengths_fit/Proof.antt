@@ -1,7 +1,6 @@
 -- `lengths_fit` meets its contract: the tests are the definition's.
 use Rattle.std.proofs.Common.{rules}
 use mathlib.Core.Path.{refl}
-use borrow.Author.Rules.{rules}
 use Rattle.match_largest.specs.Call.{largest_lengths}
 use Rattle.match_largest.proofs.lengths_fit.Statement.{statement}
 use Rattle.match_largest.proofs.lengths_fit.Tie as tie

@@ -2,7 +2,6 @@
 use Rattle.std.proofs.Common.{rules}
 use Prim.Native.Nat.{ℕ}
 use native.Mathlib.Omega.{arith}
-use borrow.Author.Rules.{rules}
 use lib.ListN.{length-replicate}
 use Rattle.match_largest.proofs.Searching.{starts, ends}
 use Rattle.match_largest.proofs.search.Statement.{statement}

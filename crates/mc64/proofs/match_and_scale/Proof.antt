@@ -2,7 +2,6 @@
 use Rattle.std.proofs.Common.{rules}
 use mathlib.Core.Path.{◌∙◌}
 use native.Mathlib.Omega.{arith}
-use borrow.Author.Rules.{rules}
 use Rattle.mc64.proofs.Scaling.{count_small, few_matched, factors_ready, complete}
 use Rattle.mc64.proofs.match_and_scale.Statement.{statement}
 use Rattle.mc64.proofs.match_and_scale.Tie as tie

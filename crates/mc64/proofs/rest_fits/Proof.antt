@@ -1,7 +1,6 @@
 -- `rest_fits` meets its contract: it is the definition's chain of tests.
 use Rattle.std.proofs.Common.{rules}
 use mathlib.Core.Path.{refl}
-use borrow.Author.Rules.{rules}
 use Rattle.mc64.specs.Call.{rest_lengths}
 use Rattle.mc64.proofs.rest_fits.Statement.{statement}
 use Rattle.mc64.proofs.rest_fits.Tie as tie

@@ -1,7 +1,6 @@
 -- `entry_log` meets its contract: by the two sources of a log.
 use Rattle.std.proofs.Common.{rules}
 use mathlib.Core.Path.{◌≡◌, sym, ap, ◌∙◌, subst}
-use borrow.Author.Rules.{rules}
 use Rattle.whole_log.specs.Log.{whole_log, double_of}
 use Rattle.log_lanes.specs.inner.Lanes.{answer_of}
 use Rattle.mc64_columns.specs.declared.LogSource.{LogSource}

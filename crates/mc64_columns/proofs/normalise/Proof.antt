@@ -3,7 +3,6 @@ use Rattle.std.proofs.Common.{rules}
 use mathlib.Core.Path.{ap, ◌∙◌}
 use lib.Ieee.{Float}
 use Rattle.mc64_columns.specs.Columns.{normalised, below}
-use borrow.Author.Rules.{rules}
 use Rattle.mc64_columns.proofs.normalise.Statement.{statement}
 use Rattle.mc64_columns.proofs.normalise.Tie as tie
 

@@ -1,6 +1,5 @@
 -- `put_words` meets its contract: by the two sources of a log.
 use Rattle.std.proofs.Common.{rules}
-use borrow.Author.Rules.{rules}
 use mathlib.Core.Path.{sym, subst}
 use Rattle.mc64_columns.specs.declared.LogSource.{LogSource}
 use Rattle.mc64_columns.specs.inner.Steps.{WordsPut}

@@ -107,8 +107,7 @@ overflow_cast-to c = omega (arith, pointers c.before.before, next_below c.before
 
 keep_column-kept-requires : tie.Need-keep_column-kept-requires invariant-loop-c decreases-loop-c
 keep_column-kept-requires c κs =
-    let pre = c.requires in
-    (
+    let pre = c.requires in (
       ((pointers (in-loop-c-of-keep_column-arg-in-loop-c-1 c)).0, (pointers (in-loop-c-of-keep_column-arg-in-loop-c-1 c)).1, (next_below ((loop-c-of-keep_column-arg-in-loop-c-1 c))).0),
       ((pre.0.sizes.stored, pre.0.logged), ((c.loop-c.invariant.2 ∙ pre.1.0.row_room, c.loop-c.invariant.3 ∙ pre.1.0.cost_room), pre.1.1)),
     )
@@ -157,8 +156,7 @@ loop-c-smaller c = omega (arith, c.loop-c-test.true, next_below (loop-c-of-slice
 loop-c-preserved : tie.Need-loop-c-preserved invariant-loop-c decreases-loop-c
 loop-c-preserved c =
     let args = c.args in
-    let pre = c.requires in
-    (
+    let pre = c.requires in (
       omega (arith, c.loop-c-test.true),
       simp length-set c.loop-c.invariant.1,
       c.keep_column-kept.auto.graph_rows ∙ c.loop-c.invariant.2,

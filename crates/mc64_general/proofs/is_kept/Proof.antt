@@ -5,7 +5,6 @@ use mathlib.Core.Bool.{Bool, ◌&&◌}
 use lib.Ieee.{ne}
 use Rattle.float64.specs.Constants as Constants
 use Rattle.mc64_general.specs.Graph.{is_kept}
-use borrow.Author.Rules.{rules}
 use Rattle.mc64_general.proofs.is_kept.Statement.{statement}
 use Rattle.mc64_general.proofs.is_kept.Tie as tie
 

@@ -70,8 +70,7 @@ loop-k-smaller-then-not-is_kept c = omega arith
 
 loop-k-preserved-then-not-is_kept : tie.Need-loop-k-preserved-then-not-is_kept invariant-loop-k decreases-loop-k
 loop-k-preserved-then-not-is_kept c =
-    let args = c.args in
-    (
+    let args = c.args in (
       omega arith,
       omega arith,
       c.loop-k.invariant.2,
@@ -163,8 +162,7 @@ loop-k-smaller c = omega arith
 loop-k-preserved : tie.Need-loop-k-preserved invariant-loop-k decreases-loop-k
 loop-k-preserved c =
     let args = c.args in
-    let pre = c.requires in
-    (
+    let pre = c.requires in (
       omega arith,
       omega arith,
       simp length-set c.loop-k.invariant.2,

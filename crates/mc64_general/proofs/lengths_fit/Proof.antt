@@ -2,7 +2,6 @@
 use Rattle.std.proofs.Common.{rules}
 use mathlib.Core.Path.{refl}
 use Rattle.mc64_columns.specs.Graphs.{slices_fit}
-use borrow.Author.Rules.{rules}
 use Rattle.mc64_general.proofs.lengths_fit.Statement.{statement}
 use Rattle.mc64_general.proofs.lengths_fit.Tie as tie
 

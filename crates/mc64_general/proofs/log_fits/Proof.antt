@@ -1,7 +1,6 @@
 -- `log_fits` meets its contract: both tests as they are answered.
 use Rattle.std.proofs.Common.{rules}
 use mathlib.Core.Path.{refl}
-use borrow.Author.Rules.{rules}
 use Rattle.mc64_general.proofs.log_fits.Statement.{statement}
 use Rattle.mc64_general.proofs.log_fits.Tie as tie
 

@@ -56,25 +56,24 @@ overflow_add-result-2 : tie.Need-overflow_add-result-2
 overflow_add-result-2 c = search rules
 
 returns : tie.Need-returns
-returns c =
-    (
-      omega arith,
-      λ e. let f = c.far.ensures.1 (omega arith) in
-          let w = c.wide.ensures.1 (omega arith) in
-          let o = c.not_normal.ensures.1 (omega arith) in
-          checked c.args.bits c.args.p c.under_root-n.ensures.0 (omega (arith, o.0)) (omega (arith, o.1))
-          (omega arith) (omega arith) (omega arith)
-          (record {
-            over-is = c.wrapping_sub_u64-over.ensures;
-            t_is = c.wrapping_sub_u64-t.ensures;
-            d_is = c.wrapping_sub_u64-d.ensures;
-            left_is = c.wrapping_sub_u64-left.ensures ∙ omega arith;
-            over_small = f.0;
-            t_small = f.1;
-            d_small = w.0;
-            left_small = w.1;
-          }),
-    )
+returns c = (
+  omega arith,
+  λ e. let f = c.far.ensures.1 (omega arith) in
+      let w = c.wide.ensures.1 (omega arith) in
+      let o = c.not_normal.ensures.1 (omega arith) in
+      checked c.args.bits c.args.p c.under_root-n.ensures.0 (omega (arith, o.0)) (omega (arith, o.1))
+      (omega arith) (omega arith) (omega arith)
+      (record {
+        over-is = c.wrapping_sub_u64-over.ensures;
+        t_is = c.wrapping_sub_u64-t.ensures;
+        d_is = c.wrapping_sub_u64-d.ensures;
+        left_is = c.wrapping_sub_u64-left.ensures ∙ omega arith;
+        over_small = f.0;
+        t_small = f.1;
+        d_small = w.0;
+        left_small = w.1;
+      }),
+)
 
 pub excess_spec : {M : Type 1} → statement M
 excess_spec =

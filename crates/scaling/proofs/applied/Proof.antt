@@ -1,7 +1,6 @@
 -- `applied` meets its contract: 0, or the refusal, by the answer's number.
 use Rattle.std.proofs.Common.{rules}
 use mathlib.Core.Path.{sym, ◌∙◌}
-use borrow.Author.Rules.{rules}
 use Rattle.scaling.proofs.Choices.{done_unless, refused_unless}
 use Rattle.scaling.proofs.applied.Statement.{statement}
 use Rattle.scaling.proofs.applied.Tie as tie

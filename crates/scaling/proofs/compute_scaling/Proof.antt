@@ -7,7 +7,6 @@ use Rattle.hungarian_match.specs.Call as Match
 use Rattle.scaling.specs.Choice.{slices}
 use Rattle.scaling.proofs.Choices.{infnorm_chosen, onepass_chosen, mc64_chosen, identity_chosen, external_chosen}
 use Rattle.scaling.proofs.Promises.{promised}
-use borrow.Author.Rules.{rules}
 use Rattle.scaling.proofs.compute_scaling.Statement.{statement}
 use Rattle.scaling.proofs.compute_scaling.Tie as tie
 

@@ -6,7 +6,6 @@ use Rattle.refusal.specs.Refusal.{external_choice}
 use Rattle.sparse.specs.Fault.{or_else}
 use Rattle.sparse.proofs.First.{or-none, or_some}
 use Rattle.scaling.specs.Choice.{external_fault}
-use borrow.Author.Rules.{rules}
 use Rattle.scaling.proofs.external_fault.Statement.{statement}
 use Rattle.scaling.proofs.external_fault.Tie as tie
 

@@ -8,7 +8,6 @@ use Rattle.sparse.specs.Matrix.{matrix}
 use Rattle.sparse.proofs.First.{or-none, or_some}
 use Rattle.infnorm.proofs.Calls.{onepass_fault_lem}
 use Rattle.scaling.specs.Choice.{no_choice}
-use borrow.Author.Rules.{rules}
 use Rattle.scaling.proofs.no_choice.Statement.{statement}
 use Rattle.scaling.proofs.no_choice.Tie as tie
 

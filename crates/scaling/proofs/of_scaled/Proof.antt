@@ -1,7 +1,6 @@
 -- `of_scaled` meets its contract: case by case.
 use Rattle.std.proofs.Common.{rules}
 use mathlib.Core.Path.{sym, ap}
-use borrow.Author.Rules.{rules}
 use Rattle.scaling.specs.Choice.{of_scaled}
 use Rattle.scaling.proofs.of_scaled.Statement.{statement}
 use Rattle.scaling.proofs.of_scaled.Tie as tie

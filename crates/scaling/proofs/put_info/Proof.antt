@@ -1,6 +1,5 @@
 -- `put_info` meets its contract: case by case.
 use Rattle.std.proofs.Common.{rules}
-use borrow.Author.Rules.{rules}
 use Rattle.scaling.proofs.Choices.{put_applied, put_partial, put_not_applied}
 use Rattle.scaling.proofs.put_info.Statement.{statement}
 use Rattle.scaling.proofs.put_info.Tie as tie

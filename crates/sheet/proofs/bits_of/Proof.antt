@@ -5,7 +5,6 @@ use native.Mathlib.Omega.{arith}
 use Rattle.limits.specs.Limits.{none}
 use Rattle.sheet.specs.Format.{bits_of}
 use Rattle.sheet.proofs.Fields.{stands_bit}
-use borrow.Author.Rules.{rules}
 use Rattle.sheet.proofs.bits_of.Statement.{statement}
 use Rattle.sheet.proofs.bits_of.Tie as tie
 

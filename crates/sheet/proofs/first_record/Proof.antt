@@ -2,7 +2,6 @@
 use Rattle.std.proofs.Common.{rules}
 use native.Mathlib.Omega.{arith}
 use Rattle.sheet.proofs.Fields.{first_cut, first_made, row_taken, row_cut, number_taken, number_cut}
-use borrow.Author.Rules.{rules}
 use Rattle.sheet.proofs.first_record.Statement.{statement}
 use Rattle.sheet.proofs.first_record.Tie as tie
 

@@ -3,7 +3,6 @@ use Rattle.std.proofs.Common.{rules}
 use Prim.Native.Nat.{◌+◌}
 use native.Mathlib.Omega.{arith}
 use Rattle.sheet.proofs.Fields.{two_is}
-use borrow.Author.Rules.{rules}
 use Rattle.sheet.proofs.get_two.Statement.{statement}
 use Rattle.sheet.proofs.get_two.Tie as tie
 

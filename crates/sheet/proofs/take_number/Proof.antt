@@ -2,7 +2,6 @@
 use Rattle.std.proofs.Common.{rules}
 use native.Mathlib.Omega.{arith}
 use Rattle.sheet.proofs.Fields.{number_absent, number_short, number_there}
-use borrow.Author.Rules.{rules}
 use Rattle.sheet.proofs.take_number.Statement.{statement}
 use Rattle.sheet.proofs.take_number.Tie as tie
 

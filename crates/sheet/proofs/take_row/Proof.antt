@@ -2,7 +2,6 @@
 use Rattle.std.proofs.Common.{rules}
 use native.Mathlib.Omega.{arith}
 use Rattle.sheet.proofs.Fields.{row_absent, row_short, row_there}
-use borrow.Author.Rules.{rules}
 use Rattle.sheet.proofs.take_row.Statement.{statement}
 use Rattle.sheet.proofs.take_row.Tie as tie
 

@@ -1,6 +1,5 @@
 -- `body_fault` meets its contract: by which reader it is.
 use Rattle.std.proofs.Common.{rules}
-use borrow.Author.Rules.{rules}
 use Rattle.sheet_reader.proofs.body_fault.Statement.{statement}
 use Rattle.sheet_reader.proofs.body_fault.Tie as tie
 

@@ -1,6 +1,5 @@
 -- `canonical_fault` meets its contract: the first of its two faults.
 use Rattle.std.proofs.Common.{rules}
-use borrow.Author.Rules.{rules}
 use Rattle.sheet_reader.proofs.Tested.{needless_first, rising_second}
 use Rattle.sheet_reader.proofs.canonical_fault.Statement.{statement}
 use Rattle.sheet_reader.proofs.canonical_fault.Tie as tie

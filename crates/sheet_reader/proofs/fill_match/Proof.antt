@@ -4,7 +4,6 @@ use mathlib.Core.Path.{refl, sym, ◌∙◌}
 use Rattle.matching.specs.Match.{match_of}
 use Rattle.sheet.specs.Reading.{order_of}
 use Rattle.sheet_reader.proofs.Storing.{lengths_are, body_inside, blank_stored}
-use borrow.Author.Rules.{rules}
 use Rattle.sheet_reader.proofs.fill_match.Statement.{statement}
 use Rattle.sheet_reader.proofs.fill_match.Tie as tie
 

@@ -3,7 +3,6 @@ use Rattle.std.proofs.Common.{rules}
 use mathlib.Core.Path.{refl}
 use borrow.Author.Tests.{le-leb, lt-leb}
 use Rattle.sheet.specs.Reading.{head_fault}
-use borrow.Author.Rules.{rules}
 use Rattle.sheet_reader.proofs.head_fault.Statement.{statement}
 use Rattle.sheet_reader.proofs.head_fault.Tie as tie
 

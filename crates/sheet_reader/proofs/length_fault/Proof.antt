@@ -1,6 +1,5 @@
 -- `length_fault` meets its contract: the fault of n, or 3.
 use Rattle.std.proofs.Common.{rules}
-use borrow.Author.Rules.{rules}
 use Rattle.sheet_reader.proofs.Calls.{size_head, size_length}
 use Rattle.sheet_reader.proofs.length_fault.Statement.{statement}
 use Rattle.sheet_reader.proofs.length_fault.Tie as tie

@@ -1,7 +1,6 @@
 -- `needless_fault` meets its contract: the definition's test, by the map of the fields.
 use Rattle.std.proofs.Common.{rules}
 use Rattle.sheet_reader.proofs.Tested.{needless_is}
-use borrow.Author.Rules.{rules}
 use Rattle.sheet_reader.proofs.needless_fault.Statement.{statement}
 use Rattle.sheet_reader.proofs.needless_fault.Tie as tie
 

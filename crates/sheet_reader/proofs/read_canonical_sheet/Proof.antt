@@ -1,7 +1,6 @@
 -- `read_canonical_sheet` meets its contract: what both readers promise, and what follows from it for a file of bytes.
 use Rattle.std.proofs.Common.{rules}
 use native.Mathlib.Omega.{arith}
-use borrow.Author.Rules.{rules}
 use Rattle.sheet_reader.proofs.Theorems.{canonical_clauses}
 use Rattle.sheet_reader.proofs.read_canonical_sheet.Statement.{statement}
 use Rattle.sheet_reader.proofs.read_canonical_sheet.Tie as tie

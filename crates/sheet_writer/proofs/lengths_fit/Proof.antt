@@ -2,7 +2,6 @@
 use Rattle.std.proofs.Common.{rules}
 use mathlib.Core.Path.{refl}
 use Rattle.sheet_writer.specs.Call.{lengths}
-use borrow.Author.Rules.{rules}
 use Rattle.sheet_writer.proofs.lengths_fit.Statement.{statement}
 use Rattle.sheet_writer.proofs.lengths_fit.Tie as tie
 

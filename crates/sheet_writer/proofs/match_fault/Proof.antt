@@ -1,7 +1,6 @@
 -- `match_fault` meets its contract: its test is the definition's.
 use Rattle.std.proofs.Common.{rules}
 use Rattle.sheet_writer.proofs.Calls.{match_fine, match_not}
-use borrow.Author.Rules.{rules}
 use Rattle.sheet_writer.proofs.match_fault.Statement.{statement}
 use Rattle.sheet_writer.proofs.match_fault.Tie as tie
 

@@ -4,7 +4,6 @@ use mathlib.Core.Path.{sym, ap}
 use Prim.Native.Nat.{ℕ, ◌+◌}
 use Rattle.byte_numbers.proofs.Words.{bytes_length}
 use Rattle.sheet_writer.proofs.Writing.{part_none, part_there}
-use borrow.Author.Rules.{rules}
 use Rattle.sheet_writer.proofs.put_long.Statement.{statement}
 use Rattle.sheet_writer.proofs.put_long.Tie as tie
 

@@ -4,7 +4,6 @@ use mathlib.Core.Path.{sym, ◌∙◌}
 use native.Mathlib.Omega.{arith}
 use Rattle.sheet.proofs.Lengths.{bits_small}
 use Rattle.sheet_writer.proofs.Writing.{patch_none, patch_there}
-use borrow.Author.Rules.{rules}
 use Rattle.sheet_writer.proofs.put_patch.Statement.{statement}
 use Rattle.sheet_writer.proofs.put_patch.Tie as tie
 

@@ -8,7 +8,6 @@ use Rattle.byte_numbers.proofs.Words.{bytes_length}
 use Rattle.text_report.proofs.Writes.{and_then, byte_first}
 use Rattle.sheet.specs.Format.{record_bytes}
 use Rattle.sheet.proofs.Lengths.{part_length}
-use borrow.Author.Rules.{rules}
 use Rattle.sheet_writer.proofs.put_record.Statement.{statement}
 use Rattle.sheet_writer.proofs.put_record.Tie as tie
 

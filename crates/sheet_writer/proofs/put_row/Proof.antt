@@ -1,7 +1,6 @@
 -- `put_row` meets its contract: by its bit.
 use Rattle.std.proofs.Common.{rules}
 use Rattle.sheet_writer.proofs.Writing.{part_none, part_there}
-use borrow.Author.Rules.{rules}
 use Rattle.sheet_writer.proofs.put_row.Statement.{statement}
 use Rattle.sheet_writer.proofs.put_row.Tie as tie
 

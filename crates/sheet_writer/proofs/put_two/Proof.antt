@@ -6,7 +6,6 @@ use native.Mathlib.Omega.{arith}
 use lib.ListN.{length-set}
 use Rattle.byte_numbers.proofs.Words.{bytes_length}
 use Rattle.sheet_writer.proofs.Writing.{two_stores}
-use borrow.Author.Rules.{rules}
 use Rattle.sheet_writer.proofs.put_two.Statement.{statement}
 use Rattle.sheet_writer.proofs.put_two.Tie as tie
 

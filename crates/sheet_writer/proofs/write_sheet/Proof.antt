@@ -6,7 +6,6 @@ use Rattle.matching.specs.Match.{match_of}
 use Rattle.sheet.proofs.Lengths.{sheet_length}
 use Rattle.sheet_writer.proofs.Writing.{lengths_are}
 use Rattle.sheet_writer.proofs.Calls.{sizes_passed, sizes_refuse, match_refuses, writes}
-use borrow.Author.Rules.{rules}
 use Rattle.sheet_writer.proofs.write_sheet.Statement.{statement}
 use Rattle.sheet_writer.proofs.write_sheet.Tie as tie
 

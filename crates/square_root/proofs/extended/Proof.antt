@@ -1,6 +1,5 @@
 -- `extended` meets its contract, by the law of 27 more digits.
 use Rattle.std.proofs.Common.{rules}
-use borrow.Author.Rules.{rules}
 use native.Mathlib.Omega.{arith}
 use Rattle.square_root.proofs.Whole.{Sizes, sizes, extended_up, extended_down}
 use Rattle.square_root.proofs.extended.Statement.{statement}

@@ -1,6 +1,5 @@
 -- `guess_root` meets its contract: no pattern that it reads or writes is a NaN's, and what it returns is a remainder. Of its accuracy nothing is shown.
 use Rattle.std.proofs.Common.{rules}
-use borrow.Author.Rules.{rules}
 use native.Mathlib.Omega.{arith}
 use Rattle.float64.proofs.Bits.{no_nan, less_no_nan}
 use Rattle.square_root.proofs.guess_root.Statement.{statement}

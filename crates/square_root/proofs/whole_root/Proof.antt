@@ -1,6 +1,5 @@
 -- `whole_root` meets its contract: near a power of 4 by the line's laws, else by the search.
 use Rattle.std.proofs.Common.{rules}
-use borrow.Author.Rules.{rules}
 use Rattle.square_root.proofs.Whole.{at_power, near_above, near_below}
 use Rattle.square_root.proofs.whole_root.Statement.{statement}
 use Rattle.square_root.proofs.whole_root.Tie as tie

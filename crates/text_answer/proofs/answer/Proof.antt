@@ -2,7 +2,6 @@
 use Rattle.std.proofs.Common.{rules}
 use mathlib.Core.Path.{sym}
 use native.Mathlib.Omega.{arith}
-use borrow.Author.Rules.{rules}
 use lib.Seq.{length-take-le}
 use Rattle.text_answer.proofs.Files.{whole, by_input, full}
 use Rattle.text_answer.proofs.Again.{again}

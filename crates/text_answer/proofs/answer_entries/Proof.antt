@@ -10,7 +10,6 @@ use Rattle.text_graph.specs.Graph.{cost_values}
 use Rattle.text_answer.specs.Answer.{report_written}
 use Rattle.text_answer.proofs.Files.{weights_few, as_entries, pattern_values, pattern_text, told_in_kind}
 use Rattle.text_answer.proofs.Graphs.{weights_small}
-use borrow.Author.Rules.{rules}
 use Rattle.text_answer.proofs.answer_entries.Statement.{statement}
 use Rattle.text_answer.proofs.answer_entries.Tie as tie
 

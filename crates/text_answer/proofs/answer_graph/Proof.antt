@@ -7,7 +7,6 @@ use native.Mathlib.Omega.{arith}
 use lib.ListN.{length}
 use lib.Ieee.{Float}
 use lib.Seq.{take_at}
-use borrow.Author.Rules.{rules}
 use Rattle.hungarian_match.proofs.LocalArrays.{part_length, part_within, part_again}
 use Rattle.text_answer.proofs.Reports.{rows_printable, columns_printable, text_is, wrote}
 use Rattle.text_answer.proofs.answer_graph.Statement.{statement}
@@ -170,13 +169,12 @@ shape_of-output : tie.Need-shape_of-output
 shape_of-output c = search rules
 
 returns : tie.Need-returns
-returns c =
-    (
-      wrote _ (text_is c.requires c.solve-found.ensures c.args.form (take_at (perm-left (solve-found-of-slice_known-2-1 c)) _ _ (perm-long (solve-found-of-slice_known-2-1 c)))
-          (take_at (u-left (solve-found-of-slice_known-2-1 c)) _ _ (u-long (solve-found-of-slice_known-2-1 c))) (take_at (v-left (solve-found-of-slice_known-2-1 c)) _ _ (v-long (solve-found-of-slice_known-2-1 c))) c.put_counts.ensures)
-          c.put_form.ensures.0 c.put_form.ensures.1.0,
-      c.put_form.ensures.1.1,
-    )
+returns c = (
+  wrote _ (text_is c.requires c.solve-found.ensures c.args.form (take_at (perm-left (solve-found-of-slice_known-2-1 c)) _ _ (perm-long (solve-found-of-slice_known-2-1 c)))
+      (take_at (u-left (solve-found-of-slice_known-2-1 c)) _ _ (u-long (solve-found-of-slice_known-2-1 c))) (take_at (v-left (solve-found-of-slice_known-2-1 c)) _ _ (v-long (solve-found-of-slice_known-2-1 c))) c.put_counts.ensures)
+      c.put_form.ensures.0 c.put_form.ensures.1.0,
+  c.put_form.ensures.1.1,
+)
 
 pub answer_graph_spec : {M : Type 1} → statement M
 answer_graph_spec =

@@ -10,7 +10,6 @@ use Rattle.text_matrix_market.specs.inner.Steps.{Lists, lists, first_entries, Pl
 use Rattle.text_answer.specs.Answer.{report_written}
 use Rattle.text_answer.proofs.Reports.{wrote}
 use Rattle.text_answer.proofs.Files.{by_verdict, count_fits, entries_are, text_is, refused_text_lem}
-use borrow.Author.Rules.{rules}
 use Rattle.text_answer.proofs.answer_input.Statement.{statement}
 use Rattle.text_answer.proofs.answer_input.Tie as tie
 
@@ -105,31 +104,29 @@ shape_of-output-in-File : tie.Need-shape_of-output-in-File
 shape_of-output-in-File c = search rules
 
 returns-in-File : tie.Need-returns-in-File
-returns-in-File c =
-    (
-      c.answer_entries.ensures.0 ∙ ap (λ (text : List ℕ). report_written text
-          c.args.output.now) (text_is (count_of ((in-File-of-slice_known-in-File-1 c))) (input_of ((read_file-verdict-of-slice_known-in-File-1 c))) (after ((read_file-verdict-of-slice_known-in-File-1 c)))
-          (held ((in-File-of-slice_known-in-File-1 c))) (places ((read_file-verdict-of-slice_known-in-File-1 c))) c.args.form),
-      c.answer_entries.ensures.1,
-    )
+returns-in-File c = (
+  c.answer_entries.ensures.0 ∙ ap (λ (text : List ℕ). report_written text
+      c.args.output.now) (text_is (count_of ((in-File-of-slice_known-in-File-1 c))) (input_of ((read_file-verdict-of-slice_known-in-File-1 c))) (after ((read_file-verdict-of-slice_known-in-File-1 c)))
+      (held ((in-File-of-slice_known-in-File-1 c))) (places ((read_file-verdict-of-slice_known-in-File-1 c))) c.args.form),
+  c.answer_entries.ensures.1,
+)
 
 shape_of-output-in-Refused : tie.Need-shape_of-output-in-Refused
 shape_of-output-in-Refused c = search rules
 
 returns-in-Refused : tie.Need-returns-in-Refused
-returns-in-Refused c =
-    (
-      wrote _ (refused_text_lem c.args.form _
-          (by_verdict (after ((read_file-verdict-of-slice_known-in-Refused-1 c))) c.in-Refused.is
-          c.read_file-verdict.ensures.0)) c.put_refused.ensures.0
-          c.put_refused.ensures.1.0,
-      omega (
-        arith,
-        c.put_refused.ensures.1.1,
-        c.put_refused.auto.out,
-        c.requires,
-      ),
-    )
+returns-in-Refused c = (
+  wrote _ (refused_text_lem c.args.form _
+      (by_verdict (after ((read_file-verdict-of-slice_known-in-Refused-1 c))) c.in-Refused.is
+      c.read_file-verdict.ensures.0)) c.put_refused.ensures.0
+      c.put_refused.ensures.1.0,
+  omega (
+    arith,
+    c.put_refused.ensures.1.1,
+    c.put_refused.auto.out,
+    c.requires,
+  ),
+)
 
 pub answer_input_spec : {M : Type 1} → statement M
 answer_input_spec =

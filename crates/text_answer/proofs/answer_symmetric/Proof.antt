@@ -8,7 +8,6 @@ use native.Mathlib.Omega.{arith}
 use lib.ListN.{length, length-append}
 use lib.Ieee.{Float}
 use lib.Seq.{length-take-le, take_at, take-append-le}
-use borrow.Author.Rules.{rules}
 use Rattle.triplets.specs.Built.{triplets}
 use Rattle.text_symmetric_graph.specs.inner.Steps.{HoldsGraph}
 use Rattle.hungarian_match.proofs.LocalArrays.{part_length, part_within, part_again}
@@ -69,7 +68,7 @@ abbrev kept : tie.In-Graph → ℕ
 kept c = c.in-Graph.kept
 
 holds : (c : tie.In-Graph)
-    → 
+    →
     let args = c.args in
     HoldsGraph args.n (triplets args.rows.now args.cols.now args.values.now) (pointers (symmetric_graph-built-of-in-Graph c)) (rows_left (symmetric_graph-built-of-in-Graph c)) (cost-left (symmetric_graph-built-of-in-Graph c)) (kept c)
 holds c =
@@ -168,26 +167,24 @@ shape_of-output-in-Graph : tie.Need-shape_of-output-in-Graph
 shape_of-output-in-Graph c = search rules
 
 returns-in-Graph : tie.Need-returns-in-Graph
-returns-in-Graph c =
-    (
-      λ weights v. c.answer_graph.ensures.0 ∙ ap (λ (text : List ℕ). report_written text c.args.output.now)
-          (graph_text_lem c.requires (pointers (symmetric_graph-built-of-slice_known-in-Graph-1 c)) (rows_left (symmetric_graph-built-of-slice_known-in-Graph-1 c)) (cost-left (symmetric_graph-built-of-slice_known-in-Graph-1 c)) (holds c.before.before.before.before.before.before.before)
-          (take_at (pointers (symmetric_graph-built-of-slice_known-in-Graph-1 c)) _ _ (pointers-long (symmetric_graph-built-of-slice_known-in-Graph-1 c))) (take-append-le (kept c.before.before.before.before.before.before.before) (rows_left (symmetric_graph-built-of-slice_known-in-Graph-1 c)) _ (rows_room c.before.before.before.before.before.before.before))
-          (take-append-le (kept c.before.before.before.before.before.before.before) (cost-left (symmetric_graph-built-of-slice_known-in-Graph-1 c)) _ (cost_room_lem c.before.before.before.before.before.before.before)) c.args.form weights v),
-      c.answer_graph.ensures.1,
-    )
+returns-in-Graph c = (
+  λ weights v. c.answer_graph.ensures.0 ∙ ap (λ (text : List ℕ). report_written text c.args.output.now)
+      (graph_text_lem c.requires (pointers (symmetric_graph-built-of-slice_known-in-Graph-1 c)) (rows_left (symmetric_graph-built-of-slice_known-in-Graph-1 c)) (cost-left (symmetric_graph-built-of-slice_known-in-Graph-1 c)) (holds c.before.before.before.before.before.before.before)
+      (take_at (pointers (symmetric_graph-built-of-slice_known-in-Graph-1 c)) _ _ (pointers-long (symmetric_graph-built-of-slice_known-in-Graph-1 c))) (take-append-le (kept c.before.before.before.before.before.before.before) (rows_left (symmetric_graph-built-of-slice_known-in-Graph-1 c)) _ (rows_room c.before.before.before.before.before.before.before))
+      (take-append-le (kept c.before.before.before.before.before.before.before) (cost-left (symmetric_graph-built-of-slice_known-in-Graph-1 c)) _ (cost_room_lem c.before.before.before.before.before.before.before)) c.args.form weights v),
+  c.answer_graph.ensures.1,
+)
 
 shape_of-output-in-Repeated : tie.Need-shape_of-output-in-Repeated
 shape_of-output-in-Repeated c = search rules
 
 returns-in-Repeated : tie.Need-returns-in-Repeated
-returns-in-Repeated c =
-    (
-      λ weights v. wrote _ (repeated_text c.requires c.args.form (some_repeated c.requires (pointers (symmetric_graph-built-of-slice_known-in-Repeated-1 c))
-          (rows_left (symmetric_graph-built-of-slice_known-in-Repeated-1 c)) (cost-left (symmetric_graph-built-of-slice_known-in-Repeated-1 c)) c.in-Repeated.is c.symmetric_graph-built.ensures.0) weights)
-          c.put_refused.ensures.0 c.put_refused.ensures.1.0,
-      c.put_refused.ensures.1.1,
-    )
+returns-in-Repeated c = (
+  λ weights v. wrote _ (repeated_text c.requires c.args.form (some_repeated c.requires (pointers (symmetric_graph-built-of-slice_known-in-Repeated-1 c))
+      (rows_left (symmetric_graph-built-of-slice_known-in-Repeated-1 c)) (cost-left (symmetric_graph-built-of-slice_known-in-Repeated-1 c)) c.in-Repeated.is c.symmetric_graph-built.ensures.0) weights)
+      c.put_refused.ensures.0 c.put_refused.ensures.1.0,
+  c.put_refused.ensures.1.1,
+)
 
 pub answer_symmetric_spec : {M : Type 1} → statement M
 answer_symmetric_spec =

@@ -7,7 +7,6 @@ use native.Mathlib.Omega.{arith}
 use lib.ListN.{length}
 use lib.Ieee.{Float}
 use lib.Seq.{take_at}
-use borrow.Author.Rules.{rules}
 use Rattle.hungarian_match.proofs.LocalArrays.{part_length, part_within, part_again}
 use Rattle.text_answer.specs.Answer.{report_written}
 use Rattle.text_answer.proofs.Reports.{wrote}
@@ -120,12 +119,11 @@ shape_of-output-then-kept-len : tie.Need-shape_of-output-then-kept-len
 shape_of-output-then-kept-len c = search rules
 
 returns-then-kept-len : tie.Need-returns-then-kept-len
-returns-then-kept-len c =
-    (
-      λ weights v. wrote _ (repeated_text c.requires c.assemble-kept.ensures c.args.form c.if-kept-len.true weights)
-          c.put_refused.ensures.0 c.put_refused.ensures.1.0,
-      c.put_refused.ensures.1.1,
-    )
+returns-then-kept-len c = (
+  λ weights v. wrote _ (repeated_text c.requires c.assemble-kept.ensures c.args.form c.if-kept-len.true weights)
+      c.put_refused.ensures.0 c.put_refused.ensures.1.0,
+  c.put_refused.ensures.1.1,
+)
 
 overflow_add-col_ptr-2 : tie.Need-overflow_add-col_ptr-2
 overflow_add-col_ptr-2 c = omega (arith, few (assemble-kept-of-else-kept-len c))
@@ -163,14 +161,13 @@ shape_of-output : tie.Need-shape_of-output
 shape_of-output c = search rules
 
 returns : tie.Need-returns
-returns c =
-    (
-      λ weights v. c.answer_graph.ensures.0 ∙ ap (λ (text : List ℕ). report_written text c.args.output.now)
-          (graph_text_lem c.requires c.assemble-kept.ensures c.if-kept-len.false (part_length _ 512 _ (short (assemble-kept-of-slice_known-2-1 c))) (part_length _ 512 _ (short (assemble-kept-of-slice_known-2-1 c)))
-          (take_at (pointers (assemble-kept-of-slice_known-2-1 c)) _ _ (pointers-long (assemble-kept-of-slice_known-2-1 c))) (take_at (rows_left (assemble-kept-of-slice_known-2-1 c)) _ _ (rows_long (assemble-kept-of-slice_known-2-1 c)))
-          (take_at (cost-left (assemble-kept-of-slice_known-2-1 c)) _ _ (cost-long (assemble-kept-of-slice_known-2-1 c))) c.args.form weights v),
-      c.answer_graph.ensures.1,
-    )
+returns c = (
+  λ weights v. c.answer_graph.ensures.0 ∙ ap (λ (text : List ℕ). report_written text c.args.output.now)
+      (graph_text_lem c.requires c.assemble-kept.ensures c.if-kept-len.false (part_length _ 512 _ (short (assemble-kept-of-slice_known-2-1 c))) (part_length _ 512 _ (short (assemble-kept-of-slice_known-2-1 c)))
+      (take_at (pointers (assemble-kept-of-slice_known-2-1 c)) _ _ (pointers-long (assemble-kept-of-slice_known-2-1 c))) (take_at (rows_left (assemble-kept-of-slice_known-2-1 c)) _ _ (rows_long (assemble-kept-of-slice_known-2-1 c)))
+      (take_at (cost-left (assemble-kept-of-slice_known-2-1 c)) _ _ (cost-long (assemble-kept-of-slice_known-2-1 c))) c.args.form weights v),
+  c.answer_graph.ensures.1,
+)
 
 pub answer_triplets_spec : {M : Type 1} → statement M
 answer_triplets_spec =

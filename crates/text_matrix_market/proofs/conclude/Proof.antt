@@ -3,7 +3,6 @@ use Rattle.std.proofs.Common.{rules}
 use mathlib.Core.Path.{refl}
 use Rattle.text_matrix_market.specs.File.{reading_at_end}
 use Rattle.text_matrix_market.proofs.Runs.{complete, incomplete}
-use borrow.Author.Rules.{rules}
 use Rattle.text_matrix_market.proofs.conclude.Statement.{statement}
 use Rattle.text_matrix_market.proofs.conclude.Tie as tie
 

@@ -4,7 +4,6 @@ use Rattle.std.proofs.Common.{rules}
 use Prim.Native.Nat.{◌-◌, ◌+◌}
 use mathlib.Core.Path.{◌∙◌}
 use native.Mathlib.Omega.{arith}
-use borrow.Author.Rules.{rules}
 use lib.ListN.{length}
 use Rattle.text_matrix_market.specs.Text.{is_line_feed}
 use Rattle.text_matrix_market.specs.inner.Steps.{lists}

@@ -1,7 +1,6 @@
 -- `tell` meets its contract: by the three cases of the result of the reads.
 use Rattle.std.proofs.Common.{rules}
 use mathlib.Core.Path.{refl, ap}
-use borrow.Author.Rules.{rules}
 use Rattle.text_answer.specs.Answer.{ReportAnswer}
 use Rattle.text_program.specs.declared.Told.TheVariants.{Text}
 use Rattle.text_program.specs.Told.{telling}

@@ -47,12 +47,11 @@ loop-k-smaller : tie.Need-loop-k-smaller invariant-loop-k decreases-loop-k
 loop-k-smaller c = omega arith
 
 loop-k-preserved : tie.Need-loop-k-preserved invariant-loop-k decreases-loop-k
-loop-k-preserved c =
-    (
-      omega arith,
-      c.put_column-next.auto.out ∙ c.loop-k.invariant.1,
-      restated (pair_more c.args.perm.now c.loop-k.k) refl (and_then c.loop-k.invariant.2 c.put_column-next.ensures),
-    )
+loop-k-preserved c = (
+  omega arith,
+  c.put_column-next.auto.out ∙ c.loop-k.invariant.1,
+  restated (pair_more c.args.perm.now c.loop-k.k) refl (and_then c.loop-k.invariant.2 c.put_column-next.ensures),
+)
 
 shape_of-out : tie.Need-shape_of-out invariant-loop-k decreases-loop-k
 shape_of-out c = c.loop-k.invariant.1

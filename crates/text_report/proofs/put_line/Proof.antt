@@ -8,7 +8,6 @@ use Rattle.text_report.specs.Decimal.{decimal}
 use Rattle.text_report.specs.Report.{spaced, pair_line}
 use Rattle.text_report.proofs.Writes.{and_then, byte_last, restated}
 use Rattle.text_report.proofs.Lines.{pair_length}
-use borrow.Author.Rules.{rules}
 use Rattle.text_report.proofs.put_line.Statement.{statement}
 use Rattle.text_report.proofs.put_line.Tie as tie
 
@@ -32,8 +31,7 @@ put_spaced-after_row-requires c κs =
 
 put_spaced_whole-after_u-requires : tie.Need-put_spaced_whole-after_u-requires
 put_spaced_whole-after_u-requires c κs =
-    let args = c.args in
-    (
+    let args = c.args in (
       c.requires.0,
       omega (
         arith,
@@ -49,8 +47,7 @@ put_spaced_whole-after_u-requires c κs =
 
 put_spaced_whole-last-requires : tie.Need-put_spaced_whole-last-requires
 put_spaced_whole-last-requires c κs =
-    let args = c.args in
-    (
+    let args = c.args in (
       c.requires.1.0,
       omega (
         arith,

@@ -67,8 +67,7 @@ loop-k-smaller c = omega arith
 
 loop-k-preserved : tie.Need-loop-k-preserved invariant-loop-k decreases-loop-k
 loop-k-preserved c =
-    let args = c.args in
-    (
+    let args = c.args in (
       omega arith,
       c.put_line-next.auto.out ∙ c.loop-k.invariant.1,
       restated (line_more args.perm.now args.u.now args.v.now c.loop-k.k) refl

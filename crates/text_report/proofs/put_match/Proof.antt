@@ -63,18 +63,17 @@ put_lines-after_pairs-requires c κs =
     )
 
 put_counts-requires : tie.Need-put_counts-requires
-put_counts-requires c κs =
-    (
-      c.requires.1.1.1.1.0,
-      omega (
-        arith,
-        parts (slice_known-1-of-put_counts-arg-1 c),
-        c.put_matched_line-after_first.ensures.place,
-        c.put_matched_line-after_first.auto.out,
-        c.put_lines-after_pairs.ensures.place,
-        c.put_lines-after_pairs.auto.out,
-      ),
-    )
+put_counts-requires c κs = (
+  c.requires.1.1.1.1.0,
+  omega (
+    arith,
+    parts (slice_known-1-of-put_counts-arg-1 c),
+    c.put_matched_line-after_first.ensures.place,
+    c.put_matched_line-after_first.auto.out,
+    c.put_lines-after_pairs.ensures.place,
+    c.put_lines-after_pairs.auto.out,
+  ),
+)
 
 shape_of-out : tie.Need-shape_of-out
 shape_of-out c = c.put_counts.auto.out ∙ c.put_lines-after_pairs.auto.out

@@ -2,7 +2,6 @@
 use Rattle.std.proofs.Common.{rules}
 use Prim.Native.Nat.{◌+◌, ◌≤◌}
 use native.Mathlib.Omega.{arith}
-use borrow.Author.Rules.{rules}
 use lib.ListN.{length}
 use Rattle.text_report.specs.Pairs.{pattern_size, matched_pairs, pairs_text}
 use Rattle.text_report.proofs.Writes.{and_then, from_start}
@@ -40,21 +39,20 @@ put_pattern_size-after_size-requires c κs =
     )
 
 put_columns-requires : tie.Need-put_columns-requires
-put_columns-requires c κs =
-    (
-      c.requires.0,
-      (
-        omega arith,
-        omega (
-          arith,
-          parts (shared_slice_known-1-of-put_columns-arg-1 c),
-          c.put_bytes-after_banner.ensures.place,
-          c.put_bytes-after_banner.auto.out,
-          c.put_pattern_size-after_size.ensures.place,
-          c.put_pattern_size-after_size.auto.out,
-        ),
-      ),
-    )
+put_columns-requires c κs = (
+  c.requires.0,
+  (
+    omega arith,
+    omega (
+      arith,
+      parts (shared_slice_known-1-of-put_columns-arg-1 c),
+      c.put_bytes-after_banner.ensures.place,
+      c.put_bytes-after_banner.auto.out,
+      c.put_pattern_size-after_size.ensures.place,
+      c.put_pattern_size-after_size.auto.out,
+    ),
+  ),
+)
 
 shape_of-out : tie.Need-shape_of-out
 shape_of-out c = search rules

@@ -6,7 +6,6 @@ use lib.ListN.{length-set}
 use Rattle.text_report.specs.Report.{refused_text}
 use Rattle.text_report.proofs.Digits.{decimal_length}
 use Rattle.text_report.proofs.Writes.{and_then, byte_last, from_start}
-use borrow.Author.Rules.{rules}
 use Rattle.text_report.proofs.put_refused.Statement.{statement}
 use Rattle.text_report.proofs.put_refused.Tie as tie
 

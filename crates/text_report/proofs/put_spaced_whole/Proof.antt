@@ -4,7 +4,6 @@ use mathlib.Core.Path.{◌∙◌}
 use native.Mathlib.Omega.{arith}
 use lib.ListN.{length-set}
 use Rattle.text_report.proofs.Writes.{byte_first}
-use borrow.Author.Rules.{rules}
 use Rattle.text_report.proofs.put_spaced_whole.Statement.{statement}
 use Rattle.text_report.proofs.put_spaced_whole.Tie as tie
 

@@ -5,7 +5,6 @@ use native.Mathlib.Omega.{arith}
 use lib.ListN.{length, length-set}
 use Rattle.text_report.proofs.Writes.{byte_first, restated}
 use Rattle.text_report.proofs.Wholes.{size_casts, negative_text, other_text}
-use borrow.Author.Rules.{rules}
 use Rattle.text_report.proofs.put_whole.Statement.{statement}
 use Rattle.text_report.proofs.put_whole.Tie as tie
 

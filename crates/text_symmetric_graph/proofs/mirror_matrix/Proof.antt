@@ -1,7 +1,6 @@
 -- `mirror_matrix` meets its contract: the kept count tells the case, and what is assembled is what the building requires.
 use Rattle.std.proofs.Common.{rules}
 use mathlib.Core.Path.{refl, ◌∙◌}
-use borrow.Author.Rules.{rules}
 use Rattle.mc64_columns.specs.Graphs.{Slices, slices}
 use Rattle.whole_graphs.proofs.Theorems.{symmetric_ready}
 use Rattle.text_symmetric_graph.proofs.Calls.{some_repeated, work_same, doubles, fine, holds, leaves}

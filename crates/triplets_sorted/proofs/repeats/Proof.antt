@@ -3,7 +3,6 @@ use Rattle.std.proofs.Common.{rules}
 use mathlib.Core.Path.{sym}
 use mathlib.Core.Bool.{true≢false}
 use native.Mathlib.Omega.{arith}
-use borrow.Author.Rules.{rules}
 use borrow.Author.Tests.{eqb-true, eqb-false}
 use Rattle.triplets_sorted.proofs.repeats.Statement.{statement}
 use Rattle.triplets_sorted.proofs.repeats.Tie as tie

@@ -1,7 +1,6 @@
 -- `take_next` meets its contract: by Steps, a repeat grows the last sum, anything else appends an entry.
 use Rattle.std.proofs.Common.{rules}
 use native.Mathlib.Omega.{arith}
-use borrow.Author.Rules.{rules}
 use Rattle.triplets.specs.Built.{triplets}
 use Rattle.triplets_sorted.proofs.Steps.{count_small, some_kept, taken_again, rest_again, taken_new, rest_new}
 use Rattle.triplets_sorted.proofs.take_next.Statement.{statement}

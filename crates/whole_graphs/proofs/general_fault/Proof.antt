@@ -3,7 +3,6 @@ use Rattle.std.proofs.Common.{rules}
 use Rattle.sparse.proofs.First.{answer_first, answer_second}
 use Rattle.sparse.proofs.Validities.{number_told}
 use Rattle.whole_graphs.specs.Graphs.{general_input_fault}
-use borrow.Author.Rules.{rules}
 use Rattle.whole_graphs.proofs.general_fault.Statement.{statement}
 use Rattle.whole_graphs.proofs.general_fault.Tie as tie
 

@@ -3,7 +3,6 @@ use Rattle.std.proofs.Common.{rules}
 use mathlib.Core.Path.{◌≡◌, refl, sym, ap, ◌∙◌}
 use Prim.Native.Nat.{ℕ, ◌≤◌}
 use native.Mathlib.Omega.{arith}
-use borrow.Author.Rules.{rules}
 use lib.ListN.{length, replicate}
 use Rattle.sparse.specs.Matrix.{Matrix, matrix}
 use Rattle.mc64_columns.specs.Columns.{value_logs}
@@ -57,7 +56,7 @@ fine : (c : tie.Else-fault-ne-ACCEPTED) → whole_general_fault (input (entry-of
 fine c = sym (fault_is c.before) ∙ c.if-fault-ne-ACCEPTED.false
 
 -- what the building asks for
-ready : (c : tie.Else-fault-ne-ACCEPTED) → 
+ready : (c : tie.Else-fault-ne-ACCEPTED) →
     Accepted (input (entry-of-else-fault-ne-ACCEPTED c)) c.args.values.now
     × Roomy c.args.n c.args.row_idx.now c.args.graph_ptr.now c.args.graph_rows.now c.args.cost.now
     c.args.cmax.now × (length c.args.row_idx.now ≤ length c.args.work.now)

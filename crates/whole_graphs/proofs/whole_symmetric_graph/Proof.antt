@@ -1,7 +1,6 @@
 -- `whole_symmetric_graph` meets its contract: the tests establish what the building requires, and the graph that is left has whole costs.
 use Rattle.std.proofs.Common.{rules}
 use mathlib.Core.Path.{◌≡◌, refl, sym, ap, ◌∙◌}
-use borrow.Author.Rules.{rules}
 use Rattle.sparse.specs.Matrix.{Matrix, matrix}
 use Rattle.mc64_columns.specs.Columns.{value_logs}
 use Rattle.mc64_columns.specs.Graphs.{Slices, slices}

@@ -1,6 +1,5 @@
 -- `from_units` meets its contract: no logarithm leaves the range of an i32.
 use Rattle.std.proofs.Common.{rules}
-use borrow.Author.Rules.{rules}
 use mathlib.Core.Path.{sym, ap, ◌∙◌, subst}
 use mir.Syntax.{w32}
 use mir.Val.{SFits, to_z, of_z}

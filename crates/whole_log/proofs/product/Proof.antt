@@ -3,7 +3,6 @@ use Rattle.std.proofs.Common.{rules}
 use Prim.Native.Nat.{ℕ, ◌*◌, ◌≤◌, ◌<◌}
 use native.Mathlib.Nat.{mul-le-mul}
 use native.Mathlib.Omega.{arith}
-use borrow.Author.Rules.{rules}
 use Rattle.whole_log.proofs.product.Statement.{statement}
 use Rattle.whole_log.proofs.product.Tie as tie
 

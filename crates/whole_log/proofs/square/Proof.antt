@@ -4,7 +4,6 @@ use Rattle.std.proofs.Common.{rules}
 use mathlib.Core.Path.{◌≡◌}
 use Prim.Native.Nat.{ℕ, ◌*◌, ◌/◌, ◌%◌, ◌^◌}
 use native.Mathlib.Omega.{arith}
-use borrow.Author.Rules.{rules}
 use Rattle.whole_log.proofs.Squares.{Halves, halves}
 use Rattle.whole_log.proofs.square.Statement.{statement}
 use Rattle.whole_log.proofs.square.Tie as tie

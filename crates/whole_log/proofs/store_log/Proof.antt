@@ -1,7 +1,6 @@
 -- `store_log` meets its contract: by the slice's length, then by the answer.
 use Rattle.std.proofs.Common.{rules}
 use mathlib.Core.Path.{◌≡◌, sym, ◌∙◌, subst}
-use borrow.Author.Rules.{rules}
 use lib.Dec.{T}
 use lib.Ieee.{binary64, fits}
 use mir.Syntax.{w32}

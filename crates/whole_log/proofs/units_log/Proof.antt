@@ -1,6 +1,5 @@
 -- `units_log` meets its contract: the digits of the double are those that the definition takes.
 use Rattle.std.proofs.Common.{rules}
-use borrow.Author.Rules.{rules}
 use mathlib.Core.Path.{◌∙◌}
 use lib.Ieee.{binary64, of_bits}
 use Rattle.float64.specs.Number.{magnitude}

@@ -1,6 +1,5 @@
 -- `whole_log` meets its contract: each of its returns is a case of the definition.
 use Rattle.std.proofs.Common.{rules}
-use borrow.Author.Rules.{rules}
 use mathlib.Core.Path.{◌≡◌, sym, ap, ◌∙◌, subst}
 use lib.Dec.{T}
 use lib.IntN.{ℤ}

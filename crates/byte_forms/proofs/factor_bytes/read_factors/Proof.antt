@@ -12,7 +12,6 @@ use Rattle.byte_numbers.specs.Bytes.{words, doubles, double_bytes}
 use Rattle.byte_numbers.proofs.Words.{one_laid}
 use Rattle.hungarian_match.proofs.LocalArrays.{part_length, part_within, part_again, part_holds}
 use Rattle.byte_forms.proofs.ByteFactors.{pairs_fit_lem, array_unmarked, pairs_refused, pairs_laid}
-use borrow.Author.Rules.{rules}
 use Rattle.byte_forms.proofs.factor_bytes.read_factors.Statement.{statement}
 use Rattle.byte_forms.proofs.factor_bytes.read_factors.Tie as tie
 

@@ -68,8 +68,7 @@ loop-i-preserved : tie.Need-loop-i-preserved invariant-loop-i decreases-loop-i
 loop-i-preserved c =
     let a = c.args in
     let l = c.loop-i in
-    let h : l.i < a.n = c.loop-i-test.true in
-    (
+    let h : l.i < a.n = c.loop-i-test.true in (
       omega arith,
       c.put_double.auto.out ∙ l.invariant.1,
       c.put_double-in-loop-i.auto.out ∙ l.invariant.2,

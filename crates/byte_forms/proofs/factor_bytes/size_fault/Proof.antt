@@ -4,7 +4,6 @@ use native.Mathlib.Omega.{arith}
 use borrow.Author.Tests.{le-leb, lt-leb}
 use Rattle.byte_forms.specs.MatchBytes.{byte_columns}
 use Rattle.byte_forms.specs.FactorBytes.{factor_sizes}
-use borrow.Author.Rules.{rules}
 use Rattle.byte_forms.proofs.factor_bytes.size_fault.Statement.{statement}
 use Rattle.byte_forms.proofs.factor_bytes.size_fault.Tie as tie
 

@@ -2,7 +2,6 @@
 use Rattle.std.proofs.Common.{rules}
 use mathlib.Core.Path.{refl}
 use Rattle.byte_forms.specs.MatchBytes.{byte_lengths}
-use borrow.Author.Rules.{rules}
 use Rattle.byte_forms.proofs.match_bytes.lengths_fit.Statement.{statement}
 use Rattle.byte_forms.proofs.match_bytes.lengths_fit.Tie as tie
 

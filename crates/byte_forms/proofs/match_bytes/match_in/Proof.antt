@@ -2,7 +2,6 @@
 use Rattle.std.proofs.Common.{rules}
 use mathlib.Core.Path.{◌∙◌}
 use Rattle.byte_forms.proofs.ByteMatches.{laying, matched_bytes, refused_bytes}
-use borrow.Author.Rules.{rules}
 use Rattle.byte_forms.proofs.match_bytes.match_in.Statement.{statement}
 use Rattle.byte_forms.proofs.match_bytes.match_in.Tie as tie
 

@@ -3,7 +3,6 @@ use Rattle.std.proofs.Common.{rules}
 use mathlib.Core.Path.{sym}
 use native.Mathlib.Omega.{arith}
 use Rattle.hungarian_match.proofs.LocalArrays.{part_length}
-use borrow.Author.Rules.{rules}
 use Rattle.byte_forms.proofs.match_bytes.match_small.Statement.{statement}
 use Rattle.byte_forms.proofs.match_bytes.match_small.Tie as tie
 

@@ -2,7 +2,6 @@
 use Rattle.std.proofs.Common.{rules}
 use mathlib.Core.Path.{refl}
 use Rattle.byte_forms.specs.MatchBytes.{match_laid}
-use borrow.Author.Rules.{rules}
 use Rattle.byte_forms.proofs.match_bytes.put_match.Statement.{statement}
 use Rattle.byte_forms.proofs.match_bytes.put_match.Tie as tie
 

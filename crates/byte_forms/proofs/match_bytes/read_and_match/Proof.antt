@@ -8,7 +8,6 @@ use Rattle.byte_numbers.specs.Bytes.{words, doubles}
 use Rattle.byte_forms.specs.MatchBytes.{word_count, graph_bytes, match_bytes}
 use Rattle.hungarian_match.proofs.LocalArrays.{part_length, part_within, part_again, part_holds}
 use Rattle.byte_forms.proofs.ByteMatches.{small, result_read}
-use borrow.Author.Rules.{rules}
 use Rattle.byte_forms.proofs.match_bytes.read_and_match.Statement.{statement}
 use Rattle.byte_forms.proofs.match_bytes.read_and_match.Tie as tie
 
@@ -88,8 +87,7 @@ slice_bounds-match_small-end-3 c = sym (part_again (word_count (length
 match_small-requires : tie.Need-match_small-requires
 match_small-requires c κs =
     let args = c.args in
-    let pre = c.requires in
-    (
+    let pre = c.requires in (
       small (word_count (length args.row_idx.now)) pre.0.columns
           (part_again (args.n + 1) 257 _ c.read_words.new.out (omega (arith, pre.0.columns))
           c.read_words.auto.out) (part_again (word_count (length args.row_idx.now)) 2048 _

@@ -4,7 +4,6 @@ use mathlib.Core.Path.{sym}
 use native.Mathlib.Omega.{arith}
 use borrow.Author.Tests.{le-leb, lt-leb}
 use Rattle.byte_forms.specs.MatchBytes.{byte_columns, byte_entries, word_count, byte_sizes}
-use borrow.Author.Rules.{rules}
 use Rattle.byte_forms.proofs.match_bytes.size_fault.Statement.{statement}
 use Rattle.byte_forms.proofs.match_bytes.size_fault.Tie as tie
 

@@ -2,7 +2,6 @@
 use Rattle.std.proofs.Common.{rules}
 use mathlib.Core.Path.{refl}
 use Rattle.hungarian.specs.Counts.{column_scanned}
-use borrow.Author.Rules.{rules}
 use Rattle.hungarian.proofs.HungarianStats.column_scanned.Statement.{statement}
 use Rattle.hungarian.proofs.HungarianStats.column_scanned.Tie as tie
 

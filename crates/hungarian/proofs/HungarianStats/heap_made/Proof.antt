@@ -2,7 +2,6 @@
 use Rattle.std.proofs.Common.{rules}
 use mathlib.Core.Path.{refl}
 use Rattle.hungarian.specs.Counts.{heap_made}
-use borrow.Author.Rules.{rules}
 use Rattle.hungarian.proofs.HungarianStats.heap_made.Statement.{statement}
 use Rattle.hungarian.proofs.HungarianStats.heap_made.Tie as tie
 

@@ -2,7 +2,6 @@
 use Rattle.std.proofs.Common.{rules}
 use mathlib.Core.Path.{refl}
 use Rattle.hungarian.specs.Counts.{heap_seen}
-use borrow.Author.Rules.{rules}
 use Rattle.hungarian.proofs.HungarianStats.heap_seen.Statement.{statement}
 use Rattle.hungarian.proofs.HungarianStats.heap_seen.Tie as tie
 

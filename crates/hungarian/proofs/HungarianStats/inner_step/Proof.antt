@@ -2,7 +2,6 @@
 use Rattle.std.proofs.Common.{rules}
 use mathlib.Core.Path.{refl}
 use Rattle.hungarian.specs.Counts.{inner_step}
-use borrow.Author.Rules.{rules}
 use Rattle.hungarian.proofs.HungarianStats.inner_step.Statement.{statement}
 use Rattle.hungarian.proofs.HungarianStats.inner_step.Tie as tie
 

@@ -2,7 +2,6 @@
 use Rattle.std.proofs.Common.{rules}
 use mathlib.Core.Path.{refl}
 use Rattle.hungarian.specs.Counts.{rows_popped}
-use borrow.Author.Rules.{rules}
 use Rattle.hungarian.proofs.HungarianStats.rows_popped.Statement.{statement}
 use Rattle.hungarian.proofs.HungarianStats.rows_popped.Tie as tie
 

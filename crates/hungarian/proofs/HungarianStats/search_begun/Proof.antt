@@ -2,7 +2,6 @@
 use Rattle.std.proofs.Common.{rules}
 use mathlib.Core.Path.{refl}
 use Rattle.hungarian.specs.Counts.{search_begun}
-use borrow.Author.Rules.{rules}
 use Rattle.hungarian.proofs.HungarianStats.search_begun.Statement.{statement}
 use Rattle.hungarian.proofs.HungarianStats.search_begun.Tie as tie
 

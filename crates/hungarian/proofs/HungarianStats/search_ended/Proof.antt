@@ -2,7 +2,6 @@
 use Rattle.std.proofs.Common.{rules}
 use mathlib.Core.Path.{refl}
 use Rattle.hungarian.specs.Counts.{search_ended}
-use borrow.Author.Rules.{rules}
 use Rattle.hungarian.proofs.HungarianStats.search_ended.Statement.{statement}
 use Rattle.hungarian.proofs.HungarianStats.search_ended.Tie as tie
 

@@ -7,7 +7,6 @@ use Rattle.sparse.specs.Validate.{size_fault}
 use Rattle.sparse.proofs.First.{answer_first, answer_second}
 use Rattle.sparse.proofs.Accepted.{sizes_accepted, pointers_accepted}
 use Rattle.hungarian.specs.Test.{graph_fault}
-use borrow.Author.Rules.{rules}
 use Rattle.hungarian_match.proofs.graph_test.graph_fault.Statement.{statement}
 use Rattle.hungarian_match.proofs.graph_test.graph_fault.Tie as tie
 

@@ -1,7 +1,6 @@
 -- `csc::column_fault` meets its contract: a column that is fine has no fault, of any other the first is sought.
 use Rattle.std.proofs.Common.{rules}
 use mathlib.Core.Path.{sym, ◌∙◌}
-use borrow.Author.Rules.{rules}
 use Rattle.sparse.proofs.First.{or-none, or_some}
 use Rattle.sparse.proofs.csc.column_fault.Statement.{statement}
 use Rattle.sparse.proofs.csc.column_fault.Tie as tie

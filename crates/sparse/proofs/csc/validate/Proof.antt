@@ -2,7 +2,6 @@
 use Rattle.std.proofs.Common.{rules}
 use mathlib.Core.Path.{sym, ◌∙◌}
 use native.Mathlib.Omega.{arith}
-use borrow.Author.Rules.{rules}
 use Rattle.limits.specs.Limits.{max_symmetric}
 use Rattle.sparse.specs.Matrix.{matrix}
 use Rattle.sparse.specs.Validate.{symmetric_fault}

@@ -1,7 +1,6 @@
 -- `general::column_fault` meets its contract: a column that rises has no fault, of any other the first is sought.
 use Rattle.std.proofs.Common.{rules}
 use mathlib.Core.Path.{sym, ◌∙◌}
-use borrow.Author.Rules.{rules}
 use borrow.Author.Tests.{eqb-true}
 use Rattle.sparse.proofs.general.column_fault.Statement.{statement}
 use Rattle.sparse.proofs.general.column_fault.Tie as tie

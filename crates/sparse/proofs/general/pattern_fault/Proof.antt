@@ -3,7 +3,6 @@ use Rattle.std.proofs.Common.{rules}
 use mathlib.Core.Path.{◌≡◌, sym, ◌∙◌}
 use Prim.Native.Nat.{◌+◌}
 use lib.ListN.{length}
-use borrow.Author.Rules.{rules}
 use Rattle.limits.specs.Limits.{max_general}
 use Rattle.sparse.specs.Validate.{size_fault, pattern_fault}
 use Rattle.sparse.proofs.First.{answer_first, answer_second}

@@ -2,7 +2,6 @@
 use Rattle.std.proofs.Common.{rules}
 use mathlib.Core.Path.{ap, ◌∙◌}
 use native.Mathlib.Omega.{arith}
-use borrow.Author.Rules.{rules}
 use Rattle.sparse.specs.Validate.{size_fault}
 use Rattle.sparse.proofs.layout.triplet_sizes.Statement.{statement}
 use Rattle.sparse.proofs.layout.triplet_sizes.Tie as tie

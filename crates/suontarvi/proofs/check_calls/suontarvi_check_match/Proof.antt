@@ -1,7 +1,6 @@
 -- `suontarvi_check_match` meets its contract: the answer of `check_match` by its two cases.
 use Rattle.std.proofs.Common.{rules}
 use mathlib.Core.Path.{ap}
-use borrow.Author.Rules.{rules}
 use Rattle.match_check.specs.Call.{number_of}
 use Rattle.suontarvi.proofs.CheckResults.{check_number}
 use Rattle.suontarvi.proofs.check_calls.suontarvi_check_match.Statement.{statement}

@@ -1,6 +1,5 @@
 -- `factor_calls::suontarvi_log_factors` meets its contract: the answer by its three cases.
 use Rattle.std.proofs.Common.{rules}
-use borrow.Author.Rules.{rules}
 use Rattle.suontarvi.proofs.FactorResults.{unfit, applied, partial, refused, with_number}
 use Rattle.suontarvi.proofs.factor_calls.suontarvi_log_factors.Statement.{statement}
 use Rattle.suontarvi.proofs.factor_calls.suontarvi_log_factors.Tie as tie

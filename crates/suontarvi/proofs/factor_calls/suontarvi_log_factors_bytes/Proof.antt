@@ -1,7 +1,6 @@
 -- `factor_calls::suontarvi_log_factors_bytes` meets its contract: a fault of the sizes is the answer, else the answer is the match's.
 use Rattle.std.proofs.Common.{rules}
 use Rattle.byte_forms.proofs.ByteFactors.{factors_refused, factors_sized, factors_result}
-use borrow.Author.Rules.{rules}
 use Rattle.suontarvi.proofs.ByteResults.{factors_number}
 use Rattle.suontarvi.proofs.factor_calls.suontarvi_log_factors_bytes.Statement.{statement}
 use Rattle.suontarvi.proofs.factor_calls.suontarvi_log_factors_bytes.Tie as tie

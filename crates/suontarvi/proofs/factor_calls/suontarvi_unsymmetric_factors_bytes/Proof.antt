@@ -1,7 +1,6 @@
 -- `factor_calls::suontarvi_unsymmetric_factors_bytes` meets its contract: a fault of the sizes is the answer, else there are factors.
 use Rattle.std.proofs.Common.{rules}
 use Rattle.byte_forms.proofs.ByteFactors.{sides_refused, sides_sized, sides_result}
-use borrow.Author.Rules.{rules}
 use Rattle.suontarvi.proofs.ByteResults.{sides_number}
 use Rattle.suontarvi.proofs.factor_calls.suontarvi_unsymmetric_factors_bytes.Statement.{statement}
 use Rattle.suontarvi.proofs.factor_calls.suontarvi_unsymmetric_factors_bytes.Tie as tie

@@ -1,7 +1,6 @@
 -- `suontarvi_match_gap` meets its contract: the answer of `match_gap` by its two cases.
 use Rattle.std.proofs.Common.{rules}
 use mathlib.Core.Path.{ap}
-use borrow.Author.Rules.{rules}
 use Rattle.match_gap.specs.Call.{number_of}
 use Rattle.suontarvi.proofs.GapResults.{gap_number}
 use Rattle.suontarvi.proofs.gap_calls.suontarvi_match_gap.Statement.{statement}

@@ -1,6 +1,5 @@
 -- `suontarvi_general_graph` meets its contract: the builder's answer by its two cases.
 use Rattle.std.proofs.Common.{rules}
-use borrow.Author.Rules.{rules}
 use Rattle.refusal.specs.Listed.{graph_numbers}
 use Rattle.suontarvi.proofs.GraphsNumbered.{graph_number, in_list}
 use Rattle.suontarvi.proofs.graph_calls.suontarvi_general_graph.Statement.{statement}

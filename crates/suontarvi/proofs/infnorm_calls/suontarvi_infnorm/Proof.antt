@@ -1,6 +1,5 @@
 -- `suontarvi_infnorm` meets its contract: what is promised of the answer is promised of its number.
 use Rattle.std.proofs.Common.{rules}
-use borrow.Author.Rules.{rules}
 use Rattle.suontarvi.proofs.InfnormResults.{iterated_number}
 use Rattle.suontarvi.proofs.infnorm_calls.suontarvi_infnorm.Statement.{statement}
 use Rattle.suontarvi.proofs.infnorm_calls.suontarvi_infnorm.Tie as tie

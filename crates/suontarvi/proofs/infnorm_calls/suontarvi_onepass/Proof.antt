@@ -1,6 +1,5 @@
 -- `suontarvi_onepass` meets its contract: what is promised of the answer is promised of its number.
 use Rattle.std.proofs.Common.{rules}
-use borrow.Author.Rules.{rules}
 use Rattle.suontarvi.proofs.InfnormResults.{onepass_number}
 use Rattle.suontarvi.proofs.infnorm_calls.suontarvi_onepass.Statement.{statement}
 use Rattle.suontarvi.proofs.infnorm_calls.suontarvi_onepass.Tie as tie

@@ -1,7 +1,6 @@
 -- `suontarvi_check_largest` meets its contract: the answer of `check_largest` by its two cases.
 use Rattle.std.proofs.Common.{rules}
 use mathlib.Core.Path.{ap}
-use borrow.Author.Rules.{rules}
 use Rattle.match_largest.specs.Call.{number_of}
 use Rattle.suontarvi.proofs.LargestResults.{largest_number}
 use Rattle.suontarvi.proofs.largest_calls.suontarvi_check_largest.Statement.{statement}

@@ -1,6 +1,5 @@
 -- `suontarvi_whole_general_graph` meets its contract: the builder's answer by its two cases.
 use Rattle.std.proofs.Common.{rules}
-use borrow.Author.Rules.{rules}
 use Rattle.refusal.specs.Listed.{whole_general_numbers}
 use Rattle.suontarvi.proofs.GraphsNumbered.{graph_number, by_number, in_list}
 use Rattle.suontarvi.proofs.log_calls.suontarvi_whole_general_graph.Statement.{statement}

@@ -1,6 +1,5 @@
 -- `match_calls::suontarvi_match` meets its contract: the answer of the match by its two cases.
 use Rattle.std.proofs.Common.{rules}
-use borrow.Author.Rules.{rules}
 use Rattle.suontarvi.proofs.MatchResults.{unfit, refused, matched}
 use Rattle.suontarvi.proofs.match_calls.suontarvi_match.Statement.{statement}
 use Rattle.suontarvi.proofs.match_calls.suontarvi_match.Tie as tie

@@ -1,7 +1,6 @@
 -- `match_calls::suontarvi_match_bytes` meets its contract: a fault of the sizes is the answer, else the answer is the graph's.
 use Rattle.std.proofs.Common.{rules}
 use Rattle.byte_forms.proofs.ByteMatches.{unsized, sizes_fit, sized}
-use borrow.Author.Rules.{rules}
 use Rattle.suontarvi.proofs.ByteResults.{match_number_lem}
 use Rattle.suontarvi.proofs.match_calls.suontarvi_match_bytes.Statement.{statement}
 use Rattle.suontarvi.proofs.match_calls.suontarvi_match_bytes.Tie as tie

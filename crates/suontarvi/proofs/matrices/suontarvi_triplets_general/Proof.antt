@@ -1,7 +1,6 @@
 -- `suontarvi_triplets_general` meets its contract: the answer of `from_triplets` by its two cases.
 use Rattle.std.proofs.Common.{rules}
 use Rattle.suontarvi.proofs.Numbered.{case_number}
-use borrow.Author.Rules.{rules}
 use Rattle.refusal.specs.Listed.{general_triplet_numbers}
 use Rattle.suontarvi.proofs.matrices.suontarvi_triplets_general.Statement.{statement}
 use Rattle.suontarvi.proofs.matrices.suontarvi_triplets_general.Tie as tie

@@ -1,7 +1,6 @@
 -- `suontarvi_triplets_symmetric` meets its contract: the answer of `from_triplets` by its two cases.
 use Rattle.std.proofs.Common.{rules}
 use Rattle.suontarvi.proofs.Numbered.{case_number}
-use borrow.Author.Rules.{rules}
 use Rattle.refusal.specs.Listed.{symmetric_triplet_numbers}
 use Rattle.suontarvi.proofs.matrices.suontarvi_triplets_symmetric.Statement.{statement}
 use Rattle.suontarvi.proofs.matrices.suontarvi_triplets_symmetric.Tie as tie

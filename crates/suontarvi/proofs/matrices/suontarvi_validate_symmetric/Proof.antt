@@ -1,7 +1,6 @@
 -- `suontarvi_validate_symmetric` meets its contract: the number of the answer.
 use Rattle.std.proofs.Common.{rules}
 use mathlib.Core.Path.{sym, subst}
-use borrow.Author.Rules.{rules}
 use Rattle.refusal.specs.Listed.{OneOf, symmetric_numbers}
 use Rattle.sparse.proofs.Validities.{number_told}
 use Rattle.suontarvi.proofs.matrices.suontarvi_validate_symmetric.Statement.{statement}

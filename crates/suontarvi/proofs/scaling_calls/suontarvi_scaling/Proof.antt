@@ -5,7 +5,6 @@ use Rattle.mc64_columns.specs.Graphs as Graphs
 use Rattle.hungarian_match.specs.Call as Match
 use Rattle.scaling.specs.Choice.{slices}
 use Rattle.suontarvi.proofs.ScalingResults.{refused, unfit, unknown, chosen, promised}
-use borrow.Author.Rules.{rules}
 use Rattle.suontarvi.proofs.scaling_calls.suontarvi_scaling.Statement.{statement}
 use Rattle.suontarvi.proofs.scaling_calls.suontarvi_scaling.Tie as tie
 

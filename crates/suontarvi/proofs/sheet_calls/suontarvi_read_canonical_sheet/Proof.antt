@@ -10,7 +10,6 @@ use Rattle.sheet.specs.Format.{sheet_bytes}
 use Rattle.sheet_reader.specs.Call.{Holds}
 use Rattle.sheet_reader.proofs.Theorems.{canonical_length_listed}
 use Rattle.suontarvi.proofs.SheetResults.{unfit_answer, was_read, read_refused, as_canonical}
-use borrow.Author.Rules.{rules}
 use Rattle.suontarvi.proofs.sheet_calls.suontarvi_read_canonical_sheet.Statement.{
   statement,
 }

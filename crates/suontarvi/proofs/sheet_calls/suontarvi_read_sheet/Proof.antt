@@ -6,7 +6,6 @@ use Rattle.refusal.specs.Listed.{read_sheet_numbers}
 use Rattle.sheet_reader.specs.Call.{Holds, Rewritten}
 use Rattle.sheet_reader.proofs.Theorems.{length-listed}
 use Rattle.suontarvi.proofs.SheetResults.{unfit_answer, was_read, read_refused, as_read}
-use borrow.Author.Rules.{rules}
 use Rattle.suontarvi.proofs.sheet_calls.suontarvi_read_sheet.Statement.{statement}
 use Rattle.suontarvi.proofs.sheet_calls.suontarvi_read_sheet.Tie as tie
 

@@ -1,7 +1,6 @@
 -- `sheet_calls::suontarvi_write_sheet` meets its contract: the answer of the writer by its two cases.
 use Rattle.std.proofs.Common.{rules}
 use Rattle.suontarvi.proofs.SheetResults.{unfit_used, used, write_refused}
-use borrow.Author.Rules.{rules}
 use Rattle.suontarvi.proofs.sheet_calls.suontarvi_write_sheet.Statement.{statement}
 use Rattle.suontarvi.proofs.sheet_calls.suontarvi_write_sheet.Tie as tie
 

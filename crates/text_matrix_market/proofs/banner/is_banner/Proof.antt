@@ -7,7 +7,6 @@ use native.Mathlib.Omega.{arith}
 use borrow.Author.Tests.{not-true, not-false}
 use Rattle.text_matrix_market.specs.Banner.{codes, banner_words}
 use Rattle.text_matrix_market.proofs.Banners.{Passed, no_percent, percent, named, misnamed, nothing_more}
-use borrow.Author.Rules.{rules}
 use Rattle.text_matrix_market.proofs.banner.is_banner.Statement.{statement}
 use Rattle.text_matrix_market.proofs.banner.is_banner.Tie as tie
 
@@ -74,7 +73,7 @@ returns-in_default : tie.Need-returns-in_default
 returns-in_default c = misnamed _ _ c.args.line.now (omega arith) (begun c.before.before.before)
     (sym c.next_is.ensures ∙ c.in_default.is)
 
-past_first : (c : tie.In-Past) → 
+past_first : (c : tie.In-Past) →
     At (entry-of-in-Past c) (codes "matrix" ∷ codes "coordinate" ∷ field_at (entry-of-in-Past c) ∷ symmetry_at (entry-of-in-Past c) ∷ []) c.in-Past.first
 past_first c = named _ _ c.args.line.now (omega arith) (begun c.before.before.before)
     (sym c.next_is.ensures ∙ c.in-Past.is)
@@ -92,7 +91,7 @@ returns-in_default-next_is : tie.Need-returns-in_default-next_is
 returns-in_default-next_is c = misnamed _ _ c.args.line.now (omega arith) (past_first (in-Past-of-in_default-next_is c))
     (sym c.next_is-2.ensures ∙ c.in_default-next_is.is)
 
-past-second : (c : tie.In-Past-next_is) → 
+past-second : (c : tie.In-Past-next_is) →
     At (entry-of-in-Past-next_is c) (codes "coordinate" ∷ field_at (entry-of-in-Past-next_is c) ∷ symmetry_at (entry-of-in-Past-next_is c) ∷ []) c.in-Past-next_is.second
 past-second c = named _ _ c.args.line.now (omega arith) (past_first (in-Past-of-in-Past-next_is c))
     (sym c.next_is-2.ensures ∙ c.in-Past-next_is.is)

@@ -3,7 +3,6 @@ use Rattle.std.proofs.Common.{rules}
 use mathlib.Core.Bool.{and-false}
 use borrow.Author.Tests.{le-leb, lt-leb}
 use native.Mathlib.Omega.{arith}
-use borrow.Author.Rules.{rules}
 use Rattle.text_matrix_market.proofs.banner.lower_case.Statement.{statement}
 use Rattle.text_matrix_market.proofs.banner.lower_case.Tie as tie
 

@@ -10,7 +10,6 @@ use Rattle.text_matrix_market.specs.Banner.{same_word}
 use Rattle.text_matrix_market.proofs.Reaching.{reach_from, reach_within}
 use Rattle.text_matrix_market.proofs.Words.{found_word, found_past}
 use native.Mathlib.Omega.{arith}
-use borrow.Author.Rules.{rules}
 use Rattle.text_matrix_market.proofs.banner.next_is.Statement.{statement}
 use Rattle.text_matrix_market.proofs.banner.next_is.Tie as tie
 

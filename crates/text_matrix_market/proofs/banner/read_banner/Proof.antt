@@ -2,7 +2,6 @@
 use Rattle.std.proofs.Common.{rules}
 use mathlib.Core.Path.{sym, ◌∙◌}
 use Rattle.text_matrix_market.proofs.Banners.{is_general, is_symmetric, is_pattern, no_kind}
-use borrow.Author.Rules.{rules}
 use Rattle.text_matrix_market.proofs.banner.read_banner.Statement.{statement}
 use Rattle.text_matrix_market.proofs.banner.read_banner.Tie as tie
 

@@ -4,7 +4,6 @@ use mathlib.Core.Path.{sym, ◌∙◌}
 use Rattle.text_matrix_market.proofs.Fields.{Found, found, lost, weighed_within, no_first, no_second, no_third, one_more, all_three}
 use native.Mathlib.Omega.{arith}
 use Rattle.text_matrix_market.specs.Numbers.{number_read}
-use borrow.Author.Rules.{rules}
 use Rattle.text_matrix_market.proofs.numbers.line_numbers.Statement.{statement}
 use Rattle.text_matrix_market.proofs.numbers.line_numbers.Tie as tie
 

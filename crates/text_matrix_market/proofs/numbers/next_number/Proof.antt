@@ -7,7 +7,6 @@ use Rattle.text_matrix_market.specs.inner.Steps.{is_word_byte, field_of, word_re
 use Rattle.text_matrix_market.proofs.Reaching.{reach_from, reach_within}
 use Rattle.text_matrix_market.proofs.Words.{found_word, found_past}
 use native.Mathlib.Omega.{arith}
-use borrow.Author.Rules.{rules}
 use Rattle.text_matrix_market.proofs.numbers.next_number.Statement.{statement}
 use Rattle.text_matrix_market.proofs.numbers.next_number.Tie as tie
 

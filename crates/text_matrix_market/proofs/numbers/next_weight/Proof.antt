@@ -2,7 +2,6 @@
 use Rattle.std.proofs.Common.{rules}
 use mathlib.Core.Path.{refl}
 use Rattle.text_matrix_market.specs.inner.Steps.{weight_field}
-use borrow.Author.Rules.{rules}
 use Rattle.text_matrix_market.proofs.numbers.next_weight.Statement.{statement}
 use Rattle.text_matrix_market.proofs.numbers.next_weight.Tie as tie
 

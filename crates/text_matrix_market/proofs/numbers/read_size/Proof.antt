@@ -2,7 +2,6 @@
 use Rattle.std.proofs.Common.{rules}
 use mathlib.Core.Path.{◌∙◌}
 use Rattle.text_matrix_market.proofs.Digits.{size_none, size_minus, size_plain}
-use borrow.Author.Rules.{rules}
 use Rattle.text_matrix_market.proofs.numbers.read_size.Statement.{statement}
 use Rattle.text_matrix_market.proofs.numbers.read_size.Tie as tie
 

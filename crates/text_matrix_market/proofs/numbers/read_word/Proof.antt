@@ -1,6 +1,5 @@
 -- `numbers::read_word` meets its contract: by whether a minus may stand there.
 use Rattle.std.proofs.Common.{rules}
-use borrow.Author.Rules.{rules}
 use Rattle.text_matrix_market.proofs.numbers.read_word.Statement.{statement}
 use Rattle.text_matrix_market.proofs.numbers.read_word.Tie as tie
 

@@ -1,7 +1,6 @@
 -- `stages::after_long_line` meets its contract: by the cases of the stage.
 use Rattle.std.proofs.Common.{rules}
 use mathlib.Core.Path.{refl}
-use borrow.Author.Rules.{rules}
 use Rattle.text_matrix_market.proofs.stages.after_long_line.Statement.{statement}
 use Rattle.text_matrix_market.proofs.stages.after_long_line.Tie as tie
 

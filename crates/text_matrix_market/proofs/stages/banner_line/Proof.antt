@@ -2,7 +2,6 @@
 use Rattle.std.proofs.Common.{rules}
 use mathlib.Core.Path.{sym, ◌∙◌}
 use Rattle.text_matrix_market.proofs.Entries.{banner_there, banner_lacks}
-use borrow.Author.Rules.{rules}
 use Rattle.text_matrix_market.proofs.stages.banner_line.Statement.{statement}
 use Rattle.text_matrix_market.proofs.stages.banner_line.Tie as tie
 

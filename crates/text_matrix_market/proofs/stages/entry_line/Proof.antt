@@ -3,7 +3,6 @@ use Rattle.std.proofs.Common.{rules}
 use mathlib.Core.Path.{sym, ◌∙◌}
 use Rattle.text_matrix_market.specs.inner.Steps.{lists}
 use Rattle.text_matrix_market.proofs.Taken.{blank_left, too_many_left, misshapen_left, above_left, added_left}
-use borrow.Author.Rules.{rules}
 use Rattle.text_matrix_market.proofs.stages.entry_line.Statement.{statement}
 use Rattle.text_matrix_market.proofs.stages.entry_line.Tie as tie
 

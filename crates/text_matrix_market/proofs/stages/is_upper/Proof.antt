@@ -1,7 +1,6 @@
 -- `stages::is_upper` meets its contract: by the kind.
 use Rattle.std.proofs.Common.{rules}
 use mathlib.Core.Path.{refl}
-use borrow.Author.Rules.{rules}
 use Rattle.text_matrix_market.proofs.stages.is_upper.Statement.{statement}
 use Rattle.text_matrix_market.proofs.stages.is_upper.Tie as tie
 

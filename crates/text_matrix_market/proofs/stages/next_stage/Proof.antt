@@ -2,7 +2,6 @@
 use Rattle.std.proofs.Common.{rules}
 use native.Mathlib.Omega.{arith}
 use Rattle.text_matrix_market.proofs.Taken.{long_left, short_left, start_left, above_size_left, still_left}
-use borrow.Author.Rules.{rules}
 use Rattle.text_matrix_market.proofs.stages.next_stage.Statement.{statement}
 use Rattle.text_matrix_market.proofs.stages.next_stage.Tie as tie
 

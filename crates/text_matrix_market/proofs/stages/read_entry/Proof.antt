@@ -5,7 +5,6 @@ use Prim.Native.Nat.{◌≤◌}
 use borrow.Author.Tests.{not-true, not-false}
 use native.Mathlib.Omega.{arith}
 use Rattle.text_matrix_market.proofs.Entries.{inside, some, no_entry, row_out, column_out, weight_out, upper_entry_lem, an_entry}
-use borrow.Author.Rules.{rules}
 use Rattle.text_matrix_market.proofs.stages.read_entry.Statement.{statement}
 use Rattle.text_matrix_market.proofs.stages.read_entry.Tie as tie
 

@@ -4,7 +4,6 @@ use mathlib.Core.Path.{sym, ◌∙◌}
 use Rattle.text_matrix_market.specs.inner.Steps.{first_entries}
 use Rattle.text_matrix_market.proofs.Entries.{blank_passed, comment_passed, no_size, not_square, too_wide, too_full, a_size}
 use native.Mathlib.Omega.{arith}
-use borrow.Author.Rules.{rules}
 use Rattle.text_matrix_market.proofs.stages.size_line.Statement.{statement}
 use Rattle.text_matrix_market.proofs.stages.size_line.Tie as tie
 

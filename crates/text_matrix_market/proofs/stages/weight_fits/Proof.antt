@@ -2,7 +2,6 @@
 use Rattle.std.proofs.Common.{rules}
 use mathlib.Core.Path.{refl}
 use Rattle.text_matrix_market.proofs.Entries.{general_fits}
-use borrow.Author.Rules.{rules}
 use Rattle.text_matrix_market.proofs.stages.weight_fits.Statement.{statement}
 use Rattle.text_matrix_market.proofs.stages.weight_fits.Tie as tie
 

@@ -1,7 +1,6 @@
 -- `text::begins_percent` meets its contract: by the cases of the list.
 use Rattle.std.proofs.Common.{rules}
 use Rattle.text_matrix_market.proofs.Words.{percent_none, percent_first}
-use borrow.Author.Rules.{rules}
 use Rattle.text_matrix_market.proofs.text.begins_percent.Statement.{statement}
 use Rattle.text_matrix_market.proofs.text.begins_percent.Tie as tie
 

@@ -3,7 +3,6 @@ use Rattle.std.proofs.Common.{rules}
 use Rattle.text_matrix_market.specs.Text.{is_blank_line}
 use Rattle.text_matrix_market.proofs.Words.{blank_test}
 use native.Mathlib.Omega.{arith}
-use borrow.Author.Rules.{rules}
 use Rattle.text_matrix_market.proofs.text.is_blank_line.Statement.{statement}
 use Rattle.text_matrix_market.proofs.text.is_blank_line.Tie as tie
 
