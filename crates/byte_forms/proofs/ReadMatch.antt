@@ -1,7 +1,7 @@
 -- The match of an accepted graph, written as bytes, reads back as that match: its lists have n places, a row is a word, a dual is a finite double,
 -- and a count is below 2 ^ 64.
 use mathlib.Core.Path.{◌≡◌, refl, ◌∙◌, subst}
-use mathlib.Core.Logic.{◌⊎◌, ⊎_elim}
+use mathlib.Core.Logic.{⊎_elim}
 use mathlib.Core.Bool.{Bool, true, false, cond}
 use mathlib.Core.List.{List}
 use Prim.Native.Nat.{ℕ, zero, suc, ◌*◌, ◌^◌, ◌≤◌, ◌<◌}

@@ -2,7 +2,7 @@
 -- floors) is below 2 where
 -- the factors' sum is at most minus the logarithm, and above 1 / 4 where it is equal. Powers are monotone, so a bound on N-th powers is one on the numbers.
 use mathlib.Core.Path.{◌≡◌, sym, ap, ap₂, ◌∙◌}
-use Prim.Native.Nat.{ℕ, zero, suc, ◌+◌, ◌-◌, ◌*◌, ◌^◌, ◌≤◌, ◌<◌}
+use Prim.Native.Nat.{ℕ, zero, suc, ◌+◌, ◌*◌, ◌^◌, ◌≤◌, ◌<◌}
 use native.Mathlib.Nat.{pow-zero, pow-suc, mul_assoc, mul_comm, mul-suc, add-mul, le_trans, le_of_eq, lt_of_le_of_lt, lt_of_lt_of_le, lt_of_not-le}
 use native.Mathlib.Nat.{lt_irrefl, mul-le-mul_right, mul-lt-mul_of_pos_right, pow-le-pow_left}
 use native.Mathlib.Decide.{dec_le}

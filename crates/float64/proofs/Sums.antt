@@ -8,7 +8,7 @@ use Prim.Native.Nat.{ℕ, zero, suc, ◌+◌, ◌-◌, ◌*◌, ◌/◌, ◌%◌
 use native.Mathlib.Nat.{le_trans, le_of_eq, le_refl, lt_of_le_of_lt, eq-or-lt_of_le, mul_assoc, mul_comm, one-mul, add-mul, mul-sub}
 use native.Mathlib.Nat.{zero-mul, mul-pos, mul-le-mul_right, mul-div_cancel, div-add-mod', mod-lt, suc-mul}
 use native.Mathlib.Omega.{arith}
-use lib.Dec.{T, leb, ltb, eqb, leb→le, ltb→lt, nltb→le, is_le, compare_is_eq, nleb→lt, eqb→eq, lit<, lit≤}
+use lib.Dec.{T, ltb, leb→le, ltb→lt, nltb→le, is_le, compare_is_eq, nleb→lt, eqb→eq, lit<, lit≤}
 use lib.Pow.{pow-add, pow_pos, pow_mono, pow-lt}
 use lib.Ieee.{Float, nan, inf, fin, binary64, up, down, size, nearest, units, round, sum, add, sub, neg, fits}
 use lib.Ieee.Digits.{size-le}

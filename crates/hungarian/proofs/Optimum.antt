@@ -22,7 +22,7 @@ use Rattle.matching.specs.Sum.{or_zero}
 use Rattle.matching.specs.Matching.{Bipartite, Complete, Largest, LeastTotal, size, total}
 use Rattle.matching.specs.Pairing.{paired_entries}
 use Rattle.matching.proofs.Sums.{sum_add, sum_same, sum_times}
-use Rattle.matching.proofs.Matchings.{largest, complete_exactly, least_total, same_largest}
+use Rattle.matching.proofs.Matchings.{complete_exactly, least_total, same_largest}
 use Rattle.matching.proofs.Pairings.{held_largest, same_by_row, by_row_size}
 use Rattle.hungarian.specs.declared.HungarianStats.{HungarianStats}
 use Rattle.sparse.specs.Pattern.{bipartite, row_of, column_of, entries}

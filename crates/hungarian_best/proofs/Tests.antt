@@ -1,7 +1,7 @@
 -- The code's test of an entry is the definition's, for all doubles: by the order of their positions, where neither is a NaN.
 use mathlib.Core.Path.{◌≡◌, refl, sym, subst}
 use mathlib.Core.Bool.{Bool, true, false, not, ◌&&◌, ◌||◌}
-use Prim.Native.Nat.{ℕ, ◌<◌}
+use Prim.Native.Nat.{ℕ}
 use native.Mathlib.Decide.{ℕ_discrete}
 use native.Mathlib.Nat.{lt_irrefl}
 use lib.Dec.{T, ltb, eqb, ltb→lt, eqb→eq, eqb_refl}

@@ -22,7 +22,7 @@ use Rattle.hungarian.specs.Graph.{CostGraph}
 use Rattle.hungarian.specs.Test.{graph_fault, graph_lengths}
 use Rattle.hungarian.specs.Accepted.{Accepted, Doubles}
 use Rattle.hungarian.specs.Init.{Pairs}
-use Rattle.hungarian.specs.Match.{Matching, hungarian_match, finish, perm_of, row_duals, column_duals, initial, searched}
+use Rattle.hungarian.specs.Match.{Matching, hungarian_match, finish, perm_of, row_duals, initial, searched}
 use Rattle.hungarian.specs.inner.Layout.{region, iperm_at, jperm_at}
 use Rattle.cost_limit.specs.Range.{cost_limit}
 use Rattle.hungarian.specs.inner.Setting.{Setting}

@@ -31,7 +31,6 @@ use Rattle.hungarian.specs.inner.Setting.{Setting}
 use Rattle.hungarian.proofs.Accepts.{near_setting}
 use Rattle.hungarian_match.proofs.Tests.{match_listed}
 use Rattle.match_check.specs.declared.Verdict.{Verdict}
-use Rattle.match_check.specs.declared.Verdict.TheVariants as Verdict
 use Rattle.match_check.specs.Check.{Claim, check_lengths, is_whole, whole_costs, small_whole, small_wholes, duals_hold, pairing_fits, sums_reached}
 use Rattle.match_check.specs.Check.{claim_fault, check_fault}
 use Rattle.match_check.specs.Call.{number_of, verdict_of, checked, Certified, Exactly, Promises}

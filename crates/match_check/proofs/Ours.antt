@@ -12,7 +12,7 @@ use Rattle.float64.specs.Number.{Number, units_per_one}
 use Rattle.cost_limit.specs.Range.{cost_limit}
 use Rattle.hungarian.specs.Graph.{CostGraph}
 use Rattle.hungarian.specs.Accepted.{Accepted, Doubles}
-use Rattle.hungarian.specs.Match.{Matching, hungarian_match, finish, row_duals, initial, searched}
+use Rattle.hungarian.specs.Match.{Matching, hungarian_match, finish, initial, searched}
 use Rattle.hungarian.specs.Optimal.{WholeCosts, matched_entries}
 use Rattle.hungarian.specs.inner.Setting.{Setting}
 use Rattle.hungarian.proofs.InitRows.{first_duals}

@@ -13,7 +13,6 @@ use Rattle.hungarian.specs.Optimal.{WholeCosts, amount}
 use Rattle.hungarian_match.specs.Call.{Slices, counts_left, match_outcome, number_of as match_number}
 use Rattle.match_check.specs.Check.{Claim, claim, row_for, row_dual, column_dual, check_fault}
 use Rattle.match_check.specs.declared.Verdict.{Verdict}
-use Rattle.match_check.specs.declared.Verdict.TheVariants as Verdict
 
 -- ---- the number of each case of the answer: 0, or the refusal
 abbrev pub number_of : Verdict → ℕ

@@ -29,7 +29,7 @@ use Rattle.sparse.proofs.Theorems.{pattern_listed}
 use Rattle.matching.specs.Pairing.{paired_entries}
 use Rattle.float64.specs.Number.{Number, units_per_one}
 use Rattle.cost_limit.specs.Range.{cost_limit}
-use Rattle.sparse.specs.Pattern.{Pattern, pattern, column_of, entries, bipartite}
+use Rattle.sparse.specs.Pattern.{Pattern, pattern, column_of, bipartite}
 use Rattle.hungarian.specs.Graph.{with_costs}
 use Rattle.hungarian.specs.Match.{hungarian_match}
 use Rattle.hungarian.specs.Optimal.{LargestMatch, matched_entries}

@@ -35,7 +35,6 @@ use Rattle.mc64_symmetric.specs.Graph.{mirrored_columns}
 use Rattle.mc64_symmetric.specs.Call.{lengths_fit, input_fault, cost_graph}
 use Rattle.mc64_symmetric.proofs.Theorems.{graph_matched, input_listed}
 use Rattle.factors_mc64.specs.declared.Scaled.{Scaled}
-use Rattle.factors_mc64.specs.declared.Scaled.TheVariants as Scaled
 use Rattle.factors_mc64.specs.Calls as Factors
 use Rattle.factors_mc64.proofs.Outcomes.{answered_scaled}
 use Rattle.factors_balance.proofs.Theorems.{symmetric_balanced}

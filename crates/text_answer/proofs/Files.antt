@@ -22,7 +22,6 @@ use Rattle.text_matrix_market.proofs.Accepted.{accepted, each_at, Limits, Sound,
 use Rattle.text_matrix_market.proofs.Filling.{length_first, front}
 use Rattle.triplets.specs.Order.{Below}
 use Rattle.text_graph.specs.Graph.{cost_values}
-use Rattle.text_graph.specs.Graph as graph
 use Rattle.text_report.specs.declared.Form.{Form}
 use Rattle.text_report.specs.Report.{refused_text}
 use Rattle.text_tie_file.proofs.Theorems.{file_exactly, refused_exactly}

@@ -2,7 +2,7 @@
 -- both over 2 ^ 31 (`Held`).
 -- A square keeps that with 3 * d + 1 for d (`step`), and after all the room d is still far below what the bounds leave (`log_from_lem`).
 use mathlib.Core.Path.{◌≡◌, sym, ap, ◌∙◌, subst}
-use Prim.Native.Nat.{ℕ, zero, suc, ◌+◌, ◌-◌, ◌*◌, ◌/◌, ◌%◌, ◌^◌, ◌≤◌, ◌<◌}
+use Prim.Native.Nat.{ℕ, zero, suc, ◌+◌, ◌*◌, ◌/◌, ◌%◌, ◌^◌, ◌≤◌, ◌<◌}
 use native.Mathlib.Nat.{le_trans, le_of_eq, lt_of_lt_of_le, lt_of_le_of_lt, add-mul, mul-add, add_assoc}
 use native.Mathlib.Nat.{mul_comm, mul_assoc, mul-one, one-mul}
 use native.Mathlib.Nat.{two-mul, mul-mul-mul_comm, mul-le-mul, mul-le-mul_left, mul-le-mul_right, le_of_mul-le-mul_right}

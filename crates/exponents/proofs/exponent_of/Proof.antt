@@ -1,6 +1,6 @@
 -- `exponent_of` meets its contract: a factor that fails a test has no exponent, since one that has passes both; of any other the bits count the whole number.
 use mathlib.Core.Path.{◌≡◌, sym, ap, ap₂, ◌∙◌, subst}
-use mathlib.Core.Bool.{Bool, true, false, not, ◌&&◌, false≢true}
+use mathlib.Core.Bool.{Bool, not, ◌&&◌, false≢true}
 use native.Mathlib.Omega.{arith}
 use lib.Dec.{T}
 use lib.IntN.{ℤ, pos, ◌-ℤ◌}

@@ -6,7 +6,6 @@ use Prim.Native.Nat.{◌-◌}
 use native.Mathlib.Omega.{arith}
 use lib.Ieee.{nan}
 use lib.ListN.{length, get_or}
-use borrow.Author.Tests.{not-true, not-false}
 use Rattle.refusal.specs.Refusal.{exponent_range}
 use Rattle.sparse.specs.Fault.{unless}
 use Rattle.sparse.proofs.First.{Passed, from_zero, pass, found, done}

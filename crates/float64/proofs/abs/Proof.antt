@@ -2,7 +2,6 @@
 use Rattle.std.proofs.Common.{rules}
 use mathlib.Core.Path.{sym, subst, ◌∙◌}
 use lib.Dec.{T}
-use Rattle.float64.specs.Constants as Constants
 use Rattle.float64.proofs.Functions.{size-zero, size_other}
 use Rattle.float64.proofs.abs.Statement.{statement}
 use Rattle.float64.proofs.abs.Tie as tie

@@ -6,7 +6,6 @@ use Rattle.hungarian.specs.Loop.{each}
 use Rattle.sparse.specs.Pattern.{start, end}
 use Rattle.hungarian.specs.Graph.{CostGraph, graph_of}
 use Rattle.hungarian.specs.Init.{lower, claim, phase1}
-use Rattle.hungarian.specs.Init as definition
 use Rattle.hungarian.specs.inner.Layout.{Workspace, region, iperm_at, jperm_at, least_at}
 use Rattle.hungarian_claim.specs.inner.Memory.{minima_of, pairs_counted, Columned}
 

@@ -1,7 +1,6 @@
 -- `hungarian_path::walk` meets its contract: the loop's invariant is `WalkAt` of Flips, with what the function requires; the measure is how many steps
 -- are left.
 use mathlib.Core.Logic.{inl, inr}
-use Prim.Native.Nat.{◌-◌}
 use native.Mathlib.Omega.{arith}
 use lib.ListN.{length-set}
 use Rattle.hungarian_path.specs.inner.StepsFlip.{WalkReady}

@@ -1,6 +1,5 @@
 -- `one_round` meets its contract: the maxima first, then the factors.
-use mathlib.Core.Path.{sym, ap, ◌∙◌}
-use Rattle.infnorm_factors.specs.Factors.{round_with}
+use mathlib.Core.Path.{sym, ◌∙◌}
 use Rattle.infnorm_rounds.proofs.one_round.Statement.{statement}
 use Rattle.infnorm_rounds.proofs.one_round.Tie as tie
 

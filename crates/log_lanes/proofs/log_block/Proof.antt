@@ -1,6 +1,6 @@
 -- `log_block` meets its contract: what is loaded has its logarithm in the lanes, and is stored.
 use mathlib.Core.Path.{◌≡◌, refl, sym, ap, ◌∙◌}
-use Prim.Native.Nat.{◌+◌, ◌-◌, ◌≤◌, ◌<◌}
+use Prim.Native.Nat.{◌+◌, ◌≤◌, ◌<◌}
 use native.Mathlib.Omega.{arith}
 use lib.ListN.{length}
 use Rattle.log_lanes.specs.inner.Lanes.{answer_of}

@@ -1,7 +1,6 @@
 -- `check_match` meets its contract: each answer is the first fault's, and the other clauses follow of any answer.
 use Rattle.std.proofs.Common.{rules}
 use mathlib.Core.Path.{sym, ◌∙◌}
-use borrow.Author.Tests.{not-true, not-false}
 use Rattle.match_check.proofs.Calling.{fitting, ready, passed_graph, by_graph, by_cost, by_claim, by_none, promises}
 use Rattle.match_check.proofs.check_match.Statement.{statement}
 use Rattle.match_check.proofs.check_match.Tie as tie

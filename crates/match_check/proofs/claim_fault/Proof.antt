@@ -1,6 +1,5 @@
 -- `claim_fault` meets its contract: each return is the first fault of the chain.
 use Rattle.std.proofs.Common.{rules}
-use borrow.Author.Tests.{not-true, not-false}
 use Rattle.match_check.proofs.Faults.{by_pairing, by_duals, by_sums, by_nothing}
 use Rattle.match_check.proofs.claim_fault.Statement.{statement}
 use Rattle.match_check.proofs.claim_fault.Tie as tie

@@ -2,7 +2,6 @@
 use Rattle.std.proofs.Common.{rules}
 use mathlib.Core.Path.{refl}
 use native.Mathlib.Omega.{arith}
-use borrow.Author.Tests.{not-true, not-false}
 use Rattle.match_check.proofs.Marks.{lacks_rows, rows_hold, lacks_once, stands}
 use Rattle.match_check.proofs.pairing_fits.Statement.{statement}
 use Rattle.match_check.proofs.pairing_fits.Tie as tie

@@ -7,7 +7,6 @@ use Rattle.match_check.specs.Check.{small_whole, small_wholes}
 use Rattle.match_check.proofs.Every.{Every, every_begins, every_goes_on, every_all}
 use Rattle.match_check.proofs.small_wholes.Statement.{statement}
 use Rattle.match_check.proofs.small_wholes.Tie as tie
-use Rattle.match_check.proofs.small_whole.Reads as small-whole-reads
 
 abbrev invariant-loop-i : tie.invariant-loop-i
 invariant-loop-i list fine₀ i₀ i-end fine i = (i ≤ length list) × Every (λ m. small_whole (get_or list m nan)) 0 (length list) fine i

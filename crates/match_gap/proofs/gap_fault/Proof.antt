@@ -1,6 +1,5 @@
 -- `gap_fault` meets its contract: each return is the first fault of the chain.
 use Rattle.std.proofs.Common.{rules}
-use borrow.Author.Tests.{not-true, not-false}
 use Rattle.match_check.proofs.Calling.{ready}
 use Rattle.match_gap.proofs.Faults.{lengths_are, pointers_fit, by_digits, by_graph, graph_passed, by_costs, by_pairs}
 use Rattle.match_gap.proofs.gap_fault.Statement.{statement}

@@ -1,6 +1,5 @@
 -- `pairs_fault` meets its contract: each return is the first fault of the chain.
 use Rattle.std.proofs.Common.{rules}
-use borrow.Author.Tests.{not-true, not-false}
 use Rattle.match_gap.proofs.Faults.{by_pairing, by_nothing, by_duals}
 use Rattle.match_gap.proofs.pairs_fault.Statement.{statement}
 use Rattle.match_gap.proofs.pairs_fault.Tie as tie

@@ -1,7 +1,6 @@
 -- `pairing_fault` meets its contract: each return is the first fault of the chain.
 use Rattle.std.proofs.Common.{rules}
 use mathlib.Core.Path.{refl, sym, ◌∙◌}
-use borrow.Author.Tests.{not-true, not-false}
 use Rattle.match_largest.proofs.Searching.{held_is, by_pairs, by_rows, by_nothing}
 use Rattle.match_largest.proofs.pairing_fault.Statement.{statement}
 use Rattle.match_largest.proofs.pairing_fault.Tie as tie

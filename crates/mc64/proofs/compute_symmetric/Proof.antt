@@ -1,7 +1,6 @@
 -- `compute_symmetric` meets its contract: a refusal changes nothing, and what the building leaves is matched and scaled.
 use Rattle.std.proofs.Common.{rules}
 use mathlib.Core.Path.{refl, sym}
-use borrow.Author.Tests.{not-true, not-false}
 use lib.Seq.{length-take-le}
 use Rattle.mc64.proofs.Calling.{lengths_refused, building_refused, rows_room, cost_room_lem, ready, complete, promised}
 use Rattle.mc64.proofs.compute_symmetric.Statement.{statement}

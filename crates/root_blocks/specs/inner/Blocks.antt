@@ -1,5 +1,5 @@
 -- What the functions of a block promise: the bits of its numbers, the check of one candidate, and the roots.
-use Rattle.std.specs.Prelude.{◌≡◌, ℕ, ◌+◌, ◌*◌, ◌/◌, ◌%◌, ◌^◌, ◌<◌, ◌≤◌, true, not, T, List, from_bits, slice_index, slice_index_or, to_bits, Float}
+use Rattle.std.specs.Prelude.{◌≡◌, ℕ, ◌+◌, ◌*◌, ◌/◌, ◌%◌, ◌^◌, ◌<◌, true, not, T, List, from_bits, slice_index, slice_index_or, to_bits, Float}
 use Rattle.std.specs.Float.{nan, binary64}
 use Rattle.std.specs.Float.Ieee.{lt, fits, nan_bits}
 use Rattle.float64.specs.Constants as Constants

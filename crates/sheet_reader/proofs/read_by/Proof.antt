@@ -4,7 +4,6 @@ use Rattle.matching.specs.Match.{match_of}
 use Rattle.sheet_reader.proofs.Storing.{lengths_are}
 use mathlib.Core.Path.{refl, sym, ◌∙◌}
 use native.Mathlib.Omega.{arith}
-use borrow.Author.Tests.{not-true, not-false}
 use Rattle.sheet_reader.specs.Call.{body_of}
 use Rattle.sheet_reader.proofs.Calls.{head_passed, body_is, body_taken, head_refuses, lengths_refuse, records_refuse, reads}
 use Rattle.sheet_reader.proofs.read_by.Statement.{statement}

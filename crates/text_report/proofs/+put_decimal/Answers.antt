@@ -2,7 +2,6 @@
 use mathlib.Core.Path.{refl, sym}
 use Prim.Native.Nat.{◌+◌, ◌%◌}
 use native.Mathlib.Omega.{arith}
-use lib.ListN.{length-set}
 use Rattle.text_report.proofs.Digits.{decimal_one, decimal_more, one_length, more_length}
 use Rattle.text_report.proofs.Writes.{byte, byte_last, restated}
 use Rattle.text_report.proofs.+put_decimal.Goals as goal

@@ -5,7 +5,6 @@ use lib.ListN.{length-set}
 use Rattle.text_report.specs.Report.{matched_line}
 use Rattle.text_report.proofs.Writes.{and_then, byte_last}
 use Rattle.text_report.proofs.Lines.{matched_length}
-use borrow.Author.Rules.{rules}
 use Rattle.text_report.proofs.put_matched_line.Statement.{statement}
 use Rattle.text_report.proofs.put_matched_line.Tie as tie
 

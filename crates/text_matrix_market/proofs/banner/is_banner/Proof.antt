@@ -4,7 +4,6 @@ use mathlib.Core.Path.{sym, ◌∙◌}
 use mathlib.Core.List.{List, [], ◌∷◌}
 use Prim.Native.Nat.{ℕ}
 use native.Mathlib.Omega.{arith}
-use borrow.Author.Tests.{not-true, not-false}
 use Rattle.text_matrix_market.specs.Banner.{codes, banner_words}
 use Rattle.text_matrix_market.proofs.Banners.{Passed, no_percent, percent, named, misnamed, nothing_more}
 use Rattle.text_matrix_market.proofs.banner.is_banner.Statement.{statement}

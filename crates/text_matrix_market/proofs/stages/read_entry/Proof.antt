@@ -2,7 +2,6 @@
 use Rattle.std.proofs.Common.{rules}
 use mathlib.Core.Path.{sym, ◌∙◌}
 use Prim.Native.Nat.{◌≤◌}
-use borrow.Author.Tests.{not-true, not-false}
 use native.Mathlib.Omega.{arith}
 use Rattle.text_matrix_market.proofs.Entries.{inside, some, no_entry, row_out, column_out, weight_out, upper_entry_lem, an_entry}
 use Rattle.text_matrix_market.proofs.stages.read_entry.Statement.{statement}
