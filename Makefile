@@ -1,4 +1,4 @@
-# A release without the prover, from the archive that `rt staticlib suontarvi` writes (or the one in SUONTARVI_LIB).
+# A release without the prover, from the archive that `tools/build.sh suontarvi` writes (or the one in SUONTARVI_LIB).
 #
 #   make                    library, tool, manual pages and completions, in target/release
 #   make check              tests of C, Rust and Python, and of a release in a clean root
@@ -32,7 +32,7 @@ used = $(made)/archive
 all: $(made)/$(shared) $(made)/suontarvi $(pages) $(configs) $(completions)
 
 $(archive):
-	@echo "$(archive) is not there: run \`rt staticlib suontarvi\`, or set SUONTARVI_LIB" >&2; exit 1
+	@echo "$(archive) is not there: run \`tools/build.sh suontarvi\`, or set SUONTARVI_LIB" >&2; exit 1
 
 $(used): always
 	@mkdir -p $(made)

@@ -1,4 +1,4 @@
-//! Links libsuontarvi.a, which `rt staticlib suontarvi` writes to target/staticlib of the repository.
+//! Links libsuontarvi.a, which `tools/build.sh suontarvi` writes to target/staticlib of the repository.
 //! SUONTARVI_LIB names another folder that holds it.
 use std::env;
 use std::path::PathBuf;
@@ -17,7 +17,7 @@ fn main() {
         let path = archive.display();
         println!("cargo::error={path} is not there.");
         println!(
-            "cargo::error=Run `rt staticlib suontarvi` in the repository, or set SUONTARVI_LIB to the \
+            "cargo::error=Run `tools/build.sh suontarvi` in the repository, or set SUONTARVI_LIB to the \
              folder that holds libsuontarvi.a."
         );
         return;

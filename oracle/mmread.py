@@ -16,7 +16,7 @@ def missing():
     """What is not there, in a sentence."""
     for name in ["ties", "pairs"]:
         if not (BINARIES / name).is_file():
-            return f"target/bin/{name} is not there: run `rt check {name}`"
+            return f"target/bin/{name} is not there: run `tools/build.sh {name}`"
     try:
         import scipy.io  # noqa: F401
     except ImportError:

@@ -1,5 +1,5 @@
 #!/usr/bin/env bash
-# The shared library for python/suontarvi, from the archive that `rt staticlib suontarvi` writes (or the one in the
+# The shared library for python/suontarvi, from the archive that `tools/build.sh suontarvi` writes (or the one in the
 # folder SUONTARVI_LIB): target/python/libsuontarvi.so.
 set -eu
 cd "$(dirname "$0")/.."

@@ -101,7 +101,7 @@ fn find(name: &str) -> Option<PathBuf> {
     if !program.is_file() {
         let path = program.display();
         eprintln!(
-            "{path} is not there: run `rt check {name}` in the repository, or set {variable}"
+            "{path} is not there: run `tools/build.sh {name}` in the repository, or set {variable}"
         );
         return None;
     }

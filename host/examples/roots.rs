@@ -1,7 +1,7 @@
 //! The proved square root against Rust's, bit for bit, over the C interface; then its time.
 //! Patterns: all exponents with chosen digits, subnormals, powers of two and their neighbours, squares and
 //! squares plus and minus units in the last place, the hardest cases beside halfway roots, and random bits.
-//! `cargo run --release --example roots [PATTERNS] [SEED]`, after `rt staticlib suontarvi`.
+//! `cargo run --release --example roots [PATTERNS] [SEED]`, after `tools/build.sh suontarvi`.
 use std::hint::black_box;
 use std::time::Instant;
 

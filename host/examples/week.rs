@@ -2,7 +2,7 @@
 //! match, which travels as a sheet file, the log factors, their exponentials; then the largest entry of each row and
 //! column, before and after. Beside it the road without `ln` and `exp`: the cost graph of whole-number logarithms, its
 //! match, the check of that match, powers of two, the matrix scaled by them.
-//! `cargo run --release --example week [FILE]`, after `rt staticlib suontarvi`; without a file, week.mtx.
+//! `cargo run --release --example week [FILE]`, after `tools/build.sh suontarvi`; without a file, week.mtx.
 use std::error::Error;
 
 use suontarvi::{Columns, CostGraph, GeneralMatrix, LogFactors, Matching, Refusal, SymmetricMatrix};

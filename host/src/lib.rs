@@ -28,7 +28,7 @@
 //! 0. The library has no `ln` and no `exp`: natural logarithms are the host's, or whole-number ones ([`whole_log`])
 //! take their place.
 //!
-//! The crate links libsuontarvi.a from `target/staticlib` of the repository, where `rt staticlib suontarvi` writes it,
+//! The crate links libsuontarvi.a from `target/staticlib` of the repository, where `tools/build.sh suontarvi` writes it,
 //! or from the folder that `SUONTARVI_LIB` names. The promises are proved for the library; this crate passes slices on.
 //! It panics if the archive answers a number that is not in its table of refusals: then their versions differ.
 

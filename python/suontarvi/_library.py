@@ -38,7 +38,7 @@ def _path() -> pathlib.Path:
     built = _REPOSITORY / "target" / "python" / "libsuontarvi.so"
     archive = _REPOSITORY / "target" / "staticlib" / "libsuontarvi.a"
     if not built.is_file():
-        first = "" if archive.is_file() else "`rt staticlib suontarvi` and then "
+        first = "" if archive.is_file() else "`tools/build.sh suontarvi` and then "
         raise OSError(f"{built} is not there: run {first}`python/build.sh`, or set SUONTARVI_SO to the shared library")
     if archive.is_file() and archive.stat().st_mtime_ns > built.stat().st_mtime_ns:
         raise OSError(f"{built} is older than {archive}: run `python/build.sh`")

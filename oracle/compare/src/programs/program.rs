@@ -23,7 +23,7 @@ impl Program {
         if !path.is_file() {
             let path = path.display();
             eprintln!(
-                "{path} is not there: run `rt check {name}` in the repository, or set {variable}"
+                "{path} is not there: run `tools/build.sh {name}` in the repository, or set {variable}"
             );
             return None;
         }
