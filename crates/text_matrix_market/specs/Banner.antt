@@ -44,10 +44,10 @@ banner_words field symmetry =
 unfoldable pub is_banner : List ℕ → List ℕ → List ℕ → Bool
 is_banner field symmetry line = begins_percent line && same_words (words_of line) (banner_words field symmetry)
 
--- the kind, if the test holds; else the result of the others
+-- the kind, if the test holds; else the next result
 abbrev pub kind_if : Bool → Kind → BannerRead → BannerRead
-kind_if true kind others = Is kind
-kind_if false kind others = others
+kind_if true kind next = Is kind
+kind_if false kind next = next
 
 -- the kind of file whose banner a line is
 unfoldable pub banner_kind : List ℕ → BannerRead
