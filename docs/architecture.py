@@ -28,7 +28,7 @@ def groups():
     for line in (ROOT / "crates.txt").read_text().splitlines():
         if m := re.match(r"# (.+)$", line):
             found.append((m[1], []))
-        elif (m := re.match(r"(\w+):", line)) and found:
+        elif (m := re.match(r"(\w+)[^:#]*:", line)) and found:
             found[-1][1].append(m[1])
     return [(group, crates) for group, crates in found if crates]
 

@@ -1,16 +1,16 @@
 #!/usr/bin/env python3
-"""The table of must-fail edits in docs/MUST_FAIL.md, from the edits and from what the prover said of them in the last
-`bash .ci/run` and the `tests/edits.sh` after it. Edits that only the latter tries have a star.
+"""The table of must-fail edits in docs/MUST_FAIL.md, from the edits alone. `rt` keeps no log of what the prover said of
+an edit: that it refuses each, `bash .ci/run` and `tests/edits.sh` find. Edits that only the latter tries have a star.
 
   docs/edits.py            prints the rows
   docs/edits.py --write    puts them into docs/MUST_FAIL.md, below the line that names this script, if the status is 0
   docs/edits.py --check    compares them with those of docs/MUST_FAIL.md
 
-Each row names a fact that is false under the edit and that the prover refused. An edit names it in a line
-`false: PLACE, FACT`; PLACE is a file of the crate's proofs, or the function whose proof it is. An edit without that
-line has the first promise of a function (`returns`) or step of a loop (`loop-again`, or by its label) that was refused.
-The status is 1 if an edit was not tried, if the fact named was not refused, or if an edit names none and no promise and
-no step was refused.
+The comment of an edit says what the contract says and the edit breaks. A line `false: PLACE, FACT` names a fact that is
+false under the edit; an edit without one has an empty column. PLACE is a file of the crate's proofs, and FACT a law in
+it; or PLACE is a function, as its folder in proofs, and FACT a goal of its proof (`returns`, `loop-k-init`).
+The status is 1 if an edit has no comment, if its line `false:` is not of this form, if a file of proofs that it names
+has no such law or goal, or if neither proofs nor src have what it names.
 """
 import re
 import sys
@@ -19,42 +19,33 @@ from pathlib import Path
 ROOT = Path(__file__).resolve().parent.parent
 MARK = "<!-- rows by docs/edits.py -->\n"
 HEAD = """
-| edit | of | what the contract says, and the edit breaks | a fact that is false under it, and refused |
+| edit | of | what the contract says, and the edit breaks | a fact that is false under it |
 |---|---|---|---|
 """
 faults = []
 
 
-def refused(crate, label):
-    """the refused facts in their order, each as (place, name), without those that only lack another one"""
-    facts = []
-    for line in (ROOT / "target/must-fail" / crate / label / ".log").read_text().splitlines():
-        m = re.match(r".*?/(?:proofs|specs|src)/(\S+?):\d+:\d+: error: `([^`]+)`: ", line)
-        if m and "was not admitted" not in line:
-            facts.append((re.sub(r"(/Proof)?\.antt$", "", m.group(1)), m.group(2)))
-        # of a function that needs no proof file the prover says which of its own facts it does not find
-        m = re.match(r"fn \S+?::(\S+): no proof: .*does not close (.*)", line)
-        if m:
-            facts += [(m.group(1).replace("::", "/"), name) for name in re.findall(r"`([^`]+)`", m.group(2))]
-    return facts
+def stands(crate, place, fact):
+    """whether the fact is in that place; of a function without a proof file, whether there is such a function"""
+    proofs = ROOT / "crates" / crate / "proofs"
+    files = [proofs / f"{place}.antt", *(proofs / place).glob("*.antt")]
+    texts = [path.read_text() for path in files if path.is_file()]
+    if not texts:
+        function = re.compile(rf"\bfn {re.escape(place.split('/')[-1])}\b")
+        return any(function.search(path.read_text()) for path in (ROOT / "crates" / crate / "src").rglob("*.rt"))
+    return any(re.search(rf"^ *(?:pub )?{re.escape(fact)}(?: |$)", text, re.M) for text in texts)
 
 
 def false_fact(crate, label, text):
-    """the fact that the edit names, or the first promise or step; it must be among those refused"""
-    log = ROOT / "target/must-fail" / crate / label / ".log"
-    if not log.exists():
-        faults.append(f"{crate}/{label}: not tried")
-        return "not tried"
-    facts = refused(crate, label)
+    """the fact that the edit names, or nothing"""
     named = re.search(r"^false: (\S+), (\S+)$", text, re.M)
-    if not named and re.search(r"^false", text, re.M):
-        faults.append(f"{crate}/{label}: its line `false:` is not `false: PLACE, FACT`")
-    chosen = [named.groups()] if named else [f for f in facts if re.match(r"(returns|\S*again)(-\d+)?$", f[1])]
-    if not chosen or chosen[0] not in facts:
-        lacks = f"{chosen[0]} was not refused" if chosen else "names no fact"
-        faults.append(f"{crate}/{label}: {lacks}; refused: {facts}")
-        return "none"
-    return f"{chosen[0][0]}, `{chosen[0][1]}`"
+    if not named:
+        if re.search(r"^false", text, re.M):
+            faults.append(f"{crate}/{label}: its line `false:` is not `false: PLACE, FACT`")
+        return ""
+    if not stands(crate, *named.groups()):
+        faults.append(f"{crate}/{label}: {named[1]} has no {named[2]}")
+    return f"{named[1]}, `{named[2]}`"
 
 
 def rows():
@@ -62,10 +53,13 @@ def rows():
     apart = [(path.parent.name, path, " \\*") for path in ROOT.glob("tests/edits/*/*.edit")]
     for crate, path, star in sorted(gate + apart, key=lambda one: (one[0], one[1].stem)):
         text = path.read_text()
-        said = re.search(r"^# *(.*)$", text, re.M).group(1)
+        said = re.search(r"^# *(.*)$", text, re.M)
+        if not said:
+            faults.append(f"{crate}/{path.stem}: it has no comment")
         files = re.findall(r"^file: (\S+)", text, re.M)
         kind = " and ".join(sorted({"code" if f.startswith("src/") else "definition" for f in files}))
-        yield f"| {crate}/`{path.stem}`{star} | {kind} | {said} | {false_fact(crate, path.stem, text)} |\n"
+        fact = false_fact(crate, path.stem, text)
+        yield f"| {crate}/`{path.stem}`{star} | {kind} | {said[1] if said else ''} | {fact} |\n"
 
 
 def main():

@@ -28,13 +28,13 @@ section's parameters as well, which are not shown.
 def crates():
     """The names of the crates, in the order of crates.txt."""
     lines = (HERE / "crates.txt").read_text().splitlines()
-    return [line.split(":")[0] for line in lines if line and not line.startswith("#")]
+    return [line.split(":")[0].split()[0] for line in lines if line and not line.startswith("#")]
 
 
 def named():
-    """The laws that the docs and README name: such names have a hyphen."""
+    """The names of several words that the docs and README have, as all laws do that they name but a few."""
     pages = [HERE / "README.md", *(page for page in (HERE / "docs").glob("*.md") if page != INDEX)]
-    return {name for page in pages for name in re.findall(r"`([^`\s]+-[^`\s]+)`", page.read_text())}
+    return {name for page in pages for name in re.findall(r"`([^`\s]+[_-][^`\s]+)`", page.read_text())}
 
 
 def said(lines, place):

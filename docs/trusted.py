@@ -4,8 +4,8 @@
 `docs/trusted.py > docs/TRUSTED.md` writes it; `docs/trusted.py --check` exits with 1 if that file is not what the
 contracts give; `docs/trusted.py --files` says of every file of specs/ how much of it is reached;
 `docs/trusted.py --call NAME` lists the definitions of one call. The `ensures` of a call are read, each name is resolved
-by the imports of its file, and definitions are followed to the prover's own libraries. A name that no import,
-declaration or binder explains is an error."""
+by the imports of its file, and definitions are followed to the standard library. A name that no import, declaration or
+binder explains is an error; `result`, parameters, fields, and the file's own variants and constants need no import."""
 import re
 import sys
 import textwrap
@@ -23,50 +23,56 @@ TOKEN = re.compile(r"\.?«[^»]*»|[(){};,]|[^\s(){};,«»]+")
 HEAD = re.compile(r"^(?:(?:abbrev|unfoldable|pub) )*(?:(record|data) (\S+)|(\S+) :)")
 USE = re.compile(r"^(?:ghost )?use ([^\s{;]+?)(?:\.\{([^}]*)\})?(?: as ([^\s;]+))?;?$", re.M)
 TYPE = re.compile(r"^(?:pub )?(?:enum|struct) (\w+)[^{;]*\{(.*?)^\}", re.M | re.S)
-PLAIN = re.compile(r"^(?:[\d.]+|0x[\dA-F_]+|[⌜⌝∗→=:|._×λ⊥]|Type|where|record|let|in|Unit|tt|now)$")
-LIBRARIES = ("lib.", "native.", "mathlib.", "Prim.", "borrow.", "Rattle·libc.")
+PLAIN = re.compile(r"^(?:[\d.]+|0x[\dA-F_]+|[∗→=:|._×λ⊥]|Type|where|record|let|in|Unit|tt)$")
+# of the prover and of the kit; a library `Rattle.NAME` that crates.txt does not list is the kit's too
+LIBRARIES = ("lib.", "native.", "mathlib.", "Prim.", "borrow.", "mir.")
 
 
 def crate_names():
     lines = (HERE / "crates.txt").read_text().splitlines()
-    return [line.split(":")[0] for line in lines if line and not line.startswith("#")]
+    return [line.split(":")[0].split()[0] for line in lines if line and not line.startswith("#")]
+
+
+OURS = set(crate_names())
 
 
 def module_of(path):
-    """The module that an import names, as crate and dotted path; None for the prover's libraries."""
-    if path.startswith(LIBRARIES):
+    """The module that an import names, as crate and dotted path; None for the prover's libraries and the kit's."""
+    found = re.match(r"Rattle\.(\w+)\.(specs|proofs)\.(.+)$", path)
+    if path.startswith(LIBRARIES) or found and found[1] not in OURS:
         return None
-    found = re.match(r"Rattle·(\w+?)(?:·(?:specs|proofs))?\.(specs|proofs)\.(.+)$", path)
     if not found:
         raise SystemExit(f"trusted.py: an import that is not understood: {path}")
     return found[1], found[3] if found[2] == "specs" else f"proofs.{found[3]}"
 
 
 class Scope:
-    """The names that a file imports: each to (module, name), or to None for the prover's libraries."""
+    """The names that a file imports: each to (module, name), or to None for libraries of the prover and of the kit."""
 
     def __init__(self, text):
         self.names, self.aliases = {}, {}
         for path, names, alias in USE.findall(text):
-            if "·" not in path and not path.startswith(LIBRARIES):
+            if not path.startswith(("Rattle.", *LIBRARIES)):
                 continue
             module = module_of(path)
             if not names:
                 self.aliases[alias or path.split(".")[-1]] = module
             for name in filter(None, (word.strip() for word in names.split(","))):
                 real, _, other = name.partition(" as ")
-                for part in [other or real, *(other or real).split("_")]:
+                for part in [other or real, *(other or real).split("◌")]:
                     if part:
                         self.names[part] = module and (module, real)
 
     def find(self, word):
-        """(True, target) if an import explains the word; the target is None for the prover's own names."""
+        """(True, target) if an import explains the word; the target is None for names of the prover and of the kit."""
         if word in self.names:
             return True, self.names[word]
-        alias, dot, name = word.partition(".")
-        if dot and name and alias in self.aliases:
-            module = self.aliases[alias]
-            return True, module and (module, name)
+        first, dot, name = word.partition(".")
+        if dot and name and first in self.aliases:
+            module = self.aliases[first]
+            return True, module and (module, name.partition(".")[0])
+        if dot and first in self.names:
+            return True, self.names[first]
         return False, None
 
 
@@ -103,7 +109,12 @@ def free_words(tokens, bound):
         elif after != ["="] or before not in (["{"], [";"]):
             words.append(token)
         place += 1
-    return [word for word in words if word not in bound]
+    return [word for word in words if first_part(word) not in bound]
+
+
+def first_part(word):
+    """The name that fields are taken of, as x of x.old and of x.pattern.n; the word itself if it begins with a dot."""
+    return word.partition(".")[0] or word
 
 
 def lambda_binders(tokens):
@@ -140,7 +151,7 @@ def words_of(unit, name, scope, local, bound):
         for token in tokens[1:cut]:
             known, target = scope.find(token)
             constructor = token in local and local[token].name != token or (known and (
-                target is None or "the-variants" in target[0][1] or not target[1][0].islower()
+                target is None or "TheVariants" in target[0][1] or not target[1][0].islower()
                 or target[1] in CONSTRUCTORS))
             if constructor or token in "(){},":
                 words.append(token)
@@ -172,7 +183,7 @@ class File:
             if (head := HEAD.match(line)) and not line.startswith(" "):
                 current = Declaration(self, head[2] or head[3], head[1] or "name")
                 self.order.append(current)
-                for part in [current.name, *current.name.split("_")]:
+                for part in filter(None, [current.name, *current.name.split("◌")]):
                     self.known[part] = current
             current.lines.append(line)
         for each in self.order:
@@ -226,9 +237,9 @@ class File:
         if word.startswith(".") or word in "(){};,":
             return
         known, target = self.scope.find(word)
-        if word in self.known:
-            if self.known[word] is not each:
-                each.targets.add(self.known[word])
+        if own := self.known.get(word) or self.known.get(first_part(word)):
+            if own is not each:
+                each.targets.add(own)
         elif known:
             if target:
                 each.targets.add(declared(target, f"{self.path}: {each.name}"))
@@ -250,6 +261,7 @@ class Proofs:
         self.crate, self.path = crate, path
         self.lines = [bare(line).rstrip() for line in path.read_text().splitlines()]
         self.scope = Scope("\n".join(self.lines))
+        self.laws = set(re.findall(r"^ *pub (\S+) :", "\n".join(self.lines), re.M))
 
     def statement(self, name):
         """The statement of a public law with the heads of its sections, or the whole of an abbreviation or record."""
@@ -290,10 +302,13 @@ class Rust:
         self.text = re.sub(r"//.*", "", path.read_text())
         self.scope = Scope(self.text)
         self.types = {}
+        # what a clause names without an import: constants, and variants with their types
+        self.plain = {name: set() for name in re.findall(r"^(?:pub )?const (\w+):", self.text, re.M)}
         for name, body in TYPE.findall(self.text):
             each = self.types[name] = Declaration(self, name, "declared")
             each.lines = [line for line in body.splitlines() if line.strip()] + ["head", "tail"]
             each.body = body
+            self.plain.update((variant, {each}) for variant in re.findall(r"^ *([A-Z]\w*)", body, re.M))
         self.uses = dict((path.split("::")[-1], path) for path in re.findall(r"^use ([\w:]+);", self.text, re.M))
 
     def named_types(self, text):
@@ -364,7 +379,7 @@ class House:
         """The declaration that an import names."""
         (crate, dotted), name = target
         if dotted.startswith("declared."):
-            parts = dotted.removesuffix(".the-variants").split(".")[1:]
+            parts = dotted.removesuffix(".TheVariants").split(".")[1:]
             return self.rust[crate, "::".join(parts[:-1]) or "lib"].types[parts[-1]]
         file = self.specs.get((crate, dotted))
         if not file or name not in file.known:
@@ -391,13 +406,15 @@ class House:
         head, ensures = file.contract(name)
         call = Declaration(file, name, "call")
         call.targets |= set(self.types_in(file, head))
-        parameters = {"now"} | {f"«{p}»" for p in re.findall(r"(\w+):", head)} | set(re.findall(r"(\w+):", head))
+        parameters = {"result", "self"}.union(*((p, f"«{p}»") for p in re.findall(r"(\w+):", head)))
         for text in ensures:
             for word in free_words(TOKEN.findall(text), set(parameters)):
                 word = word.rstrip(".") or word
                 known, target = file.scope.find(word)
                 if target:
                     call.targets.add(self.declared(target, f"{file.path}: {name}"))
+                elif not known and word in file.plain:
+                    call.targets |= file.plain[word]
                 elif not known and not word.startswith(".") and word not in "(){};," and not PLAIN.match(word):
                     complain(f"{file.path.relative_to(HERE)}: {name}: what is `{word}`?")
         return call.targets
@@ -447,7 +464,8 @@ def theorems(house):
     """The theorems that GUARANTEES.md and the section "Promises at length" of PROOFS.md name."""
     at_length = (HERE / "docs" / "PROOFS.md").read_text().partition("## Promises at length\n")[2].partition("\n## ")[0]
     page = (HERE / "docs" / "GUARANTEES.md").read_text() + at_length
-    for name in sorted(set(re.findall(r"`([a-z]\S*-[^`\s]*\w)`", page))):
+    laws = set().union(*(file.laws for file in house.proofs.values()))
+    for name in sorted(laws & set(re.findall(r"`([^`\s]+[_-][^`\s]+)`", page))):
         yield name, closure(house.stated(name))
 
 
@@ -469,9 +487,9 @@ HEADING = """# What must be believed
 
 Made by `docs/trusted.py` from the files; `docs/trusted.py --check` compares. A contract is as good as the definitions
 that it unfolds to. This page lists them: for each call of the C interface and for the two programs every definition
-that its `ensures` names, and every one that these name, down to the prover's own libraries (`lib`, `mathlib`,
-`native`, `Prim`), which are not counted. Names are resolved by the imports of each file, and a word that nothing
-explains is an error. Enums and structs of the code that definitions speak of are counted too.
+that its `ensures` names, and every one that these name, down to the words of the standard library and of the prover
+(`Rattle.std`, `lib`, `Prim`), which are not counted. Names are resolved by the imports of each file, and a word that
+nothing explains is an error. Enums and structs of the code that definitions speak of are counted too.
 `docs/trusted.py --call NAME` lists those of one call.
 
 A line is one of a declaration: comments, blank lines and imports are left out. What need not be read to know what is

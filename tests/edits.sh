@@ -1,33 +1,29 @@
 #!/usr/bin/env bash
-# The must-fail edits of large crates, which the gate leaves out: tests/edits/CRATE/*.edit, tried as the gate tries its
-# own, in a copy of crates/. `tests/edits.sh CRATE...` tries only those of the named crates. What target/ has proved is
-# not proved again, so run the gate first; else the crates are proved before the edits are tried. The last line counts
-# the edits. The logs go to target/must-fail. Status 1 if an edit is not refused, 2 if a crate has no folder here.
+# The must-fail edits of large crates, which the gate leaves out: tests/edits/CRATE/*.edit, tried by `rt must-fail` in a
+# copy of crates/. `tests/edits.sh CRATE...` tries only those of the named crates. What `rt check` kept in crates/*/out
+# is not proved again; else the crates are proved before the edits are tried. The status is that of `rt must-fail`: 1 if
+# an edit is not refused, does not fit or was not tried; it is 2 if a crate has no folder here.
 set -eu
 cd "$(dirname "$0")/.."
-here=$PWD
 [ $# -gt 0 ] || set -- $(ls tests/edits)
 for crate in "$@"; do
     [ -d "tests/edits/$crate" ] || { echo "tests/edits has no folder $crate" >&2; exit 2; }
 done
 scratch=$(mktemp -d)
 trap 'rm -rf "$scratch"' EXIT
-. .ci/provers
-cp -R crates crates.txt "$scratch"
-rm -rf "$scratch"/crates/*/must-fail
-mkdir -p target/must-fail "$scratch/target"
-for part in rlib stamp log; do
-    [ ! -d target/$part ] || cp -R target/$part "$scratch/target"
+mkdir "$scratch/crates"
+cp crates.txt "$scratch"
+tar -C crates --exclude='./*/out' --exclude='./*/must-fail' -cf - . | tar -C "$scratch/crates" -xf -
+# the named crates and those below them: crates.txt has leaves first
+needed=$(tac crates.txt | awk -F: -v named="$*" '
+    BEGIN { split(named, names, " "); for (k in names) wanted[names[k]] }
+    /^[a-z]/ { split($1, head, " "); if (head[1] in wanted) { print head[1]; split($2, deps, " "); for (k in deps) wanted[deps[k]] } }')
+for crate in $needed; do
+    [ ! -d "crates/$crate/out" ] || cp -a "crates/$crate/out" "$scratch/crates/$crate"
 done
 for crate in "$@"; do
-    mkdir -p "$scratch/crates/$crate/must-fail"
-    for edit in "tests/edits/$crate"/*.edit; do
-        cp "$edit" "$scratch/crates/$crate/must-fail"
-        rm -rf "target/must-fail/$crate/$(basename "$edit" .edit)"
-    done
+    mkdir "$scratch/crates/$crate/must-fail"
+    cp "tests/edits/$crate"/*.edit "$scratch/crates/$crate/must-fail"
 done
 cd "$scratch"
-status=0
-rt must-fail "$@" || status=$?
-[ ! -d target/must-fail ] || cp -R target/must-fail/. "$here/target/must-fail"
-exit $status
+rt must-fail "$@"
