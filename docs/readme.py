@@ -4,8 +4,9 @@
 A block whose head names a file is that file; a block of `sh` is run; a block of `text` behind it is what the last lines
 of its output must be; a block `quote FILE` must stand in that file, line for line. The block that names this script is
 not run again. Commands with /path/to/rslab need RSLAB.
-`--built` takes target/bin and target/staticlib of this folder instead of proving them: `rt` then does nothing, and
-blocks that need the prover itself are left out. `--in FOLDER` clones into that new folder and leaves it.
+`--built` takes target/bin and target/staticlib of this folder instead of proving them: `rt` and `tools/build.sh` then
+do nothing, and blocks that need the prover itself are left out. `--in FOLDER` clones into that new folder and leaves
+it.
 
 Status 1 if a block failed; 2 if none failed but some were left out, unless `--leave-out` allows that; else 0."""
 import argparse
@@ -26,13 +27,14 @@ PAGES = ["README.md", "docs/USING.md", "docs/TOUR.md", "CONTRIBUTING.md"]
 
 
 def take_as_built(clone, environment):
-    """Programs and library from this folder, and an `rt` that proves nothing."""
+    """Programs and library from this folder; an `rt` and a `tools/build.sh` that prove nothing."""
     for folder in ["bin", "staticlib"]:
         shutil.copytree(HERE / "target" / folder, clone / "target" / folder)
     stand_in = clone / "target" / "stand-in"
     stand_in.mkdir()
-    (stand_in / "rt").write_text("#!/bin/sh\necho taken as built: rt \"$@\"\n")
-    (stand_in / "rt").chmod(0o755)
+    for command in [stand_in / "rt", clone / "tools" / "build.sh"]:
+        command.write_text(f"#!/bin/sh\necho taken as built: {command.name} \"$@\"\n")
+        command.chmod(0o755)
     environment["PATH"] = f"{stand_in}:{environment['PATH']}"
 
 

@@ -32,8 +32,9 @@ def crates():
 
 
 def named():
-    """The names of several words that the docs and README have, as all laws do that they name but a few."""
-    pages = [HERE / "README.md", *(page for page in (HERE / "docs").glob("*.md") if page != INDEX)]
+    """The names of several words that the docs and README have; TRUSTED.md names definitions alone."""
+    made = [INDEX, HERE / "docs" / "TRUSTED.md"]
+    pages = [HERE / "README.md", *(page for page in (HERE / "docs").glob("*.md") if page not in made)]
     return {name for page in pages for name in re.findall(r"`([^`\s]+[_-][^`\s]+)`", page.read_text())}
 
 

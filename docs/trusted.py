@@ -525,10 +525,10 @@ def page(house):
     beside = every - inner - union - native
     yield HEADING
     yield wrapped(
-        f"Together the calls below reach {len(union)} definitions of {lines(union)} lines, and with the native calls of "
-        f"GUARANTEES.md's table {len(union | native)} of {lines(union | native)}. All of `specs/` has {len(every)} "
-        f"definitions of {lines(every)} lines. Of these lines {lines(inner)} are in `specs/inner/`, and {lines(beside)} others "
-        "are reached by no call; the latter are listed last.\n")
+        f"Together the calls below reach {len(union)} definitions of {lines(union)} lines, and with the native calls "
+        f"of GUARANTEES.md's table {len(union | native)} of {lines(union | native)}. All of `specs/` has {len(every)} "
+        f"definitions of {lines(every)} lines. Of these lines {lines(inner)} are in `specs/inner/`, and "
+        f"{lines(beside)} others are reached by no call; the latter are listed last.\n")
     yield "| call | definitions | lines | files |\n|---|---|---|---|"
     for name, found in [*calls, ("all of these", union)]:
         yield f"| `{name}` | {len(found)} | {lines(found)} | {len({each.file for each in found})} |"

@@ -17,7 +17,10 @@ tar -C crates --exclude='./*/out' --exclude='./*/must-fail' -cf - . | tar -C "$s
 # the named crates and those below them: crates.txt has leaves first
 needed=$(tac crates.txt | awk -F: -v named="$*" '
     BEGIN { split(named, names, " "); for (k in names) wanted[names[k]] }
-    /^[a-z]/ { split($1, head, " "); if (head[1] in wanted) { print head[1]; split($2, deps, " "); for (k in deps) wanted[deps[k]] } }')
+    /^[a-z]/ {
+        split($1, head, " ")
+        if (head[1] in wanted) { print head[1]; split($2, deps, " "); for (k in deps) wanted[deps[k]] }
+    }')
 for crate in $needed; do
     [ ! -d "crates/$crate/out" ] || cp -a "crates/$crate/out" "$scratch/crates/$crate"
 done

@@ -1,7 +1,7 @@
 #!/usr/bin/env bash
 # Everything around the library: the crate and the tool, the examples, the page in Chromium, Python. Needs the archive
-# (`tools/build.sh suontarvi`), Rust, a C compiler, gzip, and Debian's python3-numpy, python3-scipy, python3-matplotlib and
-# chromium. The last line is `all of it holds`; else the first that failed is the last.
+# (`tools/build.sh suontarvi`), Rust, a C compiler, gzip, and Debian's python3-numpy, python3-scipy, python3-matplotlib
+# and chromium. The last line is `all of it holds`; else the first that failed is the last.
 set -eu
 cd "$(dirname "$0")/.."
 python=/usr/bin/python3

@@ -3,8 +3,8 @@
 //! rounded on the way there and back. b belongs to a known x, whose entries are from 1 to 2, each in the unit of its
 //! column, C_j. Printed are the largest relative error of an entry of x, the growth (the largest entry of U over the
 //! largest of the matrix that is factored) and the pivots that were taken off the diagonal.
-//! `cargo run --release --example solve [FILE.mtx ...]`, after `tools/build.sh suontarvi`; without a file, matrices that
-//! are made here: rows shuffled, rows and columns scaled by powers of ten up to 6; the last two are of those on which
+//! `cargo run --release --example solve [FILE.mtx ...]`, after `tools/build.sh suontarvi`; without a file, matrices
+//! that are made here: rows shuffled, rows and columns scaled by powers of ten up to 6; the last two are of those on which
 //! the match has nothing to go by.
 use std::collections::BTreeSet;
 use std::error::Error;

@@ -28,8 +28,8 @@
 //! 0. The library has no `ln` and no `exp`: natural logarithms are the host's, or whole-number ones ([`whole_log`])
 //! take their place.
 //!
-//! The crate links libsuontarvi.a from `target/staticlib` of the repository, where `tools/build.sh suontarvi` writes it,
-//! or from the folder that `SUONTARVI_LIB` names. The promises are proved for the library; this crate passes slices on.
+//! The crate links libsuontarvi.a from `target/staticlib` of the repository, where `tools/build.sh suontarvi` writes
+//! it, or from the folder that `SUONTARVI_LIB` names. The promises are proved for the library; this crate passes slices on.
 //! It panics if the archive answers a number that is not in its table of refusals: then their versions differ.
 
 /// A call with its numbers, then its slices, each as pointer and length: those that it reads, then those that it
