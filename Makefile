@@ -20,7 +20,7 @@ name = suontarvi-$(version)-linux-x86_64
 shared = libsuontarvi.so.$(version)
 soname = libsuontarvi.so.$(major)
 filled = sed -e 's/@VERSION@/$(version)/g' -e 's/@MAJOR@/$(major)/g' -e 's/@MINOR@/$(minor)/g'
-# programs of the text files, if the gate has made them
+# programs of the text files, if `tools/build.sh` has made them
 programs = $(wildcard target/bin/ties target/bin/pairs)
 pages = $(addprefix $(made)/,suontarvi.1 ties.1 pairs.1)
 configs = $(addprefix $(made)/,suontarvi.pc suontarvi-config.cmake suontarvi-config-version.cmake)
