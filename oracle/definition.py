@@ -5,13 +5,14 @@
 
 Asks the oracle for the match of COUNT (400) random graphs and of a few of the
 dense rule's size, writes a crate in a temporary folder whose one proof file says
-of each graph that the definition `hungarianMatch` gives the oracle's answer, bit
+of each graph that the definition `hungarian_match` gives the oracle's answer, bit
 for bit, and has it checked. Status 1 if an equation is refused. With --spoil one
 bit of one answer is changed first: status 1 unless that equation is refused.
 """
 import os
 import random
 import re
+import shutil
 import struct
 import subprocess
 import sys
@@ -22,35 +23,35 @@ ROOT = os.path.dirname(HERE)
 SIGN = 1 << 63
 
 HEADER = """-- What the original answers on these graphs is what the definition computes.
-use mathlib.Core.Path.{_≡_, refl}
-use mathlib.Core.List.{List, [], _∷_, map}
+use mathlib.Core.Path.{◌≡◌, refl}
+use mathlib.Core.List.{List, [], ◌∷◌, map}
 use Prim.Native.Nat.{ℕ}
-use lib.Ieee.{binary64, ofBits, add, sub, lt, le, eq, ne}
-use Rattle·limits.specs.Limits.{none}
-use Rattle·hungarian.specs.Graph.{CostGraph, graphOf}
-use Rattle·hungarian.specs.Counts.{counts}
-use Rattle·hungarian.specs.Match.{Matching, hungarianMatch}
+use lib.Ieee.{binary64, of_bits, add, sub, lt, le, eq, ne}
+use Rattle.limits.specs.Limits.{none}
+use Rattle.hungarian.specs.Graph.{CostGraph, graph_of}
+use Rattle.hungarian.specs.Counts.{counts}
+use Rattle.hungarian.specs.Match.{Matching, hungarian_match}
 
 abbrev graph : ℕ → List ℕ → List ℕ → List ℕ → CostGraph
-graph n colPtr rows costs = graphOf n colPtr rows (map (ofBits binary64) costs)
+graph n col_ptr rows costs = graph_of n col_ptr rows (map (of_bits binary64) costs)
 
 -- the original has five of the seven counts: the other two are the definition's own
 abbrev answer : Matching → List ℕ → List ℕ → List ℕ → ℕ → ℕ → ℕ → ℕ → ℕ → ℕ → Matching
 answer own perm u v matched slots searches touched inner scans = record {
   perm = perm;
-  u = map (ofBits binary64) u;
-  v = map (ofBits binary64) v;
+  u = map (of_bits binary64) u;
+  v = map (of_bits binary64) v;
   matched = matched;
-  stats = counts slots searches touched inner scans (own .stats .«popped_total») (own .stats .«largest_heap»);
+  stats = counts slots searches touched inner scans own.stats.popped_total own.stats.largest_heap;
 }
 """
 
 EQUATION = """
-abbrev {name}-is : Matching
-{name}-is = hungarianMatch (graph {n} ({col_ptr}) ({rows}) ({cost}))
+abbrev {name}_is : Matching
+{name}_is = hungarian_match (graph {n} ({col_ptr}) ({rows}) ({cost}))
 
-{name} : {name}-is ≡ answer {name}-is ({perm}) ({u}) ({v}) {matched} {counts}
-unfolding hungarianMatch ofBits add sub lt le eq ne
+{name} : {name}_is ≡ answer {name}_is ({perm}) ({u}) ({v}) {matched} {counts}
+unfolding hungarian_match of_bits add sub lt le eq ne
 {name} = refl
 """
 
@@ -145,26 +146,40 @@ def equation(name, graph, answer):
     )
 
 
+def lines_of_crates(names):
+    """The lines of crates.txt of these crates and of those below them, by name."""
+    with open(ROOT + "/crates.txt", encoding="utf-8") as file:
+        lines = dict(re.findall(r"^(\w+)(?: staticlib)?:(.*)$", file.read(), re.M))
+    found = {}
+    while names:
+        name = names.pop()
+        if name in lines and name not in found:
+            found[name] = f"{name}:{lines[name]}\n"
+            names += lines[name].split()
+    return found
+
+
 def refused_by_checker(equations):
-    """The names of the equations that the checker refuses; it proves the definition's crate first."""
-    subprocess.run(["rt", "check", "hungarian"], cwd=ROOT, stdout=subprocess.DEVNULL, check=True)
-    built = ROOT + "/target/rlib"
+    """The names of the equations that the checker refuses, in a crate over a copy of the definition's crates."""
     files = {
         "src/lib.rt": "// Equations alone: proofs/Graphs.antt.\n",
         "proofs/Lib.antt": "-- Equations of the match.\npub mod Graphs\n",
         "proofs/Graphs.antt": HEADER + "".join(equations),
     }
+    below = lines_of_crates(["limits", "hungarian"])
     with tempfile.TemporaryDirectory() as folder:
+        for name in below:
+            shutil.copytree(f"{ROOT}/crates/{name}", f"{folder}/crates/{name}")
+        with open(folder + "/crates.txt", "w", encoding="utf-8") as file:
+            file.write("".join(below.values()) + "graphs: limits hungarian\n")
         for name, text in files.items():
-            path = f"{folder}/graphs/{name}"
+            path = f"{folder}/crates/graphs/{name}"
             os.makedirs(os.path.dirname(path), exist_ok=True)
             with open(path, "w", encoding="utf-8") as file:
                 file.write(text)
-        named = [word for name in ["limits", "hungarian"] for word in ["--extern", f"{name}={built}/{name}.rlib"]]
-        words = [*named, "-L", f"dependency={built}"]
-        done = subprocess.run(["rt", "check", folder + "/graphs", *words], capture_output=True, text=True)
+        done = subprocess.run(["rt", "check"], cwd=folder + "/crates/graphs", capture_output=True, text=True)
     said = done.stdout + done.stderr
-    refused = re.findall(r"error: `(graph-\d+)`", said)
+    refused = re.findall(r"error: `(graph_\d+)`", said)
     proved = done.returncode == 0 and "logic=proved" in said
     if proved == bool(refused):
         sys.exit(f"the checker ended with status {done.returncode} and said:\n{said}")
@@ -176,7 +191,7 @@ def spoil(answers):
     number = next(k for k, answer in enumerate(answers) if answer["u"])
     word = answers[number]["u"][0]
     answers[number]["u"][0] = f"{int(word, 16) ^ SIGN:016x}"
-    return f"graph-{number}"
+    return f"graph_{number}"
 
 
 def main(words):
@@ -188,7 +203,7 @@ def main(words):
     graphs += [dense_graph(50, 6), dense_graph(51, 5), dense_graph(51, 6)]
     answers = ask(graphs)
     expected = [spoil(answers)] if spoiled else []
-    names = [f"graph-{number}" for number in range(len(graphs))]
+    names = [f"graph_{number}" for number in range(len(graphs))]
     refused = refused_by_checker(map(equation, names, graphs, answers))
     for name in refused:
         print(f"{name} is refused: columns {graphs[names.index(name)]}")
