@@ -1,6 +1,7 @@
 -- `sqrt` meets its contract: the test of the length, then the root's answer by its cases.
 use Rattle.std.proofs.Common.{rules}
 use mathlib.Core.Path.{sym, ◌∙◌, subst}
+use native.Mathlib.Omega.{arith}
 use lib.Dec.{T}
 use lib.Ieee.{binary64, fits}
 use Rattle.byte_numbers.proofs.Roots.{root_double, other_length, answered, no_root_lem}
@@ -48,7 +49,7 @@ returns-in-Is c = let a = answered c.args.x
     c.args.root.now
     c.in-Is.y
     (double (entry-of-slice_known-in-Is-1 c))
-    c.if-root-ne8.false
+    (omega arith)
     (sym c.sqrt-answer.ensures.0 ∙
     c.in-Is.is) in
     (a.0, (c.put_u64.ensures ∙ a.1.0, (rw c.put_u64.ensures a.1.1.0, a.1.1.1)))
@@ -57,7 +58,7 @@ returns-in-Refused : tie.Need-returns-in-Refused
 returns-in-Refused c =
     let args = c.args in
     no_root_lem args.x args.root.now c.in-Refused.number (double (entry-of-in-Refused c))
-    c.if-root-ne8.false (sym c.sqrt-answer.ensures.0 ∙
+    (omega arith) (sym c.sqrt-answer.ensures.0 ∙
     c.in-Refused.is)
 
 pub sqrt_spec : {M : Type 1} → statement M

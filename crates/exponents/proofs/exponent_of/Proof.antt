@@ -1,4 +1,5 @@
 -- `exponent_of` meets its contract: a factor that fails a test has no exponent, since one that has passes both; of any other the bits count the whole number.
+use Rattle.std.proofs.Common.{rules}
 use mathlib.Core.Path.{◌≡◌, sym, ap, ap₂, ◌∙◌, subst}
 use mathlib.Core.Bool.{Bool, not, ◌&&◌, false≢true}
 use native.Mathlib.Omega.{arith}
@@ -53,11 +54,11 @@ overflow_cast-result : tie.Need-overflow_cast-result
 overflow_cast-result c = raised_fits (place c.before)
 
 -- the difference, as it is read
-read : (c : tie.Else-moved-factor) → let q = raised_bits (moved c.before.before) in to_z w32 (of_z w32 (pos q)) -ℤ to_z w32 134217728 ≡ pos q -ℤ pos 134217728
-read c = let p = place c.before in ap (λ (z : ℤ). z -ℤ pos 134217728) (to_z-of_z w32 (pos (raised_bits (moved c.before.before))) (raised_fits p))
+read : (c : tie.Else-not-moved) → let q = raised_bits (moved c.before) in to_z w32 (of_z w32 (pos q)) -ℤ to_z w32 134217728 ≡ pos q -ℤ pos 134217728
+read c = let p = place c in ap (λ (z : ℤ). z -ℤ pos 134217728) (to_z-of_z w32 (pos (raised_bits (moved c.before))) (raised_fits p))
 
 overflow_sub-result : tie.Need-overflow_sub-result
-overflow_sub-result c = subst (SFits w32) (sym (read c)) (lowered_fits (place c.before))
+overflow_sub-result c = subst (SFits w32) (sym (read c.before)) (lowered_fits (place c.before))
 
 returns : tie.Need-returns
 unfolding ne
@@ -66,8 +67,8 @@ returns c =
     let y = moved c.before.before in
     let p = place c.before in
     let r = pos (raised_bits y) -ℤ pos 134217728 in
-    subst (Exponent x) (sym (ap (λ (z : ℤ). to_z w32 (of_z w32 z)) (read c) ∙ to_z-of_z w32 r (lowered_fits p)))
-    (exponent_found x y (double c.before.before) p (not-false (eq (sub binary64 y middle) x) c.if-moved-factor.false))
+    subst (Exponent x) (sym (ap (λ (z : ℤ). to_z w32 (of_z w32 z)) (read c.before) ∙ to_z-of_z w32 r (lowered_fits p)))
+    (exponent_found x y (double c.before.before) p (not-false (eq (sub binary64 y middle) x) (search rules)))
 
 pub exponent_of_spec : {M : Type 1} → statement M
 exponent_of_spec =

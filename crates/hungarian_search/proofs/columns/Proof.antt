@@ -34,7 +34,7 @@ bounds-work-n c = omega (arith, c.loop-j-test.true, c.loop-j.invariant.0.size)
 augment-s-requires : tie.Need-augment-s-requires invariant-loop-j decreases-loop-j
 augment-s-requires c κs =
     let stands = c.loop-j.invariant.0 in
-    (search_asks _ _ _ _ _ _ _ _ stands c.loop-j-test.true c.if-work-n.true, stands.number)
+    (search_asks _ _ _ _ _ _ _ _ stands c.loop-j-test.true (omega arith), stands.number)
 
 overflow_step-j : tie.Need-overflow_step-j invariant-loop-j decreases-loop-j
 overflow_step-j c = omega (arith, c.loop-j.invariant.0.setting.few_columns)

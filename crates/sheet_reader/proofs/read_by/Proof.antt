@@ -119,7 +119,7 @@ returns c =
     c.if-head-ne-ACCEPTED.false
     c.get_two-n.ensures c.lengths_fit-fit.ensures
     (c.body_fault-fault.ensures ∙ body_is a.canonical a.sheet.now
-    c.get_two-n.ensures) c.if-fault-ne-ACCEPTED.false
+    c.get_two-n.ensures) (omega arith)
     c.if-not-fit.false c.fill_match.ensures c.rows_present.ensures
 
 pub read_by_spec : {M : Type 1} → statement M

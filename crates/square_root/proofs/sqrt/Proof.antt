@@ -1,5 +1,6 @@
 -- `sqrt` meets its contract: each of its ways out is a case of the definition, which is IEEE 754's answer.
 use mathlib.Core.Path.{sym, ap, ◌∙◌, subst}
+use native.Mathlib.Omega.{arith}
 use lib.Dec.{T}
 use lib.Ieee.{binary64, fits}
 use Rattle.square_root.specs.declared.Root.TheVariants.{Is}
@@ -18,7 +19,7 @@ float_to_bits-bits : tie.Need-float_to_bits-bits
 float_to_bits-bits c = above_no_nan (positive c)
 
 positive_root-requires : tie.Need-positive_root-requires
-positive_root-requires c κs = (above_bits (positive c.before) (double c.before.before), c.if-bits-lt9218868437227405312.true)
+positive_root-requires c κs = (above_bits (positive c.before) (double c.before.before), omega arith)
 
 returns-then-bits-lt9218868437227405312 : tie.Need-returns-then-bits-lt9218868437227405312
 returns-then-bits-lt9218868437227405312 c = promised c.args.x (double c.before.before.before)

@@ -1,6 +1,7 @@
 -- `store_log` meets its contract: by the slice's length, then by the answer.
 use Rattle.std.proofs.Common.{rules}
 use mathlib.Core.Path.{◌≡◌, sym, ◌∙◌, subst}
+use native.Mathlib.Omega.{arith}
 use lib.Dec.{T}
 use lib.Ieee.{binary64, fits}
 use mir.Syntax.{w32}
@@ -39,12 +40,12 @@ returns-in-Is c =
     let log = c.in-Is.log in
     let x = c.args.x in
     let is : whole_log x ≡ Is log = sym c.whole_log-answer.ensures.0 ∙ c.in-Is.is in
-    found x c.args.p.now log (to_z w32 (of_z w32 log)) (double c.before.before.before) c.if-p-ne1.false is
+    found x c.args.p.now log (to_z w32 (of_z w32 log)) (double c.before.before.before) (omega arith) is
     (to_z-of_z w32 log (in_i32 x log (double c.before.before.before) is))
 
 returns-in-Refused : tie.Need-returns-in-Refused
 returns-in-Refused c =
-    refused c.args.x c.args.p.now c.in-Refused.number c.if-p-ne1.false
+    refused c.args.x c.args.p.now c.in-Refused.number (omega arith)
     (sym c.whole_log-answer.ensures.0 ∙ c.in-Refused.is)
 
 pub store_log_spec : {M : Type 1} → statement M
