@@ -114,7 +114,8 @@ fn columns(
     let mut s = first;
     for j in 0..n {
         // region 1 has the entry of each column
-        if work[n + j] == NONE {
+        let free = work[n + j] == NONE;
+        if free {
             s = augment(n, col_ptr, row_idx, cost, u, work, pos, keys, d, j, s);
         }
     }

@@ -22,8 +22,8 @@ decreases-loop-j n col_ptr rows cost u₀ work₀ pos₀ keys₀ d₀ s₀ j₀ 
 loop-j-init : tie.Need-loop-j-init invariant-loop-j decreases-loop-j
 loop-j-init c = (c.requires, omega arith, refl, refl, refl, refl, refl)
 
-overflow_add-n : tie.Need-overflow_add-n invariant-loop-j decreases-loop-j
-overflow_add-n c = omega (arith, c.loop-j.invariant.0.setting.few_columns)
+overflow_add-free : tie.Need-overflow_add-free invariant-loop-j decreases-loop-j
+overflow_add-free c = omega (arith, c.loop-j.invariant.0.setting.few_columns)
 
 offset_bounds-work-n : tie.Need-offset_bounds-work-n invariant-loop-j decreases-loop-j
 offset_bounds-work-n c = omega (arith, c.loop-j.invariant.0.setting.few_columns)
@@ -48,7 +48,7 @@ loop-j-preserved c =
     let I = c.loop-j.invariant in
     let below = c.loop-j-test.true in
     ⊎_elim (λ x. rw (x.u-is, x.work-is, x.pos-is, x.keys-is, x.d-is, x.s-is) (
-      column_searched _ _ _ _ _ _ _ _ I.0 below x.if-work-n.true _ _ _ _ _ _ x.augment-s.auto.work x.augment-s.auto.pos
+      column_searched _ _ _ _ _ _ _ _ I.0 below x.if-free.true _ _ _ _ _ _ x.augment-s.auto.work x.augment-s.auto.pos
           x.augment-s.auto.keys x.augment-s.ensures,
       omega arith,
       x.augment-s.auto.u ∙ I.2,
@@ -57,14 +57,14 @@ loop-j-preserved c =
       x.augment-s.auto.keys ∙ I.5,
       x.augment-s.auto.d ∙ I.6,
     )) (λ x. rw (x.u-is, x.work-is, x.pos-is, x.keys-is, x.d-is, x.s-is) (
-      column_passes _ _ _ _ _ _ _ _ I.0 below x.if-work-n.false,
+      column_passes _ _ _ _ _ _ _ _ I.0 below x.if-free.false,
       omega arith,
       I.2,
       I.3,
       I.4,
       I.5,
       I.6,
-    )) c.if-work-n.branch-raw
+    )) c.if-free.branch-raw
 
 shape_of-u : tie.Need-shape_of-u invariant-loop-j decreases-loop-j
 shape_of-u c = c.loop-j.invariant.2
@@ -93,7 +93,7 @@ columns_spec =
     invariant-loop-j
     decreases-loop-j
     loop-j-init
-    overflow_add-n
+    overflow_add-free
     offset_bounds-work-n
     bounds-work-n
     augment-s-requires
