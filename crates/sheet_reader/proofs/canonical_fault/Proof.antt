@@ -1,5 +1,6 @@
 -- `canonical_fault` meets its contract: the first of its two faults.
 use Rattle.std.proofs.Common.{rules}
+use native.Mathlib.Omega.{arith}
 use Rattle.sheet_reader.proofs.Tested.{needless_first, rising_second}
 use Rattle.sheet_reader.proofs.canonical_fault.Statement.{statement}
 use Rattle.sheet_reader.proofs.canonical_fault.Tie as tie
@@ -14,7 +15,7 @@ returns-then-needless-ne-ACCEPTED : tie.Need-returns-then-needless-ne-ACCEPTED
 returns-then-needless-ne-ACCEPTED c = needless_first _ _ c.needless_fault-needless.ensures c.if-needless-ne-ACCEPTED.true
 
 returns : tie.Need-returns
-returns c = rising_second _ _ c.needless_fault-needless.ensures c.if-needless-ne-ACCEPTED.false c.rising_fault-rising.ensures
+returns c = rising_second _ _ c.needless_fault-needless.ensures (omega arith) c.rising_fault-rising.ensures
 
 pub canonical_fault_spec : {M : Type 1} → statement M
 canonical_fault_spec =
