@@ -1,70 +1,70 @@
-// The numbers of SPECIFICATION 3.4's table of refusals, in one place. Every crate that refuses answers by these names;
-// specs/Refusal.antt has the same names for contracts.
+// The refusals of SPECIFICATION 3.4's table. Every crate that refuses answers one of these; specs/Refusal.antt has the
+// number of each and when it is answered.
 #![tactic(auto)]
 
+ghost use Rattle.std.specs.Prelude.{◌≡◌};
+ghost use Rattle.refusal.specs.Number.{number, number_of};
+
+// What a call answers over C where it is accepted.
 pub const ACCEPTED: u32 = 0;
 
-// The library's refusals; SPECIFICATION 3.5 has the order of the tests.
-pub const TOO_MANY_COLUMNS: u32 = 1;
+// Why a call is refused.
+#[derive(Clone, Copy, Debug, PartialEq, Eq)]
+pub enum Refusal {
+    // The library's refusals; SPECIFICATION 3.5 has the order of the tests.
+    TooManyColumns = 1,
+    TooManyEntries = 2,
+    SliceLength = 3,
+    ColumnPointers = 4,
+    IndexRange = 5,
+    UpperTriangle = 6,
+    RowsNotRising = 7,
+    CostRange = 8,
+    ValueNotFinite = 9,
+    MatchingRange = 10,
+    NoRoot = 11,
+    ExternalChoice = 12,
 
-pub const TOO_MANY_ENTRIES: u32 = 2;
+    // The programs' refusals.
+    Banner = 20,
+    SizeLine = 21,
+    InputLimit = 22,
+    EntryLine = 23,
+    EntryCount = 24,
+    RepeatedPair = 25,
+    UpperEntry = 26,
 
-pub const SLICE_LENGTH: u32 = 3;
+    // The refusals of a lent pairing.
+    IncompleteMatching = 30,
+    InfeasibleDuals = 31,
+    LoosePair = 32,
+    NotLargest = 33,
 
-pub const COLUMN_POINTERS: u32 = 4;
+    // The refusals of sheet files, and (43 and 46) of exponents.
+    SheetCut = 40,
+    SheetIndex = 41,
+    PatchTwice = 42,
+    ExponentRange = 43,
+    PatchOrder = 44,
+    NeedlessField = 45,
+    ValueNotNormal = 46,
+}
 
-pub const INDEX_RANGE: u32 = 5;
+// The number of the table.
+impl From<Refusal> for u32 {
+    ghost from_gives = { λ refusal n. n ≡ number refusal };
 
-pub const UPPER_TRIANGLE: u32 = 6;
+    fn from(refusal: Refusal) -> u32 {
+        refusal as u32
+    }
+}
 
-pub const ROWS_NOT_RISING: u32 = 7;
-
-pub const COST_RANGE: u32 = 8;
-
-pub const VALUE_NOT_FINITE: u32 = 9;
-
-pub const MATCHING_RANGE: u32 = 10;
-
-pub const NO_ROOT: u32 = 11;
-
-pub const EXTERNAL_CHOICE: u32 = 12;
-
-// The programs' refusals.
-pub const BANNER: u32 = 20;
-
-pub const SIZE_LINE: u32 = 21;
-
-pub const INPUT_LIMIT: u32 = 22;
-
-pub const ENTRY_LINE: u32 = 23;
-
-pub const ENTRY_COUNT: u32 = 24;
-
-pub const REPEATED_PAIR: u32 = 25;
-
-pub const UPPER_ENTRY: u32 = 26;
-
-// The refusals of a lent pairing.
-pub const INCOMPLETE_MATCHING: u32 = 30;
-
-pub const INFEASIBLE_DUALS: u32 = 31;
-
-pub const LOOSE_PAIR: u32 = 32;
-
-pub const NOT_LARGEST: u32 = 33;
-
-// The refusals of sheet files.
-pub const SHEET_CUT: u32 = 40;
-
-pub const SHEET_INDEX: u32 = 41;
-
-pub const PATCH_TWICE: u32 = 42;
-
-pub const PATCH_ORDER: u32 = 44;
-
-pub const NEEDLESS_FIELD: u32 = 45;
-
-// The refusals of exponents.
-pub const EXPONENT_RANGE: u32 = 43;
-
-pub const VALUE_NOT_NORMAL: u32 = 46;
+// What a call answers over C: 0 where it is accepted, else the number of its refusal.
+pub fn answer(outcome: Result<(), Refusal>) -> u32
+    ensures { result ≡ number_of outcome }
+{
+    match outcome {
+        Ok(()) => ACCEPTED,
+        Err(refusal) => u32::from(refusal),
+    }
+}

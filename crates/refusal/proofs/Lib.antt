@@ -1,0 +1,2 @@
+-- Laws of the numbers of refusals, which the proofs of calls cite.
+pub mod Numbers
