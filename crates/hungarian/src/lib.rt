@@ -4,8 +4,8 @@
 #![tactic(auto)]
 
 ghost use Rattle.std.specs.Prelude.{◌≡◌, ◌+◌, ◌<◌, ◌^◌};
-ghost use Rattle.hungarian.specs.Counts.{no_counts, heap_made, search_begun, search_ended, inner_step, column_scanned};
-ghost use Rattle.hungarian.specs.Counts.{rows_popped, larger as largerOf, heap_seen};
+ghost use Rattle.hungarian.specs.Counts.{heap_made, search_begun, search_ended, inner_step, column_scanned};
+ghost use Rattle.hungarian.specs.Counts.{rows_popped, heap_seen};
 
 // Farther than any row: half of the largest double.
 pub const RINF: f64 = 8.988465674311579e307;
@@ -31,16 +31,9 @@ pub const POPPED: usize = 7;
 // The rows of the heap by place, the last n + 1 words. Regions 8 to 10 are not used.
 pub const HEAP: usize = 11;
 
-// The larger of two sizes.
-pub fn larger(a: u64, b: u64) -> u64
-    ensures { result ≡ largerOf a b }
-{
-    if a < b { b } else { a }
-}
-
-// The work counters: the Rust's five in its order, the rows popped and the largest size of a heap. A step takes the
-// counts and returns them.
-#[derive(Clone, Copy)]
+// The work counters: the Rust's five in its order, the rows popped and the largest size of a heap. The default is no
+// work yet. A step takes the counts and returns them.
+#[derive(Clone, Copy, Default)]
 pub struct HungarianStats {
     pub heap_init_slots: u64,
     pub augment_searches: u64,
@@ -59,21 +52,6 @@ pub struct Counts {
 }
 
 impl HungarianStats {
-    // No work yet.
-    pub fn new() -> Self
-        ensures { result ≡ no_counts }
-    {
-        Self {
-            heap_init_slots: 0,
-            augment_searches: 0,
-            touched_total: 0,
-            phase3_inner_iters: 0,
-            main_loop_edge_scans: 0,
-            popped_total: 0,
-            largest_heap: 0,
-        }
-    }
-
     // The heap is made, with a slot for each of n rows.
     pub fn heap_made(mut self, n: u64) -> Self
         requires { self.heap_init_slots + n < 2 ^ 64 }
@@ -133,7 +111,7 @@ impl HungarianStats {
     pub fn heap_seen(mut self, h: u64) -> Self
         ensures { result ≡ heap_seen h self }
     {
-        self.largest_heap = larger(self.largest_heap, h);
+        self.largest_heap = self.largest_heap.max(h);
         self
     }
 }

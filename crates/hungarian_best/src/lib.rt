@@ -58,8 +58,8 @@ pub fn best_of(
         let replaces = at_limit | (free & !kept_free);
         if !(best.value <= value) | (!(best.value < value) & replaces) {
             best = Best {
-                value: value,
-                row: row,
+                value,
+                row,
                 place: k,
             };
             kept_free = free;

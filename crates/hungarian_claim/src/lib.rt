@@ -20,13 +20,8 @@ fn clear(n: usize, u: &mut [f64], work: &mut [u32])
     requires fact_2 { length u.old ≡ n }
     ensures { Cleared n u.new work.new }
 {
-    let least = LEAST * n;
-    for i in 0..n {
-        u[i] = RINF;
-        work[i] = NONE;
-        work[n + i] = NONE;
-        work[least + i] = NONE;
-    }
+    slices::fill(u, RINF);
+    slices::fill(&mut work[..(LEAST + 1) * n], NONE);
 }
 
 // The smaller of two costs; the first of equal ones, since a zero has two signs.

@@ -20,11 +20,8 @@ fn prepare(n: usize, col_ptr: &[u32], work: &mut [u32], fwork: &mut [f64])
     requires fact_3 { length fwork.old ≡ 2 * n }
     ensures { Prepared n col_ptr.now work.old work.new fwork.new }
 {
-    let from = FROM * n;
-    for j in 0..n {
-        work[from + j] = col_ptr[j];
-        fwork[n + j] = 0.0;
-    }
+    work[FROM * n..(FROM + 1) * n].copy_from_slice(&col_ptr[..n]);
+    slices::fill(&mut fwork[n..], 0.0);
 }
 
 // Phase 3: each free column that is not empty takes the row of its best entry, if that is free; else a length-2 swap is
@@ -86,7 +83,7 @@ fn improve_assign(
     }
     Counts {
         matched: num,
-        stats: stats,
+        stats,
     }
 }
 
@@ -94,9 +91,9 @@ fn improve_assign(
 fn zero_empty_rows(u: &mut [f64])
     ensures { u.new ≡ empty_rows_zeroed u.old }
 {
-    for i in 0..u.len() {
-        if u[i] >= RINF {
-            u[i] = 0.0;
+    for x in u {
+        if *x >= RINF {
+            *x = 0.0;
         }
     }
 }
@@ -117,12 +114,12 @@ pub fn start(
 {
     hungarian_claim::row_minima(n, col_ptr, row_idx, cost, u, work);
     let num = hungarian_claim::claim_columns(n, col_ptr, work);
-    let stats = HungarianStats::new();
+    let stats = HungarianStats::default();
     if num == n {
         zero_empty_rows(u);
         return Counts {
             matched: num,
-            stats: stats,
+            stats,
         };
     }
     prepare(n, col_ptr, work, fwork);

@@ -1,6 +1,7 @@
 -- SPECIFICATION 5.1: What `hungarian_match` answers, and what it leaves in every lent slice.
-use Rattle.std.specs.Prelude.{◌≡◌, Bool, ◌&&◌, List, ◌∷◌, ℕ, ◌+◌, ◌*◌, eqb, length, replicate, Float}
+use Rattle.std.specs.Prelude.{◌≡◌, Bool, ◌&&◌, List, ◌∷◌, ℕ, ◌+◌, ◌*◌, eqb, length, replicate, Result, Ok, Err, Float}
 use Rattle.refusal.specs.Refusal.{accepted}
+use Rattle.refusal.specs.Number.{fault_of}
 use Rattle.refusal.specs.Listed.{OneOf, graph_numbers}
 use Rattle.slices.specs.Outcome.{Outcome, outcome_is, refusing}
 use Rattle.float64.specs.Constants.{zero as fzero}
@@ -11,8 +12,6 @@ use Rattle.hungarian.specs.Match.{Matching, hungarian_match}
 use Rattle.hungarian.specs.Optimal.{LargestMatch, Optimal, WholeCosts}
 use Rattle.hungarian.specs.Work.{Work}
 use Rattle.hungarian.specs.declared.Counts.{Counts}
-use Rattle.hungarian_match.specs.declared.Answer.{Answer}
-use Rattle.hungarian_match.specs.declared.Answer.TheVariants.{Matched, Refused}
 
 -- what is lent for the result, and the work
 pub record Slices : Type 0 where
@@ -50,54 +49,49 @@ counts_of m = m.matched ∷ count_list m.stats
 abbrev pub answer_length : ℕ
 answer_length = 8
 
--- ---- SPECIFICATION's number and values of each case of the answer
--- 0 for a match, else the refusal
-abbrev pub number_of : Answer → ℕ
-number_of (Matched m) = accepted
-number_of (Refused number) = number
-
+-- ---- SPECIFICATION's number and values of each case of the answer: the counts of a match, or the number of a refusal
 -- what a list for the counts then holds: the counts of a match, or what it held if there is none
-abbrev pub counts_left : Answer → List ℕ → List ℕ
-counts_left (Matched m) old = counts_of m
-counts_left (Refused number) old = old
+abbrev pub counts_left : Result Counts ℕ → List ℕ → List ℕ
+counts_left (Ok m) old = counts_of m
+counts_left (Err number) old = old
 
 -- ---- what the call does
 -- perm, u and v are the match's, the work is zero
-unfoldable pub finished : CostGraph → Slices → Outcome Answer Slices
+unfoldable pub finished : CostGraph → Slices → Outcome (Result Counts ℕ) Slices
 finished g s =
-    outcome_is (Matched (match_counts (hungarian_match g)))
+    outcome_is (Ok (match_counts (hungarian_match g)))
     (slices (hungarian_match g).perm (hungarian_match g).u (hungarian_match g).v
     (replicate (length s.work) 0) (replicate (length s.fwork) fzero))
 
 -- what `hungarian_match` does
-unfoldable pub match_outcome : CostGraph → Slices → Outcome Answer Slices
+unfoldable pub match_outcome : CostGraph → Slices → Outcome (Result Counts ℕ) Slices
 unfolding finished match_lengths
-match_outcome g s = refusing Refused (match_fault g s) (finished g s) s
+match_outcome g s = refusing Err (match_fault g s) (finished g s) s
 
 -- what an accepted call leaves, as a match of the graph
 abbrev pub match_after : Counts → Slices → Matching
 match_after m s = record { perm = s.perm; u = s.u; v = s.v; matched = m.matched; stats = m.stats }
 
 -- the number is that of the first fault, and the counts of an accepted graph are those of its match
-pub record Answered (g : CostGraph) (s : Slices) (answer : Answer) : Type 0 where
-  pub number : number_of answer ≡ match_fault g s
-  pub values : number_of answer ≡ accepted → (old : List ℕ)
+pub record Answered (g : CostGraph) (s : Slices) (answer : Result Counts ℕ) : Type 0 where
+  pub number : fault_of answer ≡ match_fault g s
+  pub values : fault_of answer ≡ accepted → (old : List ℕ)
       → counts_left answer old ≡ counts_of (match_counts (hungarian_match g))
 
 -- for any accepted costs perm's pairs are entries and a largest matching, complete if the graph has a complete one
-abbrev pub Matches : CostGraph → Answer → Slices → Type 0
-Matches g answer after = (m : Counts) → answer ≡ Matched m → LargestMatch g.pattern (match_after m after)
+abbrev pub Matches : CostGraph → Result Counts ℕ → Slices → Type 0
+Matches g answer after = (m : Counts) → answer ≡ Ok m → LargestMatch g.pattern (match_after m after)
 
 -- demand 3 for what the call leaves: with whole costs also least total, with duals that show it
-abbrev pub Promised : CostGraph → Answer → Slices → Type 0
-Promised g answer after = (m : Counts) → answer ≡ Matched m → WholeCosts g → Optimal g (match_after m after)
+abbrev pub Promised : CostGraph → Result Counts ℕ → Slices → Type 0
+Promised g answer after = (m : Counts) → answer ≡ Ok m → WholeCosts g → Optimal g (match_after m after)
 
 -- the counts are bounded
-abbrev pub Counted : CostGraph → Answer → Type 0
-Counted g answer = (m : Counts) → answer ≡ Matched m → Work g m.stats
+abbrev pub Counted : CostGraph → Result Counts ℕ → Type 0
+Counted g answer = (m : Counts) → answer ≡ Ok m → Work g m.stats
 
 -- ---- all that `hungarian_match` promises, of the graph, what was lent, its answer r and what is left
-pub record Promises (g : CostGraph) (before : Slices) (r : Answer) (after : Slices) : Type 0 where
+pub record Promises (g : CostGraph) (before : Slices) (r : Result Counts ℕ) (after : Slices) : Type 0 where
   -- the answer and every slice left are the definition's
   pub outcome : outcome_is r after ≡ match_outcome g before
   -- the number is that of the first fault, and the counts of an accepted graph are those of its match
@@ -109,4 +103,4 @@ pub record Promises (g : CostGraph) (before : Slices) (r : Answer) (after : Slic
   -- the counts are bounded
   pub counts : Counted g r
   -- the number is one of the call's list
-  pub number : OneOf graph_numbers (number_of r)
+  pub number : OneOf graph_numbers (fault_of r)

@@ -2,22 +2,17 @@
 #![tactic(auto)]
 
 ghost use Rattle.std.specs.Prelude.{◌≡◌, ◌+◌, ◌*◌, ◌^◌, ◌<◌, length};
+ghost use Rattle.refusal.specs.Number.{numbered};
 ghost use Rattle.hungarian.specs.Graph.{graph_of};
 ghost use Rattle.hungarian_init.specs.inner.Steps.{Startable};
 ghost use Rattle.hungarian_match.specs.inner.Steps.{PairedUp, Solvable, Solved};
 ghost use Rattle.hungarian_match.specs.Call.{slices, counts_of, answer_length, match_lengths, Promises};
 
 use hungarian::Counts;
+use refusal::Refusal;
 
 mod finish;
 pub mod graph_test;
-
-// What `hungarian_match` answers: the counts of the match, or the refusal.
-#[derive(Clone, Copy)]
-pub enum Answer {
-    Matched(Counts),
-    Refused(u32),
-}
 
 // The length of the answer: the matched count and the seven counts.
 pub const ANSWER_LENGTH: usize = 8;
@@ -28,14 +23,16 @@ pub fn put_counts(answer: &mut [u64], found: Counts)
     ensures { answer.new ≡ counts_of found }
 {
     let stats = found.stats;
-    answer[0] = found.matched as u64;
-    answer[1] = stats.heap_init_slots;
-    answer[2] = stats.augment_searches;
-    answer[3] = stats.touched_total;
-    answer[4] = stats.phase3_inner_iters;
-    answer[5] = stats.main_loop_edge_scans;
-    answer[6] = stats.popped_total;
-    answer[7] = stats.largest_heap;
+    answer.copy_from_slice(&[
+        found.matched as u64,
+        stats.heap_init_slots,
+        stats.augment_searches,
+        stats.touched_total,
+        stats.phase3_inner_iters,
+        stats.main_loop_edge_scans,
+        stats.popped_total,
+        stats.largest_heap,
+    ]);
 }
 
 // Whether every slice has its length.
@@ -114,12 +111,12 @@ pub fn solve(
     let found = pair_up(n, col_ptr, row_idx, cost, perm, u, v, work, fwork);
     finish::finish_columns(n, row_idx, cost, u, work, perm, v);
     finish::finish_rows(n, work, u);
-    slices::clear(work);
+    slices::fill(work, 0);
     slices::fill(fwork, 0.0);
     found
 }
 
-// The match of a cost graph by columns. perm gets the row of each column, u and v the duals of rows and columns.
+// The match of a cost graph by columns: its counts, or the refusal. perm gets the row of each column, u and v the duals of rows and columns.
 pub fn hungarian_match(
     n: u32,
     col_ptr: &[u32],
@@ -130,19 +127,15 @@ pub fn hungarian_match(
     v: &mut [f64],
     work: &mut [u32],
     fwork: &mut [f64],
-) -> Answer
+) -> Result<Counts, Refusal>
     ensures { let g = graph_of n col_ptr.now row_idx.now cost.now in
         let before =
         slices perm.old u.old v.old work.old fwork.old in
         let after = slices perm.new u.new v.new work.new fwork.new in
-        Promises g before result after }
+        Promises g before (numbered result) after }
 {
     let size = n as usize;
     let lengths = lengths_fit(size, col_ptr, row_idx, cost, perm, u, v, work, fwork);
-    let fault = graph_test::graph_fault(n, col_ptr, row_idx, cost, lengths);
-    if fault != refusal::ACCEPTED {
-        return Answer::Refused(fault);
-    }
-    let found = solve(size, col_ptr, row_idx, cost, perm, u, v, work, fwork);
-    Answer::Matched(found)
+    graph_test::graph_fault(n, col_ptr, row_idx, cost, lengths)?;
+    Ok(solve(size, col_ptr, row_idx, cost, perm, u, v, work, fwork))
 }

@@ -16,7 +16,7 @@ ghost use Rattle.hungarian_path.specs.inner.StepsGrow.{ScanReady, Scans, PopRead
 ghost use Rattle.hungarian_path.specs.inner.StepsGrow.{Growing, Extensible, Extends, Grows};
 ghost use Rattle.hungarian_path.specs.inner.StepsSearch.{found_of, SearchReady, Finds};
 ghost use Rattle.hungarian_path.specs.inner.StepsFlip.{WalkReady, Walks, Flips};
-ghost use Rattle.hungarian_path.specs.inner.StepsArrays.{ResetReady, Resets, Fills, Prepared};
+ghost use Rattle.hungarian_path.specs.inner.StepsArrays.{ResetReady, Resets, Prepared};
 ghost use Rattle.hungarian_path.specs.inner.Steps.{TouchReady, Touches, RelaxReady, Relaxes, EdgeReady, Passes};
 
 use hungarian::{HEAP, HungarianStats, OUT, PARENT, POPPED, RINF, TOUCHED};
@@ -56,18 +56,19 @@ struct Progress {
     stats: HungarianStats,
 }
 
-// What a search ends with: a path, its cost, its last entry and that entry's column, or no path.
+// A path to a free row: its cost, its last entry and that entry's column.
 #[derive(Clone, Copy)]
-pub enum SearchEnd {
-    Path(f64, usize, usize),
-    NoPath,
+pub struct Path {
+    pub cost: f64,
+    pub entry: usize,
+    pub column: usize,
 }
 
-// A search that has ended: its result, how many rows it touched and popped, the most rows in its heap at once, and the
-// counts.
+// A search that has ended: its path, if it found one, how many rows it touched and popped, the most rows in its heap at
+// once, and the counts.
 #[derive(Clone, Copy)]
 pub struct Ending {
-    pub end: SearchEnd,
+    pub end: Option<Path>,
     pub touched: usize,
     pub popped: usize,
     pub peak: u64,
@@ -95,13 +96,10 @@ fn touch_row(n: usize, work: &mut [u32], pos: &mut [u32], frontier: Frontier, i:
     work[TOUCHED * n + touched] = i as u32;
     pos[i] = len as u32;
     Frontier {
-        csp: frontier.csp,
-        isp: frontier.isp,
-        jsp: frontier.jsp,
-        len: len,
+        len,
         touched: touched + 1,
-        popped: frontier.popped,
-        peak: hungarian::larger(frontier.peak, len as u64),
+        peak: frontier.peak.max(len as u64),
+        ..frontier
     }
 }
 
@@ -162,10 +160,7 @@ fn edge(
             csp: x,
             isp: k,
             jsp: j,
-            len: frontier.len,
-            touched: frontier.touched,
-            popped: frontier.popped,
-            peak: frontier.peak,
+            ..frontier
         };
     }
     relax(n, work, pos, keys, d, frontier, i, x, j, k)
@@ -201,13 +196,12 @@ fn scan(
         keys.new d.old d.new frontier result root v j }
 {
     let end = col_ptr[j + 1] as usize;
-    let mut k = col_ptr[j] as usize;
+    let start = col_ptr[j] as usize;
     let mut t = frontier;
-    while k < end {
+    for k in start..end {
         let i = row_idx[k] as usize;
         let x = entry_distance(root, v, cost[k], u[i]);
         t = edge(n, work, pos, keys, d, t, i, x, j, k);
-        k += 1;
     }
     t
 }
@@ -231,13 +225,9 @@ fn pop_nearest(
     work[POPPED * n + popped] = q as u32;
     pos[q] = NONE;
     Frontier {
-        csp: frontier.csp,
-        isp: frontier.isp,
-        jsp: frontier.jsp,
         len: len - 1,
-        touched: frontier.touched,
         popped: popped + 1,
-        peak: frontier.peak,
+        ..frontier
     }
 }
 
@@ -337,15 +327,16 @@ fn grow(
 }
 
 // The result of a search whose best path this is: no path if its cost is RINF.
-fn ended(frontier: Frontier) -> SearchEnd
+fn ended(frontier: Frontier) -> Option<Path>
     ensures { found_of result ≡ cond (lt frontier.csp rinf) (path frontier.csp frontier.isp frontier.jsp)
         no_path }
 {
-    if frontier.csp < RINF {
-        SearchEnd::Path(frontier.csp, frontier.isp, frontier.jsp)
-    } else {
-        SearchEnd::NoPath
-    }
+    let path = Path {
+        cost: frontier.csp,
+        entry: frontier.isp,
+        column: frontier.jsp,
+    };
+    (frontier.csp < RINF).then_some(path)
 }
 
 // The search from the free column j.
@@ -385,7 +376,7 @@ pub fn search(
     let end = ended(best);
     let scans = grown.stats;
     Ending {
-        end: end,
+        end,
         touched: best.touched,
         popped: best.popped,
         peak: best.peak,
@@ -399,8 +390,7 @@ fn walk(n: usize, row_idx: &[u32], work: &mut [u32], j: usize, most: usize)
     ensures { Walks n row_idx.now work.old work.new j most }
 {
     let mut column = j;
-    let mut left = most;
-    while left > 0 {
+    for _ in 0..most {
         if work[PARENT * n + column] == NONE {
             break;
         }
@@ -410,7 +400,6 @@ fn walk(n: usize, row_idx: &[u32], work: &mut [u32], j: usize, most: usize)
         work[row] = before as u32;
         work[n + before] = entry as u32;
         column = before;
-        left -= 1;
     }
 }
 
@@ -433,25 +422,11 @@ pub fn reset(n: usize, work: &[u32], pos: &mut [u32], d: &mut [f64], touched: us
     ensures { Resets n work.now pos.old pos.new d.old d.new
         touched }
 {
-    let mut p: usize = 0;
-    while p < touched {
-        let i = work[TOUCHED * n + p] as usize;
+    let from = TOUCHED * n;
+    for row in &work[from..from + touched] {
+        let i = *row as usize;
         d[i] = RINF;
         pos[i] = 0;
-        p += 1;
-    }
-}
-
-// One value at the words from `from` up to `to`.
-fn fill(w: &mut [u32], from: usize, to: usize, value: u32)
-    requires fact_1 { from ≤ to }
-    requires fact_2 { to ≤ length w.old }
-    ensures { Fills w.old w.new from to value }
-{
-    let mut p = from;
-    while p < to {
-        w[p] = value;
-        p += 1;
     }
 }
 
@@ -463,8 +438,8 @@ pub fn prepare(n: usize, work: &mut [u32], pos: &mut [u32], d: &mut [f64])
     requires fact_4 { n ≤ max_columns }
     ensures { Prepared n work.old work.new pos.new d.new }
 {
-    fill(work, PARENT * n, TOUCHED * n, NONE);
-    fill(work, HEAP * n, 12 * n + 1, 0);
-    slices::clear(pos);
+    slices::fill(&mut work[PARENT * n..TOUCHED * n], NONE);
+    slices::fill(&mut work[HEAP * n..], 0);
+    slices::fill(pos, 0);
     slices::fill(d, RINF); // no row is reached
 }

@@ -11,7 +11,7 @@ ghost use Rattle.hungarian_path.specs.inner.StepsSearch.{found_of, SearchReady};
 ghost use Rattle.hungarian_search.specs.inner.Steps.{ApplyReady, Applies, Augments, Standing, Started, Searched};
 
 use hungarian::{Counts, HungarianStats, POPPED};
-use hungarian_path::SearchEnd;
+use hungarian_path::Path;
 use limits::NONE;
 
 // The duals of the popped rows gain their distance minus the path's cost.
@@ -23,11 +23,10 @@ fn raise(n: usize, u: &mut [f64], work: &[u32], d: &[f64], popped: usize, csp: f
     ensures { u.new
         ≡ raise d.now csp (take popped (region popped_at n work.now)) u.old }
 {
-    let mut p: usize = 0;
-    while p < popped {
-        let i = work[POPPED * n + p] as usize;
+    let from = POPPED * n;
+    for row in &work[from..from + popped] {
+        let i = *row as usize;
         u[i] = u[i] + (d[i] - csp);
-        p += 1;
     }
 }
 
@@ -39,7 +38,7 @@ fn apply_path(
     u: &mut [f64],
     work: &mut [u32],
     d: &[f64],
-    end: SearchEnd,
+    end: Option<Path>,
     popped: usize,
     num: usize,
 ) -> usize
@@ -47,11 +46,11 @@ fn apply_path(
     ensures { Applies n row_idx.now u.old u.new work.old work.new
         d.now (found_of end) popped num result }
 {
-    let SearchEnd::Path(csp, k, j) = end else {
+    let Some(path) = end else {
         return num;
     };
-    hungarian_path::flip(n, row_idx, work, k, j, num);
-    raise(n, u, work, d, popped, csp);
+    hungarian_path::flip(n, row_idx, work, path.entry, path.column, num);
+    raise(n, u, work, d, popped, path.cost);
     num + 1
 }
 

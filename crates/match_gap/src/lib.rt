@@ -16,7 +16,6 @@ ghost use Rattle.match_gap.specs.Call.{Promises};
 ghost use Rattle.match_gap.specs.inner.Scans.{digits_of, scale_of, Measured, Shifted, InSteps, StepLimit};
 ghost use Rattle.match_gap.specs.inner.Scans.{Scannable, Scanned, Measurable};
 
-use hungarian::larger;
 use hungarian_match::graph_test;
 use match_check::{lengths_fit, pairing_fits};
 
@@ -184,8 +183,8 @@ fn scan_column(
     let mut lack: u64 = 0;
     for k in from..to {
         let i = row_idx[k] as usize;
-        excess = larger(excess, excess_of(u[i], cost[k], high, unit));
-        lack = larger(lack, pair_lack(row_idx[k] == row, u[i], cost[k], low, unit));
+        excess = excess.max(excess_of(u[i], cost[k], high, unit));
+        lack = lack.max(pair_lack(row_idx[k] == row, u[i], cost[k], low, unit));
     }
     Column { excess, lack }
 }

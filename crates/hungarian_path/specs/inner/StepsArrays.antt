@@ -18,10 +18,6 @@ pub record Resets (n : ℕ) (w pos pos' : List ℕ) (d d' : List Float) (touched
   pub places : pos' ≡ restore 0 (take touched (region touched_at n w)) pos
 
 -- ---- before the first search
-pub record Fills (w w' : List ℕ) (from to value : ℕ) : Type 0 where
-  pub inside : (p : ℕ) → from ≤ p → p < to → get_or w' p 0 ≡ value
-  pub outside : (p : ℕ) → (p < from) ⊎ (to ≤ p) → get_or w' p 0 ≡ get_or w p 0
-
 pub record Prepared (n : ℕ) (w w' pos' : List ℕ) (d' : List Float) : Type 0 where
   pub distances : d' ≡ replicate n rinf
   pub places : pos' ≡ replicate n 0

@@ -1,5 +1,5 @@
 -- What the search from a free column requires and promises: the state between searches, and the tree found from it.
-use Rattle.std.specs.Prelude.{◌≡◌, List, [], ℕ, ◌+◌, ◌*◌, ◌≤◌, ◌<◌, length, Float}
+use Rattle.std.specs.Prelude.{◌≡◌, Option, Some, None, List, [], ℕ, ◌+◌, ◌*◌, ◌≤◌, ◌<◌, length, Float}
 use Rattle.limits.specs.Limits.{none}
 use Rattle.float64.specs.Number.{Number, units_per_one}
 use Rattle.hungarian.specs.declared.HungarianStats.{HungarianStats}
@@ -11,8 +11,7 @@ use Rattle.cost_limit.specs.Range.{cost_limit}
 use Rattle.hungarian.specs.inner.Setting.{Setting}
 use Rattle.hungarian.specs.inner.Between.{at}
 use Rattle.hungarian.specs.inner.Runs.{Runs}
-use Rattle.hungarian_path.specs.declared.SearchEnd.{SearchEnd}
-use Rattle.hungarian_path.specs.declared.SearchEnd.TheVariants.{Path, NoPath}
+use Rattle.hungarian_path.specs.declared.Path.{Path}
 use Rattle.hungarian_path.specs.declared.Ending.{Ending}
 use Rattle.hungarian_path.specs.inner.Views.{heap_in, tree_of, pairs_of, Flagged}
 
@@ -43,9 +42,9 @@ pub record SearchReady (g : CostGraph) (u : List Float) (w pos : List ℕ) (keys
 
 -- ---- the search's answer
 -- what each case of the code's answer stands for
-abbrev pub found_of : SearchEnd → Found
-found_of (Path c k j) = path c k j
-found_of NoPath = no_path
+abbrev pub found_of : Option Path → Found
+found_of (Some p) = path p.cost p.entry p.column
+found_of None = no_path
 
 -- the tree that memory holds at the end, where t's are the best path and the heap's length, which memory does not hold
 abbrev pub left_of : ℕ → (w pos : List ℕ) → List Float → Ending → Tree → Tree
