@@ -2,10 +2,13 @@
 // by 65,536 and rounded down.
 #![tactic(auto)]
 
-ghost use Rattle.std.specs.Prelude.{◌≡◌, map, length};
+ghost use Rattle.std.specs.Prelude.{◌≡◌, ◌<◌, ℕ, List, Float, map, length};
+ghost use Rattle.refusal.specs.Number.{number_of};
 ghost use Rattle.exponents.specs.Exponent.{exponent_of};
-ghost use Rattle.exponents.specs.Call.{duals, differences, factors_fault, Promises};
-ghost use Rattle.exponents.specs.inner.Steps.{Exponent};
+ghost use Rattle.exponents.specs.Call.{duals, factors_fault, Promises};
+ghost use Rattle.exponents.specs.inner.Steps.{Exponent, Gives};
+
+use refusal::Refusal;
 
 // 3 * 2^51. Doubles around it are whole and 1 apart, and their bits count them.
 const MIDDLE: f64 = 6755399441055744.0;
@@ -35,64 +38,32 @@ fn exponent_of(factor: f64) -> i32
     (raised >> 16) as i32 - 134217728
 }
 
-// Refusal 43 of the row factors, or 0.
-fn rows_fault(u: &[f64]) -> u32
-    ensures { result ≡ factors_fault u.now }
+// Refuses a factor that is not whole or whose exponent is beyond the limit with 43; `factor` has those of `n` places.
+fn factors_fault<F: Fn(usize) -> f64>(n: usize, factor: &F) -> Result<(), Refusal>
+    requires { (i : ℕ) → i < n → F.pre factor.now i }
+    ensures { (l : List Float) → length l ≡ n → Gives (F.post factor.now) l
+        → number_of result ≡ factors_fault l }
 {
-    let mut i = 0;
-    while i < u.len() {
-        let exponent = exponent_of(u[i]);
-        if !exponents_powers::within_limit(exponent) {
-            return refusal::EXPONENT_RANGE;
+    for i in 0..n {
+        if !exponents_powers::within_limit(exponent_of(factor(i))) {
+            return Err(Refusal::ExponentRange);
         }
-        i += 1;
     }
-    refusal::ACCEPTED
+    Ok(())
 }
 
-// Refusal 43 of the column factors, or 0.
-fn columns_fault(v: &[f64], cmax: &[f64]) -> u32
-    requires { length cmax.now ≡ length v.now }
-    ensures { result ≡ factors_fault (differences v.now cmax.now) }
+// The exponents of the factors.
+fn write_exponents<F: Fn(usize) -> f64>(factor: &F, exponents: &mut [i32])
+    requires { (i : ℕ) → i < length exponents.old → F.pre factor.now i }
+    ensures { (l : List Float) → length l ≡ length exponents.old → Gives (F.post factor.now) l
+        → factors_fault l ≡ 0 → exponents.new ≡ map exponent_of l }
 {
-    let mut j = 0;
-    while j < v.len() {
-        let exponent = exponent_of(v[j] - cmax[j]);
-        if !exponents_powers::within_limit(exponent) {
-            return refusal::EXPONENT_RANGE;
-        }
-        j += 1;
-    }
-    refusal::ACCEPTED
-}
-
-// The exponents of the rows.
-fn write_rows(u: &[f64], exponents: &mut [i32])
-    requires exponents_len { length exponents.old ≡ length u.now }
-    requires u_value { factors_fault u.now ≡ 0 }
-    ensures { exponents.new ≡ map exponent_of u.now }
-{
-    let mut i = 0;
-    while i < u.len() {
-        exponents[i] = exponent_of(u[i]);
-        i += 1;
+    for i in 0..exponents.len() {
+        exponents[i] = exponent_of(factor(i));
     }
 }
 
-// The exponents of the columns.
-fn write_columns(v: &[f64], cmax: &[f64], exponents: &mut [i32])
-    requires cmax_len { (length cmax.now ≡ length v.now) × (length exponents.old ≡ length v.now) }
-    requires cmax_value { factors_fault (differences v.now cmax.now) ≡ 0 }
-    ensures { exponents.new ≡ map exponent_of (differences v.now cmax.now) }
-{
-    let mut j = 0;
-    while j < v.len() {
-        exponents[j] = exponent_of(v[j] - cmax[j]);
-        j += 1;
-    }
-}
-
-// The exponents of the factors of a match, or the number of the first thing wrong.
+// The exponents of the factors of a match, or the first thing wrong.
 pub fn exponents(
     n: u32,
     u: &[f64],
@@ -100,9 +71,9 @@ pub fn exponents(
     cmax: &[f64],
     row_exponents: &mut [i32],
     column_exponents: &mut [i32],
-) -> u32
+) -> Result<(), Refusal>
     ensures { let d = duals u.now v.now cmax.now in
-        Promises n d row_exponents.old column_exponents.old result
+        Promises n d row_exponents.old column_exponents.old (number_of result)
         row_exponents.new column_exponents.new }
 {
     let size = n as usize;
@@ -110,19 +81,12 @@ pub fn exponents(
         & ((v.len() == size)
             & ((cmax.len() == size)
                 & ((row_exponents.len() == size) & (column_exponents.len() == size))));
-    let sizes = sparse::layout::size_fault(n, 0, 0, lengths);
-    if sizes != refusal::ACCEPTED {
-        return sizes;
-    }
-    let rows = rows_fault(u);
-    if rows != refusal::ACCEPTED {
-        return rows;
-    }
-    let columns = columns_fault(v, cmax);
-    if columns != refusal::ACCEPTED {
-        return columns;
-    }
-    write_rows(u, row_exponents);
-    write_columns(v, cmax, column_exponents);
-    refusal::ACCEPTED
+    sparse::layout::size_fault(n, 0, 0, lengths)?;
+    let row = |i: usize| u[i];
+    let column = |j: usize| v[j] - cmax[j];
+    factors_fault(size, &row)?;
+    factors_fault(size, &column)?;
+    write_exponents(&row, row_exponents);
+    write_exponents(&column, column_exponents);
+    Ok(())
 }

@@ -3,28 +3,28 @@
 #![tactic(auto)]
 
 ghost use Rattle.std.specs.Prelude.{◌≡◌, true, ◌+◌, ◌≤◌, ◌<◌, ℤ, ◌+ℤ◌, length, get_or};
+ghost use Rattle.refusal.specs.Number.{number_of};
 ghost use Rattle.exponents_powers.specs.Power.{within_limit, scaled_bits, exponents};
 ghost use Rattle.sparse.specs.Pattern.{pattern};
 ghost use Rattle.exponents_apply.specs.Apply.{exponent_at, limit_fault, column_fault, values_fault, shift_at};
 ghost use Rattle.exponents_apply.specs.Apply.{Promises};
 ghost use Rattle.exponents_apply.specs.inner.Steps.{Places, Tested, Written};
 
-// Refusal 43 of one list of exponents, or 0.
-fn limit_fault(exponents: &[i32]) -> u32
-    ensures { result ≡ limit_fault exponents.now }
+use refusal::Refusal;
+
+// Refuses an exponent of a list beyond the limit with 43.
+fn limit_fault(exponents: &[i32]) -> Result<(), Refusal>
+    ensures { number_of result ≡ limit_fault exponents.now }
 {
-    let mut i = 0;
-    while i < exponents.len() {
-        let exponent = exponents[i];
+    for &exponent in exponents {
         if !exponents_powers::within_limit(exponent) {
-            return refusal::EXPONENT_RANGE;
+            return Err(Refusal::ExponentRange);
         }
-        i += 1;
     }
-    refusal::ACCEPTED
+    Ok(())
 }
 
-// Refusal 46 of the column whose entries are those from `from` up to `to`, or 0.
+// Refuses a value of the column whose entries are those from `from` up to `to` with 46.
 fn column_fault(
     row_idx: &[u32],
     row_exponents: &[i32],
@@ -32,24 +32,22 @@ fn column_fault(
     values: &[u64],
     from: usize,
     to: usize,
-) -> u32
+) -> Result<(), Refusal>
     requires places { Places row_idx.now row_exponents.now values.now }
     requires to_in_bounds { (to ≤ length row_idx.now) × (within_limit column_exponent ≡ true) }
-    ensures { result ≡ column_fault row_idx.now row_exponents.now column_exponent
-        values.now from to }
+    ensures { number_of result
+        ≡ column_fault row_idx.now row_exponents.now column_exponent values.now from to }
 {
-    let mut k = from;
-    while k < to {
+    for k in from..to {
         let row_exponent = row_exponents[row_idx[k] as usize];
         if !exponents_powers::is_scalable(values[k], row_exponent, column_exponent) {
-            return refusal::VALUE_NOT_NORMAL;
+            return Err(Refusal::ValueNotNormal);
         }
-        k += 1;
     }
-    refusal::ACCEPTED
+    Ok(())
 }
 
-// Refusal 46 of all columns, or 0.
+// Refuses a value of any column with 46.
 fn values_fault(
     n: usize,
     col_ptr: &[u32],
@@ -57,24 +55,26 @@ fn values_fault(
     row_exponents: &[i32],
     column_exponents: &[i32],
     values: &[u64],
-) -> u32
+) -> Result<(), Refusal>
     requires { Tested (pattern n col_ptr.now row_idx.now)
         (exponents row_exponents.now column_exponents.now) values.now }
-    ensures { result ≡ values_fault (pattern n col_ptr.now row_idx.now)
+    ensures { number_of result
+        ≡ values_fault (pattern n col_ptr.now row_idx.now)
         (exponents row_exponents.now column_exponents.now) values.now }
 {
-    let mut j = 0;
-    while j < n {
-        let column_exponent = column_exponents[j];
+    for j in 0..n {
         let from = col_ptr[j] as usize;
         let to = col_ptr[j + 1] as usize;
-        let fault = column_fault(row_idx, row_exponents, column_exponent, values, from, to);
-        if fault != refusal::ACCEPTED {
-            return fault;
-        }
-        j += 1;
+        column_fault(
+            row_idx,
+            row_exponents,
+            column_exponents[j],
+            values,
+            from,
+            to,
+        )?;
     }
-    refusal::ACCEPTED
+    Ok(())
 }
 
 // The entries of one column, scaled.
@@ -94,11 +94,9 @@ fn scale_column(
         (exponent_at row_exponents.now (get_or row_idx.now k 0) +ℤ column_exponent))
         from to values.old values.new }
 {
-    let mut k = from;
-    while k < to {
+    for k in from..to {
         let row_exponent = row_exponents[row_idx[k] as usize];
         values[k] = exponents_powers::scaled(values[k], row_exponent, column_exponent);
-        k += 1;
     }
 }
 
@@ -121,17 +119,21 @@ fn scale_values(
         (exponents row_exponents.now column_exponents.now) k))
         0 (length row_idx.now) values.old values.new }
 {
-    let mut j = 0;
-    while j < n {
-        let column_exponent = column_exponents[j];
+    for j in 0..n {
         let from = col_ptr[j] as usize;
         let to = col_ptr[j + 1] as usize;
-        scale_column(row_idx, row_exponents, column_exponent, values, from, to);
-        j += 1;
+        scale_column(
+            row_idx,
+            row_exponents,
+            column_exponents[j],
+            values,
+            from,
+            to,
+        );
     }
 }
 
-// Every value times 2 ^ (exponent of its row + exponent of its column), or the number of the first thing wrong.
+// Every value times 2 ^ (exponent of its row + exponent of its column), or the first thing wrong.
 pub fn apply_exponents(
     n: u32,
     col_ptr: &[u32],
@@ -139,38 +141,26 @@ pub fn apply_exponents(
     row_exponents: &[i32],
     column_exponents: &[i32],
     values: &mut [u64],
-) -> u32
+) -> Result<(), Refusal>
     ensures { let m = pattern n col_ptr.now row_idx.now in
         let e = exponents row_exponents.now column_exponents.now in
-        Promises m e values.old result values.new }
+        Promises m e values.old (number_of result) values.new }
 {
     let size = n as usize;
     let lengths = (col_ptr.len() == size + 1)
         & ((values.len() == row_idx.len())
             & ((row_exponents.len() == size) & (column_exponents.len() == size)));
-    let matrix = sparse::general::pattern_fault(n, col_ptr, row_idx, lengths);
-    if matrix != refusal::ACCEPTED {
-        return matrix;
-    }
-    let rows = limit_fault(row_exponents);
-    if rows != refusal::ACCEPTED {
-        return rows;
-    }
-    let columns = limit_fault(column_exponents);
-    if columns != refusal::ACCEPTED {
-        return columns;
-    }
-    let fault = values_fault(
+    sparse::general::pattern_fault(n, col_ptr, row_idx, lengths)?;
+    limit_fault(row_exponents)?;
+    limit_fault(column_exponents)?;
+    values_fault(
         size,
         col_ptr,
         row_idx,
         row_exponents,
         column_exponents,
         values,
-    );
-    if fault != refusal::ACCEPTED {
-        return fault;
-    }
+    )?;
     scale_values(
         size,
         col_ptr,
@@ -179,5 +169,5 @@ pub fn apply_exponents(
         column_exponents,
         values,
     );
-    refusal::ACCEPTED
+    Ok(())
 }

@@ -7,8 +7,7 @@ use Rattle.refusal.specs.Listed.{OneOf, symmetric_numbers}
 use Rattle.slices.specs.Outcome.{Outcome, outcome_is, as_number, refusing}
 use Rattle.float64.specs.Constants as Constants
 use Rattle.sparse.specs.Fault.{or_else}
-use Rattle.sparse.specs.declared.layout.Validity.{Validity}
-use Rattle.sparse.specs.Validate.{size_fault, symmetric_fault, number_of, validity_of}
+use Rattle.sparse.specs.Validate.{size_fault, symmetric_fault}
 use Rattle.sparse.specs.Matrix.{Matrix}
 use Rattle.infnorm_factors.specs.Factors.{infnorm_factors, onepass_factors}
 
@@ -51,22 +50,17 @@ unfolding input_fault lengths_fit
 compute_onepass m factors =
     refusing as_number (input_fault m (lengths_fit m factors)) (outcome_is accepted (onepass_factors m)) factors
 
--- ---- all that the calls promise, of the matrix, what was lent, its answer r and what is left
+-- ---- all that the calls promise, of the matrix, what was lent, the number r of its answer and what is left
 -- `compute_infnorm`
-pub record InfnormPromises (m : Matrix) (factors work : List Float) (r : Validity) (left cleared : List Float)
-    : Type 0 where
+pub record InfnormPromises (m : Matrix) (factors work : List Float) (r : ℕ) (left cleared : List Float) : Type 0 where
   -- the number and every slice left are the definition's
-  pub outcome : outcome_is (number_of r) (slices left cleared) ≡ compute_infnorm m factors work
-  -- the answer is the one of that number
-  pub answer : r ≡ validity_of (compute_infnorm m factors work).answer
+  pub outcome : outcome_is r (slices left cleared) ≡ compute_infnorm m factors work
   -- the number is one of the call's list
-  pub number : OneOf symmetric_numbers (number_of r)
+  pub number : OneOf symmetric_numbers r
 
 -- `compute_onepass`
-pub record OnepassPromises (m : Matrix) (factors : List Float) (r : Validity) (left : List Float) : Type 0 where
+pub record OnepassPromises (m : Matrix) (factors : List Float) (r : ℕ) (left : List Float) : Type 0 where
   -- the number and the factors left are the definition's
-  pub outcome : outcome_is (number_of r) left ≡ compute_onepass m factors
-  -- the answer is the one of that number
-  pub answer : r ≡ validity_of (compute_onepass m factors).answer
+  pub outcome : outcome_is r left ≡ compute_onepass m factors
   -- the number is one of the call's list
-  pub number : OneOf symmetric_numbers (number_of r)
+  pub number : OneOf symmetric_numbers r

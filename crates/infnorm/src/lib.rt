@@ -3,9 +3,10 @@
 
 ghost use Rattle.std.specs.Prelude.{◌≡◌, ◌^◌, ◌<◌};
 ghost use Rattle.sparse.specs.Matrix.{matrix};
+ghost use Rattle.refusal.specs.Number.{number_of};
 ghost use Rattle.infnorm.specs.Call.{lengths_fit, input_fault, InfnormPromises, OnepassPromises};
 
-use sparse::layout::Validity;
+use refusal::Refusal;
 use sparse::{csc, layout};
 
 // Whether the matrix and the factors have their lengths.
@@ -24,18 +25,22 @@ pub fn lengths_fit(
     (col_ptr.len() == n + 1) & ((values.len() == row_idx.len()) & (factors.len() == n))
 }
 
-// The number of the first thing wrong, or 0; `lengths` says whether every slice has its length.
-pub fn input_fault(n: u32, col_ptr: &[u32], row_idx: &[u32], values: &[f64], lengths: bool) -> u32
-    ensures { result ≡ input_fault (matrix n col_ptr.now row_idx.now values.now) lengths }
+// Refuses the first thing wrong; `lengths` says whether every slice has its length.
+pub fn input_fault(
+    n: u32,
+    col_ptr: &[u32],
+    row_idx: &[u32],
+    values: &[f64],
+    lengths: bool,
+) -> Result<(), Refusal>
+    ensures { number_of result
+        ≡ input_fault (matrix n col_ptr.now row_idx.now values.now) lengths }
 {
-    let sizes = layout::size_fault(n, limits::MAX_SYMMETRIC, row_idx.len(), lengths);
-    if sizes != refusal::ACCEPTED {
-        return sizes;
-    }
-    layout::number_of(csc::validate(n, col_ptr, row_idx, values))
+    layout::size_fault(n, limits::MAX_SYMMETRIC, row_idx.len(), lengths)?;
+    csc::validate(n, col_ptr, row_idx, values)
 }
 
-// Iterated: factors that bring the largest entry of each row near 1, or the number of the first thing wrong.
+// Iterated: factors that bring the largest entry of each row near 1, or the first thing wrong.
 pub fn compute_infnorm(
     n: u32,
     col_ptr: &[u32],
@@ -43,40 +48,34 @@ pub fn compute_infnorm(
     values: &[f64],
     factors: &mut [f64],
     work: &mut [f64],
-) -> Validity
+) -> Result<(), Refusal>
     ensures { let m = matrix n col_ptr.now row_idx.now values.now in
-        InfnormPromises m factors.old work.old result factors.new work.new }
+        InfnormPromises m factors.old work.old (number_of result) factors.new work.new }
 {
     let size = n as usize;
     let lengths = lengths_fit(size, col_ptr, row_idx, values, factors);
-    let fault = input_fault(n, col_ptr, row_idx, values, lengths & (work.len() == size));
-    if fault != refusal::ACCEPTED {
-        return Validity::Refused(fault);
-    }
+    input_fault(n, col_ptr, row_idx, values, lengths & (work.len() == size))?;
     slices::fill(factors, 1.0);
     infnorm_rounds::iterate(size, col_ptr, row_idx, values, factors, work);
     slices::fill(work, 0.0);
-    Validity::Accepted
+    Ok(())
 }
 
-// One-pass: 1 over the root of the largest entry of each row, or the number of the first thing wrong.
+// One-pass: 1 over the root of the largest entry of each row, or the first thing wrong.
 pub fn compute_onepass(
     n: u32,
     col_ptr: &[u32],
     row_idx: &[u32],
     values: &[f64],
     factors: &mut [f64],
-) -> Validity
+) -> Result<(), Refusal>
     ensures { let m = matrix n col_ptr.now row_idx.now values.now in
-        OnepassPromises m factors.old result factors.new }
+        OnepassPromises m factors.old (number_of result) factors.new }
 {
     let size = n as usize;
     let lengths = lengths_fit(size, col_ptr, row_idx, values, factors);
-    let fault = input_fault(n, col_ptr, row_idx, values, lengths);
-    if fault != refusal::ACCEPTED {
-        return Validity::Refused(fault);
-    }
+    input_fault(n, col_ptr, row_idx, values, lengths)?;
     infnorm_maxima::value_maxima(size, col_ptr, row_idx, values, factors);
     infnorm_blocks::scale_rows(factors);
-    Validity::Accepted
+    Ok(())
 }

@@ -1,9 +1,10 @@
 -- SPECIFICATION 10.2: What `compute_scaling` answers and leaves, choice by choice. Each choice tests the matrix and the
 -- slices that it uses, and the external one is refused; every other slice stays as it was.
-use Rattle.std.specs.Prelude.{◌≡◌, true, ◌&&◌, List, [], ◌∷◌, ℕ, zero, suc, eqb, Float, length, replicate}
+use Rattle.std.specs.Prelude.{◌≡◌, true, ◌&&◌, List, [], ◌∷◌, ℕ, zero, suc, eqb, Float, Result, Ok, Err, length, replicate}
 use Rattle.limits.specs.Limits.{max_symmetric}
-use Rattle.refusal.specs.Refusal.{accepted, index_range, external_choice}
+use Rattle.refusal.specs.Refusal.{index_range, external_choice}
 use Rattle.refusal.specs.Listed.{OneOf, chooser_numbers}
+use Rattle.refusal.specs.Number.{fault_of}
 use Rattle.slices.specs.Outcome.{Outcome, outcome_is, refusing}
 use Rattle.float64.specs.Constants as Constants
 use Rattle.sparse.specs.Fault.{or_else}
@@ -23,7 +24,7 @@ use Rattle.scaling.specs.declared.ScalingStrategy.{ScalingStrategy}
 use Rattle.scaling.specs.declared.ScalingStrategy.TheVariants.{InfNorm, OnePassInfNorm, Mc64Symmetric}
 use Rattle.scaling.specs.declared.ScalingStrategy.TheVariants.{Identity, External}
 use Rattle.scaling.specs.declared.Scaling.{Scaling}
-use Rattle.scaling.specs.declared.Scaling.TheVariants.{Applied, PartialSingular, NotApplied, Refused}
+use Rattle.scaling.specs.declared.Scaling.TheVariants.{Applied, PartialSingular, NotApplied}
 
 -- what is lent: the factors, the work of the iterated kind, and the slices of MC64's graph, match and log factors
 pub record Slices : Type 0 where
@@ -46,11 +47,14 @@ abbrev pub mc64_slices : Slices → Mc64.ScalingSlices
 mc64_slices s = Mc64.scaling_slices s.graph s.pairs (Factors.slices s.factors s.factor_work)
 
 -- ---- answers
--- the answer of the MC64 scaling as the chooser's
+-- what the MC64 scaling did, and its answer, as the chooser's
 abbrev pub of_scaled : Scaled → Scaling
 of_scaled scaled.Applied = Applied
 of_scaled (scaled.PartialSingular unmatched) = PartialSingular unmatched
-of_scaled (scaled.Refused number) = Refused number
+
+abbrev pub of_answer : Result Scaled ℕ → Result Scaling ℕ
+of_answer (Ok done) = Ok (of_scaled done)
+of_answer (Err fault) = Err fault
 
 -- ---- the choices
 -- the external choice is refused: only n and the entry count are tested before, no length or contents of a slice
@@ -67,34 +71,34 @@ choice_fault Identity m external logs s = input_fault m (lengths_fit m s.factors
 choice_fault External m external logs s = external_fault m.pattern.n (length m.pattern.row_idx)
 
 -- an accepted choice: what its own call leaves, and every other slice as it was. The external choice is never accepted
-unfoldable pub chosen : ScalingStrategy → Matrix → List Float → Slices → Outcome Scaling Slices
+unfoldable pub chosen : ScalingStrategy → Matrix → List Float → Slices → Outcome (Result Scaling ℕ) Slices
 chosen InfNorm m logs s =
     let done = (iterated m).after in
-    outcome_is Applied (slices done.factors done.work s.graph s.pairs s.factor_work)
-chosen OnePassInfNorm m logs s = outcome_is Applied (with_factors (onepass_factors m) s)
+    outcome_is (Ok Applied) (slices done.factors done.work s.graph s.pairs s.factor_work)
+chosen OnePassInfNorm m logs s = outcome_is (Ok Applied) (with_factors (onepass_factors m) s)
 chosen Mc64Symmetric m logs s =
     let done = Mc64.scaled m logs (mc64_slices s) in
     let left = done.after in
-    outcome_is (of_scaled done.answer)
+    outcome_is (of_answer done.answer)
     (slices left.scaled.factors s.maxima left.graph left.pairs left.scaled.work)
-chosen Identity m logs s = outcome_is NotApplied (with_factors (replicate m.pattern.n Constants.one) s)
-chosen External m logs s = outcome_is NotApplied s
+chosen Identity m logs s = outcome_is (Ok NotApplied) (with_factors (replicate m.pattern.n Constants.one) s)
+chosen External m logs s = outcome_is (Ok NotApplied) s
 
 -- what `compute_scaling` does
 unfoldable pub compute_scaling : ScalingStrategy → Matrix → List Float → List Float → Slices
-    → Outcome Scaling Slices
+    → Outcome (Result Scaling ℕ) Slices
 unfolding choice_fault chosen
 compute_scaling strategy m external logs s =
-    refusing Refused (choice_fault strategy m external logs s) (chosen strategy m logs s) s
+    refusing Err (choice_fault strategy m external logs s) (chosen strategy m logs s) s
 
 -- what the factors of the MC64 choice achieve, as for `compute_symmetric`: every column is matched, the logs read are
 -- whole and no factor is held
 abbrev pub cache_of : Slices → Match Float
 cache_of s = match_of s.pairs.perm s.pairs.u s.pairs.v s.graph.cmax
 
-abbrev pub Balances : ScalingStrategy → Matrix → List Float → Scaling → Slices → Type 0
+abbrev pub Balances : ScalingStrategy → Matrix → List Float → Result Scaling ℕ → Slices → Type 0
 Balances strategy m logs answer after =
-    strategy ≡ Mc64Symmetric → answer ≡ Applied → WholeLogs m logs
+    strategy ≡ Mc64Symmetric → answer ≡ Ok Applied → WholeLogs m logs
     → NoneHeld m.pattern.n (cache_of after) after.factors
     → Balanced m logs after.pairs.perm after.factors
 
@@ -114,28 +118,21 @@ strategy_for (suc (suc (suc (suc more)))) = External
 unfoldable pub no_choice : Matrix → List Float → ℕ
 no_choice m factors = or_else (input_fault m (lengths_fit m factors)) index_range
 
--- the number answered, 0 for factors
-abbrev pub number_of : Scaling → ℕ
-number_of Applied = accepted
-number_of (PartialSingular unmatched) = accepted
-number_of NotApplied = accepted
-number_of (Refused number) = number
-
 -- what was done and how many columns are unmatched; what was there if there are no factors
-abbrev pub info_of : Scaling → List ℕ → List ℕ
-info_of Applied old = 0 ∷ 0 ∷ []
-info_of (PartialSingular unmatched) old = 1 ∷ unmatched ∷ []
-info_of NotApplied old = 2 ∷ 0 ∷ []
-info_of (Refused number) old = old
+abbrev pub info_of : Result Scaling ℕ → List ℕ → List ℕ
+info_of (Ok Applied) old = 0 ∷ 0 ∷ []
+info_of (Ok (PartialSingular unmatched)) old = 1 ∷ unmatched ∷ []
+info_of (Ok NotApplied) old = 2 ∷ 0 ∷ []
+info_of (Err fault) old = old
 
 -- ---- all that `compute_scaling` promises, of the strategy, the matrix, what was lent, its answer r and what is left
 pub record Promises (strategy : ScalingStrategy) (m : Matrix) (external logs : List Float) (before : Slices)
-    (r : Scaling) (after : Slices) : Type 0 where
+    (r : Result Scaling ℕ) (after : Slices) : Type 0 where
   -- the answer and every slice left are the definition's
   pub outcome : outcome_is r after ≡ compute_scaling strategy m external logs before
   -- the number is that of the choice's first fault
-  pub answered : number_of r ≡ choice_fault strategy m external logs before
+  pub answered : fault_of r ≡ choice_fault strategy m external logs before
   -- the number is one of the call's list
-  pub number : OneOf chooser_numbers (number_of r)
+  pub number : OneOf chooser_numbers (fault_of r)
   -- if every column is matched, the MC64 factors of whole logs balance the entries
   pub balanced : Balances strategy m logs r after

@@ -1,3 +1,2 @@
 -- The chooser: what each choice of factors does.
 pub mod Choice
-pub mod inner
