@@ -6,10 +6,11 @@ ghost use Rattle.std.proofs.lemmas.List.Edits.{sets};
 ghost use Rattle.std.specs.Float.{binary64};
 ghost use Rattle.std.specs.Float.Ieee.{of_bits, to_bits};
 ghost use Rattle.refusal.specs.Listed.{OneOf, root_byte_numbers};
+ghost use Rattle.refusal.specs.Number.{number_of};
 ghost use Rattle.byte_numbers.specs.Root.{root_number, root_bytes, RootPromised};
 ghost use Rattle.byte_numbers.specs.Bytes.{bytes_of, number_at, words, doubles, all_bytes, word_bytes, double_bytes};
 
-use square_root::Root;
+use refusal::Refusal;
 
 // The eight bytes of a number, low byte first, from `at` on.
 pub fn put_u64(out: &mut [u8], at: usize, value: u64)
@@ -168,23 +169,17 @@ pub fn put_counts(
     put_u64(out, 56, n7);
 }
 
-// The square root of x into 8 bytes. Answers 0 or the number of the refusal; a refused call leaves the bytes as they
-// are.
-pub fn sqrt(x: f64, root: &mut [u8]) -> u32
-    ensures fault { result ≡ root_number x root.old }
+// The square root of x into 8 bytes. A refused call leaves the bytes as they are.
+pub fn sqrt(x: f64, root: &mut [u8]) -> Result<(), Refusal>
+    ensures fault { number_of result ≡ root_number x root.old }
     ensures bytes { root.new ≡ root_bytes x root.old }
-    ensures ieee { RootPromised x root.old result root.new }
-    ensures number { OneOf root_byte_numbers result }
+    ensures ieee { RootPromised x root.old (number_of result) root.new }
+    ensures number { OneOf root_byte_numbers (number_of result) }
 {
     if root.len() != 8 {
-        return refusal::SLICE_LENGTH;
+        return Err(Refusal::SliceLength);
     }
-    let answer = square_root::sqrt(x);
-    match answer {
-        Root::Is(y) => {
-            put_u64(root, 0, f64::to_bits(y));
-            refusal::ACCEPTED
-        }
-        Root::Refused(number) => number,
-    }
+    let y = square_root::sqrt(x)?;
+    put_u64(root, 0, f64::to_bits(y));
+    Ok(())
 }

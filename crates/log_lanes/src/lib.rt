@@ -10,6 +10,9 @@ ghost use Rattle.log_lanes.specs.inner.Lanes.{Ready, Wide, Every, Block, answer_
 // How many lanes there are.
 const LANES: usize = 16;
 
+// How many binary digits of a logarithm stand behind the point.
+const DIGITS: u32 = 16;
+
 // The word of a value that has no logarithm: words of logarithms are below it.
 const NO_LOG: u32 = 137494528;
 
@@ -68,10 +71,8 @@ fn all_digits(leading: &mut [u32], known: &mut [u32])
         let e = known.old in
         Every (λ j m' e'. e' ≡ log_from 16 (get_or m j 0) (get_or e j 0)) leading.new known.new }
 {
-    let mut left: u32 = 16;
-    while left > 0 {
+    for _ in 0..DIGITS {
         next_digits(leading, known);
-        left -= 1;
     }
 }
 

@@ -10,8 +10,6 @@ ghost use Rattle.square_root.specs.Root.{value_of, sqrt_of};
 ghost use Rattle.root_blocks.specs.inner.Blocks.{BitsOf, under_root, root_bits, root_by, RootDigits};
 ghost use Rattle.root_blocks.specs.inner.Blocks.{Taken, NoNans, RootsBy, Roots};
 
-use square_root::Root;
-
 pub const BLOCK: usize = 16;
 
 // The distance of two numbers with the same digits and exponents that differ by one.
@@ -204,10 +202,7 @@ fn try_block(bits: &[u64], roots: &mut [f64]) -> u64
 pub fn root(x: f64) -> f64
     ensures { result ≡ value_of (sqrt_of x) }
 {
-    match square_root::sqrt(x) {
-        Root::Is(y) => y,
-        Root::Refused(_) => float64::quiet_nan(),
-    }
+    square_root::sqrt(x).unwrap_or(float64::quiet_nan())
 }
 
 // The root of the number with these bits: `y`, the root of the number before, if that one has the same bits.

@@ -1,25 +1,18 @@
 -- SPECIFICATION 9: The square root of a double, twice: as what IEEE 754 asks of it (`Answer`), and as a definition that
 -- computes (`sqrt_of`). proofs/Laws.antt shows that the second is the first, and that the first leaves no choice.
-use Rattle.std.specs.Prelude.{◌≡◌, true, false, cond, ℕ, zero, suc, ◌+◌, ◌-◌, ◌*◌, ◌/◌, ◌^◌, ◌<◌, leb, Float}
+use Rattle.std.specs.Prelude.{◌≡◌, true, false, cond, ℕ, zero, suc, ◌+◌, ◌-◌, ◌*◌, ◌/◌, ◌^◌, ◌<◌, leb, Result, Ok, Err, Float}
 use Rattle.std.specs.Float.{nan, inf, fin, binary64}
 use Rattle.std.specs.Float.Ieee.{size, units}
 use Rattle.float64.specs.Number.{Number, negative, magnitude, units_per_one}
 use Rattle.float64.specs.Constants.{quiet_nan}
 use Rattle.refusal.specs.Refusal.{accepted, no_root}
-use Rattle.square_root.specs.declared.Root.{Root}
-use Rattle.square_root.specs.declared.Root.TheVariants.{Is, Refused}
 
--- ---- an answer's number and value
-
--- the number of an answer, 0 for a root
-abbrev pub number_of : Root → ℕ
-number_of (Is y) = accepted
-number_of (Refused number) = number
+-- ---- an answer's value and number
 
 -- the root itself, NaN if there is none
-abbrev pub value_of : Root → Float
-value_of (Is y) = y
-value_of (Refused number) = quiet_nan
+abbrev pub value_of : Result Float ℕ → Float
+value_of (Ok y) = y
+value_of (Err number) = quiet_nan
 
 -- 11 for a NaN and for a number below zero, else 0
 abbrev pub root_fault : Float → ℕ
@@ -55,13 +48,13 @@ pub record Nearest (x y : Float) : Type 0 where
 
 -- r is the answer for x: a NaN and a number below zero are refused, infinity and the zeros are their own roots, -0.0
 -- with its sign, and other numbers get the nearest double
-abbrev pub Answer : Float → Root → Type 0
-Answer nan r = r ≡ Refused no_root
-Answer (inf true) r = r ≡ Refused no_root
-Answer (inf false) r = r ≡ Is (inf false)
-Answer (fin s zero e) r = r ≡ Is (fin s zero e)
-Answer (fin true (suc m) e) r = r ≡ Refused no_root
-Answer (fin false (suc m) e) r = (y : Float) × (r ≡ Is y) × Nearest (fin false (suc m) e) y
+abbrev pub Answer : Float → Result Float ℕ → Type 0
+Answer nan r = r ≡ Err no_root
+Answer (inf true) r = r ≡ Err no_root
+Answer (inf false) r = r ≡ Ok (inf false)
+Answer (fin s zero e) r = r ≡ Ok (fin s zero e)
+Answer (fin true (suc m) e) r = r ≡ Err no_root
+Answer (fin false (suc m) e) r = (y : Float) × (r ≡ Ok y) × Nearest (fin false (suc m) e) y
 
 -- ---- the definition that computes
 
@@ -81,11 +74,11 @@ unfoldable pub root_of : ℕ → Float
 unfolding size units whole_root
 root_of A = let j = (size A - 107) / 2 in units binary64 false ((whole_root 54 (A / 2 ^ (2 * j)) + 1) / 2) (j + 1)
 
-unfoldable pub sqrt_of : Float → Root
+unfoldable pub sqrt_of : Float → Result Float ℕ
 unfolding square root_of
-sqrt_of nan = Refused no_root
-sqrt_of (inf true) = Refused no_root
-sqrt_of (inf false) = Is (inf false)
-sqrt_of (fin s zero e) = Is (fin s zero e)
-sqrt_of (fin true (suc m) e) = Refused no_root
-sqrt_of (fin false (suc m) e) = Is (root_of (square (fin false (suc m) e)))
+sqrt_of nan = Err no_root
+sqrt_of (inf true) = Err no_root
+sqrt_of (inf false) = Ok (inf false)
+sqrt_of (fin s zero e) = Ok (fin s zero e)
+sqrt_of (fin true (suc m) e) = Err no_root
+sqrt_of (fin false (suc m) e) = Ok (root_of (square (fin false (suc m) e)))

@@ -8,35 +8,31 @@ ghost use Rattle.std.specs.Prelude.{◌≡◌, ◌*◌, ◌^◌, ◌≤◌, ◌<
 ghost use Rattle.std.specs.Float.{binary64};
 ghost use Rattle.std.specs.Float.Ieee.{of_bits};
 ghost use Rattle.refusal.specs.Listed.{OneOf, root_numbers};
-ghost use Rattle.square_root.specs.Root.{Answer, number_of, root_fault, sqrt_of, root_of, square};
+ghost use Rattle.refusal.specs.Number.{number_of, numbered};
+ghost use Rattle.square_root.specs.Root.{Answer, root_fault, sqrt_of, root_of, square};
 ghost use Rattle.square_root.specs.inner.Steps.{WholeRoot};
 
-// The root of a number, or the number of the refusal.
-#[derive(Clone, Copy)]
-pub enum Root {
-    Is(f64),
-    Refused(u32),
-}
+use refusal::Refusal;
 
 // The root of x; a NaN and a number below zero are refused. Either zero is its own root, and so is
 // infinity.
-pub fn sqrt(x: f64) -> Root
-    ensures root { result ≡ sqrt_of x }
+pub fn sqrt(x: f64) -> Result<f64, Refusal>
+    ensures root { numbered result ≡ sqrt_of x }
     ensures fault { number_of result ≡ root_fault x }
-    ensures ieee { Answer x result }
+    ensures ieee { Answer x (numbered result) }
     ensures number { OneOf root_numbers (number_of result) }
 {
     if x > 0.0 {
         let bits = f64::to_bits(x);
         if bits < 0x7ff0_0000_0000_0000 {
-            return Root::Is(positive_root(bits));
+            return Ok(positive_root(bits));
         }
-        return Root::Is(x);
+        return Ok(x);
     }
     if x == 0.0 {
-        return Root::Is(x);
+        return Ok(x);
     }
-    Root::Refused(refusal::NO_ROOT)
+    Err(Refusal::NoRoot)
 }
 
 // The root of a finite double above zero, by its bits. The whole root of 2 ^ 54 significands has one

@@ -1,31 +1,24 @@
 -- SPECIFICATION 9.1: The logarithm of a double to base two, in units of 1/65,536: the definition that computes
 -- (`whole_log`), and what it says of the exact number (`Logarithm`). proofs/Theorems.antt shows that the first is the
 -- second.
-use Rattle.std.specs.Prelude.{◌≡◌, ℕ, zero, suc, ◌+◌, ◌-◌, ◌*◌, ◌/◌, ◌^◌, ◌≤◌, ◌<◌, ℤ, pos, ◌+ℤ◌, Float}
+use Rattle.std.specs.Prelude.{◌≡◌, ℕ, zero, suc, ◌+◌, ◌-◌, ◌*◌, ◌/◌, ◌^◌, ◌≤◌, ◌<◌, ℤ, pos, ◌+ℤ◌, Result, Ok, Err, Float}
 use Rattle.std.proofs.Math.IntN.{sub_ℕ}
 use Rattle.std.specs.Float.{nan, inf, fin, binary64}
 use Rattle.std.specs.Float.Ieee.{size, of_int}
 use Rattle.float64.specs.Number.{magnitude}
 use Rattle.refusal.specs.Refusal.{accepted, value_not_finite}
-use Rattle.whole_log.specs.declared.Log.{Log}
-use Rattle.whole_log.specs.declared.Log.TheVariants.{Is, Refused}
 
--- ---- an answer's number and value
-
--- the number of an answer, 0 for a logarithm
-abbrev pub number_of : Log → ℕ
-number_of (Is p) = accepted
-number_of (Refused number) = number
+-- ---- an answer's value and number
 
 -- the logarithm itself, 0 if there is none
-abbrev pub value_of : Log → ℤ
-value_of (Is p) = p
-value_of (Refused number) = pos 0
+abbrev pub value_of : Result ℤ ℕ → ℤ
+value_of (Ok p) = p
+value_of (Err number) = pos 0
 
 -- the logarithm as a double, NaN if there is none
-abbrev pub double_of : Log → Float
-double_of (Is p) = of_int binary64 p
-double_of (Refused number) = nan
+abbrev pub double_of : Result ℤ ℕ → Float
+double_of (Ok p) = of_int binary64 p
+double_of (Err number) = nan
 
 -- 9 for zeros, NaNs and infinities, else 0
 abbrev pub log_fault : Float → ℕ
@@ -63,12 +56,12 @@ abbrev pub from_units : ℕ → ℤ
 from_units log = sub_ℕ log (1074 * 65536)
 
 -- the answer for every double
-unfoldable pub whole_log : Float → Log
+unfoldable pub whole_log : Float → Result ℤ ℕ
 unfolding log_of magnitude
-whole_log nan = Refused value_not_finite
-whole_log (inf s) = Refused value_not_finite
-whole_log (fin s zero e) = Refused value_not_finite
-whole_log (fin s (suc m) e) = Is (from_units (log_of (magnitude (fin s (suc m) e))))
+whole_log nan = Err value_not_finite
+whole_log (inf s) = Err value_not_finite
+whole_log (fin s zero e) = Err value_not_finite
+whole_log (fin s (suc m) e) = Ok (from_units (log_of (magnitude (fin s (suc m) e))))
 
 -- ---- what it says of the exact number
 
@@ -85,6 +78,6 @@ pub record Logarithm (x : Float) (p : ℤ) : Type 0 where
   pub bounds : Bounds q (magnitude x ^ 65536)
 
 -- what an answer says of x
-abbrev pub Answer : Float → Log → Type 0
-Answer x (Is p) = Logarithm x p
-Answer x (Refused number) = number ≡ log_fault x
+abbrev pub Answer : Float → Result ℤ ℕ → Type 0
+Answer x (Ok p) = Logarithm x p
+Answer x (Err number) = number ≡ log_fault x

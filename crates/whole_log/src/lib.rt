@@ -6,50 +6,42 @@ ghost use Rattle.std.specs.Prelude.{◌≡◌, ◌*◌, ◌^◌, ◌≤◌, ◌<
 ghost use Rattle.std.specs.Float.{binary64};
 ghost use Rattle.std.specs.Float.Ieee.{of_bits};
 ghost use Rattle.refusal.specs.Listed.{OneOf, log_numbers};
+ghost use Rattle.refusal.specs.Number.{number_of, numbered};
 ghost use Rattle.float64.specs.Number.{magnitude};
-ghost use Rattle.whole_log.specs.Log.{number_of, log_fault, whole_log, Answer};
+ghost use Rattle.whole_log.specs.Log.{log_fault, whole_log, Answer};
 ghost use Rattle.whole_log.specs.Log.{log_of, log_from, from_units};
 ghost use Rattle.whole_log.specs.Stored.{Promises};
 
-// The logarithm of a number, or the number of the refusal.
-#[derive(Clone, Copy)]
-pub enum Log {
-    Is(i32),
-    Refused(u32),
-}
+use refusal::Refusal;
+
+// How many binary digits of a logarithm stand behind the point.
+const DIGITS: u32 = 16;
 
 // The logarithm of the magnitude of x; zeros, NaNs and infinities are refused.
-pub fn whole_log(x: f64) -> Log
-    ensures log { result ≡ whole_log x }
+pub fn whole_log(x: f64) -> Result<i32, Refusal>
+    ensures log { numbered result ≡ whole_log x }
     ensures fault { number_of result ≡ log_fault x }
-    ensures bounds { Answer x result }
+    ensures bounds { Answer x (numbered result) }
     ensures number { OneOf log_numbers (number_of result) }
 {
     if float64::is_finite(x) {
         let bits = f64::to_bits(x) % 0x8000_0000_0000_0000;
         if bits > 0 {
-            return Log::Is(from_units(units_log(bits)));
+            return Ok(from_units(units_log(bits)));
         }
     }
-    Log::Refused(refusal::VALUE_NOT_FINITE)
+    Err(Refusal::ValueNotFinite)
 }
 
-// The logarithm of x into a slice of one number. Answers 0 or the number of the refusal; a refused call leaves the
-// slice as it is.
-pub fn store_log(x: f64, p: &mut [i32]) -> u32
-    ensures { Promises x p.old result p.new }
+// The logarithm of x into a slice of one number. A refused call leaves the slice as it is.
+pub fn store_log(x: f64, p: &mut [i32]) -> Result<(), Refusal>
+    ensures { Promises x p.old (number_of result) p.new }
 {
     if p.len() != 1 {
-        return refusal::SLICE_LENGTH;
+        return Err(Refusal::SliceLength);
     }
-    let answer = whole_log(x);
-    match answer {
-        Log::Is(log) => {
-            p[0] = log;
-            refusal::ACCEPTED
-        }
-        Log::Refused(number) => number,
-    }
+    p[0] = whole_log(x)?;
+    Ok(())
 }
 
 // The logarithm of a size in units of 2 ^ -1074 as that of the number itself.
@@ -76,13 +68,11 @@ fn log_from(leading: u32, known: u64) -> u64
 {
     let mut m = leading;
     let mut e = known;
-    let mut left: u32 = 16;
-    while left > 0 {
+    for _ in 0..DIGITS {
         let s = square(m);
         let digit = s >> 63;
         m = (s >> (31 + digit)) as u32;
         e = e + e + digit;
-        left -= 1;
     }
     e
 }

@@ -1,10 +1,8 @@
 -- What stands in the lanes and in the words that are made of them.
-use Rattle.std.specs.Prelude.{◌≡◌, List, cond, ℕ, ◌+◌, ◌*◌, ◌^◌, ◌≤◌, ◌<◌, ltb, Float, length, get_or}
+use Rattle.std.specs.Prelude.{◌≡◌, List, cond, ℕ, ◌+◌, ◌*◌, ◌^◌, ◌≤◌, ◌<◌, ltb, Result, Ok, Err, ℤ, Float, length, get_or}
 use Rattle.std.specs.Float.{nan}
 use Rattle.refusal.specs.Refusal.{value_not_finite}
 use Rattle.whole_log.specs.Log.{from_units, whole_log}
-use Rattle.whole_log.specs.declared.Log.{Log}
-use Rattle.whole_log.specs.declared.Log.TheVariants.{Is, Refused}
 
 -- ---- words
 
@@ -13,8 +11,8 @@ abbrev pub no_log : ℕ
 no_log = 2098 * 65536
 
 -- what a word stands for: the logarithm whose size in units of 2 ^ -1074 it is, or none
-unfoldable pub answer_of : ℕ → Log
-answer_of word = cond (ltb word no_log) (Is (from_units word)) (Refused value_not_finite)
+unfoldable pub answer_of : ℕ → Result ℤ ℕ
+answer_of word = cond (ltb word no_log) (Ok (from_units word)) (Err value_not_finite)
 
 -- from `at` on stand the words of the first `count` values, and before it what stood there
 pub record Words (values : List Float) (at count : ℕ) (before words : List ℕ) : Type 0 where
