@@ -1,16 +1,17 @@
 -- SPECIFICATION 7.5: Log factors by the number of a rule, as the C interface has them: 0 is the identity, 1 Duff and
 -- Pralet's; any other is refused with 5 before all else. A wrong length of `unmatched` is a wrong length of the rule's
 -- call.
-use Rattle.std.specs.Prelude.{◌≡◌, false, cond, List, [], ◌∷◌, ℕ, zero, suc, leb, eqb, Float, length}
+use Rattle.std.specs.Prelude.{◌≡◌, false, cond, List, [], ◌∷◌, ℕ, zero, suc, leb, eqb, Float, length, Result, Ok, Err}
 use Rattle.limits.specs.Limits.{max_symmetric}
 use Rattle.refusal.specs.Refusal.{accepted, index_range}
+use Rattle.refusal.specs.Number.{fault_of}
 use Rattle.refusal.specs.Listed.{OneOf, rule_numbers}
 use Rattle.slices.specs.Outcome.{Outcome, outcome_is, as_number, refusing}
 use Rattle.sparse.specs.Validate.{size_fault}
 use Rattle.matching.specs.Match.{Match}
 use Rattle.factors_mc64.specs.declared.Scaled.{Scaled}
-use Rattle.factors_mc64.specs.declared.Scaled.TheVariants.{Applied, PartialSingular, Refused}
-use Rattle.factors_mc64.specs.Calls.{Slices, number_of, unmatched_of}
+use Rattle.factors_mc64.specs.declared.Scaled.TheVariants.{Applied, PartialSingular}
+use Rattle.factors_mc64.specs.Calls.{Slices, unmatched_of}
 use Rattle.factors_flat.specs.declared.Rule.{Rule}
 use Rattle.factors_flat.specs.declared.Rule.TheVariants.{Identity, Flat}
 use Rattle.factors_flat.specs.Flat.{Input, columns}
@@ -20,6 +21,10 @@ use Rattle.factors_flat.specs.Call.{Shared, rule_fault, rule_scaled}
 abbrev pub rule_of : ℕ → Rule
 rule_of zero = Identity
 rule_of (suc number) = Flat
+
+-- the same, or 5 for a number that is no rule's
+abbrev pub rule_by : ℕ → Result Rule ℕ
+rule_by number = cond (leb number 1) (Ok (rule_of number)) (Err index_range)
 
 -- the fault of a call of the rule with wrong lengths
 abbrev pub unfit_fault : Rule → ℕ → ℕ → ℕ
@@ -35,14 +40,13 @@ abbrev pub lent : Slices → List ℕ → Lent
 lent scaled unmatched = record { scaled = scaled; unmatched = unmatched }
 
 -- the count left: the number of unmatched columns, or what was there if there are no factors
-abbrev pub count_left : Scaled → List ℕ → List ℕ
-count_left Applied old = unmatched_of Applied ∷ []
-count_left (PartialSingular unmatched) old = unmatched_of (PartialSingular unmatched) ∷ []
-count_left (Refused number) old = old
+abbrev pub count_left : Result Scaled ℕ → List ℕ → List ℕ
+count_left (Ok scaled) old = unmatched_of (Ok scaled) ∷ []
+count_left (Err number) old = old
 
 -- an outcome of the rule's call as a number and a count
-abbrev pub result_of : Outcome Scaled Slices → List ℕ → Outcome ℕ Lent
-result_of o old = outcome_is (number_of o.answer) (lent o.after (count_left o.answer old))
+abbrev pub result_of : Outcome (Result Scaled ℕ) Slices → List ℕ → Outcome ℕ Lent
+result_of o old = outcome_is (fault_of o.answer) (lent o.after (count_left o.answer old))
 
 -- the first thing wrong, or 0
 unfoldable pub number_fault : ℕ → ℕ → Input → Slices → List ℕ → ℕ

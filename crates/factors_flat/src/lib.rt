@@ -3,6 +3,7 @@
 
 ghost use Rattle.std.specs.Prelude.{◌≡◌, true, ◌+◌, ◌-◌, ◌^◌, ◌≤◌, ◌<◌, eqb, length, get_or, replicate};
 ghost use Rattle.limits.specs.Limits.{max_columns};
+ghost use Rattle.refusal.specs.Number.{number, number_of, numbered};
 ghost use Rattle.slices.specs.Outcome.{outcome_is};
 ghost use Rattle.sparse.specs.Fault.{or_else};
 ghost use Rattle.sparse.specs.Matrix.{matrix};
@@ -12,12 +13,13 @@ ghost use Rattle.factors_mc64.specs.Calls.{slices, matching_fault};
 ghost use Rattle.factors_mc64.specs.inner.Steps.{Accepted};
 ghost use Rattle.factors_flat.specs.Flat.{input, flat_factors};
 ghost use Rattle.factors_flat.specs.Call.{flat_lengths, flat_outcome, Promises};
-ghost use Rattle.factors_flat.specs.ByNumber.{rule_of, unfit_fault, NumberPromises};
+ghost use Rattle.factors_flat.specs.ByNumber.{rule_by, unfit_fault, NumberPromises};
 ghost use Rattle.factors_flat.specs.inner.Steps.{Levelled, no_sums, MarkedTo, Ready, Enters};
 ghost use Rattle.factors_flat.specs.inner.Steps.{raised_to, raised_at, entered, turned, turned_all};
 
 use factors_mc64::Scaled;
 use limits::NONE;
+use refusal::Refusal;
 use sparse::layout;
 
 // The factor of an unmatched index: 0, or one that leaves its largest entry to a matched index flat.
@@ -52,7 +54,7 @@ fn lengths_fit(
     (col_ptr.len() == n + 1) & ((values.len() == count) & ((logs.len() == count) & held))
 }
 
-// Refusals 1 to 7, per entry 9 and 8, then 10 of the flat rule, or 0.
+// Refusals 1 to 7, per entry 9 and 8, then 10 of the flat rule.
 fn call_fault(
     n: u32,
     matched: u32,
@@ -62,15 +64,12 @@ fn call_fault(
     values: &[f64],
     logs: &[f64],
     lengths: bool,
-) -> u32
+) -> Result<(), Refusal>
     requires { lengths ≡ true → length logs.now ≡ length values.now }
     ensures { let m = matrix n col_ptr.now row_idx.now values.now in
-        result ≡ or_else (input_fault m logs.now lengths) (matching_fault n matched perm.now) }
+        number_of result ≡ or_else (input_fault m logs.now lengths) (matching_fault n matched perm.now) }
 {
-    let fault = mc64_symmetric::input_fault(n, col_ptr, row_idx, values, logs, lengths);
-    if fault != refusal::ACCEPTED {
-        return fault;
-    }
+    mc64_symmetric::input_fault(n, col_ptr, row_idx, values, logs, lengths)?;
     factors_mc64::matching_fault(n, matched, perm)
 }
 
@@ -101,7 +100,7 @@ fn fill_matched(
     ensures { let c = match_of perm.now u.now v.now cmax.now in
         Levelled n c no_sums (slices factors.new work.new) }
 {
-    slices::clear(work);
+    slices::fill(work, 0);
     factors_mc64::mark_rows(n, perm, work);
     factors_mc64::fill_factors(n, perm, u, v, cmax, factors, work);
     mark_matched(n, perm, cmax, work);
@@ -139,17 +138,10 @@ fn enter(i: usize, j: usize, log: f64, factors: &mut [f64], work: &mut [u32])
         let column = eqb (get_or work.old j 0) 1 in
         slices factors.new work.new ≡ entered row column i j log before }
 {
-    let row = work[i] == 1;
-    let column = work[j] == 1;
-    if row {
-        if column {
-            return;
-        }
-        raise(j, i, log, factors, work);
-        return;
-    }
-    if column {
-        raise(i, j, log, factors, work);
+    match (work[i] == 1, work[j] == 1) {
+        (true, false) => raise(j, i, log, factors, work),
+        (false, true) => raise(i, j, log, factors, work),
+        _ => {}
     }
 }
 
@@ -248,7 +240,7 @@ fn write_flat(
     fill_matched(n, perm, u, v, cmax, factors, work);
     enter_entries(n, col_ptr, row_idx, values, logs, factors, work);
     turn_sums(n, factors, work);
-    slices::clear(work); // SPECIFICATION 3.3: an accepted call leaves its work zero
+    slices::fill(work, 0); // SPECIFICATION 3.3: an accepted call leaves its work zero
 }
 
 // The log factors by Duff and Pralet's rule.
@@ -265,25 +257,22 @@ fn flat_factors(
     logs: &[f64],
     factors: &mut [f64],
     work: &mut [u32],
-) -> Scaled
+) -> Result<Scaled, Refusal>
     ensures { let c = match_of perm.now u.now v.now cmax.now in
         let m = matrix n col_ptr.now row_idx.now values.now in
         let before = slices factors.old work.old in
         let after = slices factors.new work.new in
-        outcome_is result after ≡ flat_outcome matched (input c m logs.now) before }
+        outcome_is (numbered result) after ≡ flat_outcome matched (input c m logs.now) before }
 {
     let size = n as usize;
     let fit = lengths_fit(
         size, perm, u, v, cmax, col_ptr, row_idx, values, logs, factors, work,
     );
-    let fault = call_fault(n, matched, perm, col_ptr, row_idx, values, logs, fit);
-    if fault != refusal::ACCEPTED {
-        return Scaled::Refused(fault);
-    }
+    call_fault(n, matched, perm, col_ptr, row_idx, values, logs, fit)?;
     write_flat(
         size, perm, u, v, cmax, col_ptr, row_idx, values, logs, factors, work,
     );
-    factors_mc64::answer(n, matched)
+    Ok(factors_mc64::answer(n, matched))
 }
 
 // One log factor for each row and its column, by the rule. The identity rule is `log_factors` and reads no matrix.
@@ -301,12 +290,12 @@ pub fn log_factors_by_rule(
     logs: &[f64],
     factors: &mut [f64],
     work: &mut [u32],
-) -> Scaled
+) -> Result<Scaled, Refusal>
     ensures { let c = match_of perm.now u.now v.now cmax.now in
         let m = matrix n col_ptr.now row_idx.now values.now in
         let before = slices factors.old work.old in
         let after = slices factors.new work.new in
-        Promises rule matched (input c m logs.now) before result after }
+        Promises rule matched (input c m logs.now) before (numbered result) after }
 {
     match rule {
         Rule::Identity => factors_mc64::log_factors(n, matched, perm, u, v, cmax, factors, work),
@@ -316,27 +305,28 @@ pub fn log_factors_by_rule(
     }
 }
 
-// The rule of a number, 0 or 1.
-fn rule_for(number: u32) -> Rule
-    ensures { result ≡ rule_of number }
+// The rule of a number, 0 or 1; refusal 5 of any other.
+fn rule_for(number: u32) -> Result<Rule, Refusal>
+    ensures { numbered result ≡ rule_by number }
 {
-    if number == 0 {
-        return Rule::Identity;
+    match number {
+        0 => Ok(Rule::Identity),
+        1 => Ok(Rule::Flat),
+        _ => Err(Refusal::IndexRange),
     }
-    Rule::Flat
 }
 
 // The fault of a call by the rule whose lengths are wrong.
-fn unfit_fault(number: u32, n: u32, entries: usize) -> u32
-    ensures { result ≡ unfit_fault (rule_of number) n entries }
+fn unfit_fault(rule: Rule, n: u32, entries: usize) -> Refusal
+    ensures { number result ≡ unfit_fault rule n entries }
 {
-    if number == 0 {
-        return layout::size_fault(n, 0, 0, false);
+    match rule {
+        Rule::Identity => layout::length_fault(n, 0, 0),
+        Rule::Flat => layout::length_fault(n, limits::MAX_SYMMETRIC, entries),
     }
-    layout::size_fault(n, limits::MAX_SYMMETRIC, entries, false)
 }
 
-// The same by the number of a rule: answers 0, and `unmatched` has the count of unmatched columns, or the refusal.
+// The same by the number of a rule: `unmatched` gets the count of unmatched columns.
 pub fn factors_by_number(
     number: u32,
     n: u32,
@@ -352,33 +342,24 @@ pub fn factors_by_number(
     factors: &mut [f64],
     work: &mut [u32],
     unmatched: &mut [u32],
-) -> u32
+) -> Result<(), Refusal>
     ensures { let c = match_of perm.now u.now v.now cmax.now in
         let m = matrix n col_ptr.now row_idx.now values.now in
         let g = input c m logs.now in
         let before = slices factors.old work.old in
         let after = slices factors.new work.new in
-        NumberPromises number matched g before unmatched.old result after unmatched.new }
+        NumberPromises number matched g before unmatched.old (number_of result) after unmatched.new }
 {
-    if number > 1 {
-        return refusal::INDEX_RANGE;
-    }
+    let rule = rule_for(number)?;
     if unmatched.len() != 1 {
-        return unfit_fault(number, n, row_idx.len());
+        return Err(unfit_fault(rule, n, row_idx.len()));
     }
-    let rule = rule_for(number);
-    let answer = log_factors_by_rule(
+    let scaled = log_factors_by_rule(
         rule, n, matched, perm, u, v, cmax, col_ptr, row_idx, values, logs, factors, work,
-    );
-    match answer {
-        Scaled::Applied => {
-            unmatched[0] = 0;
-            refusal::ACCEPTED
-        }
-        Scaled::PartialSingular(count) => {
-            unmatched[0] = count;
-            refusal::ACCEPTED
-        }
-        Scaled::Refused(number) => number,
-    }
+    )?;
+    unmatched[0] = match scaled {
+        Scaled::Applied => 0,
+        Scaled::PartialSingular(count) => count,
+    };
+    Ok(())
 }

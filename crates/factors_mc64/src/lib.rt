@@ -3,6 +3,7 @@
 
 ghost use Rattle.std.specs.Prelude.{◌≡◌, ◌-◌, ◌≤◌, length, replicate};
 ghost use Rattle.limits.specs.Limits.{max_columns};
+ghost use Rattle.refusal.specs.Number.{number_of, numbered};
 ghost use Rattle.sparse.specs.Fault.{or_else};
 ghost use Rattle.matching.specs.Match.{match_of};
 ghost use Rattle.factors_mc64.specs.Factors.{log_factor, held, symmetric_factors, row_factors, column_factors};
@@ -13,13 +14,13 @@ ghost use Rattle.factors_mc64.specs.Calls.{SymmetricPromises, UnsymmetricPromise
 ghost use Rattle.factors_mc64.specs.inner.Steps.{Rows, Accepted, Marked, SideRoom};
 
 use limits::NONE;
+use refusal::Refusal;
 
-// What `log_factors` answers: every column is matched, or how many are not, or the refusal.
+// What an accepted call answers: every column is matched, or how many are not.
 #[derive(Clone, Copy)]
 pub enum Scaled {
     Applied,
     PartialSingular(u32),
-    Refused(u32),
 }
 
 // Whether every slice of the symmetric call has its length.
@@ -46,30 +47,26 @@ fn row_or_none(n: u32, row: u32) -> bool
     (row == NONE) | (row < n)
 }
 
-// Refusal 10, or 0.
-pub fn matching_fault(n: u32, matched: u32, perm: &[u32]) -> u32
-    ensures { result ≡ matching_fault n matched perm.now }
+// Refusal 10.
+pub fn matching_fault(n: u32, matched: u32, perm: &[u32]) -> Result<(), Refusal>
+    ensures { number_of result ≡ matching_fault n matched perm.now }
 {
     if matched > n {
-        return refusal::MATCHING_RANGE;
+        return Err(Refusal::MatchingRange);
     }
-    for k in 0..perm.len() {
-        let fine = row_or_none(n, perm[k]);
-        if !fine {
-            return refusal::MATCHING_RANGE;
+    for &row in perm {
+        if !row_or_none(n, row) {
+            return Err(Refusal::MatchingRange);
         }
     }
-    refusal::ACCEPTED
+    Ok(())
 }
 
-// Refusals 1, 3 and 10 of the symmetric call, or 0.
-fn call_fault(n: u32, matched: u32, perm: &[u32], lengths: bool) -> u32
-    ensures { result ≡ or_else (sizes n lengths) (matching_fault n matched perm.now) }
+// Refusals 1, 3 and 10 of the symmetric call.
+fn call_fault(n: u32, matched: u32, perm: &[u32], lengths: bool) -> Result<(), Refusal>
+    ensures { number_of result ≡ or_else (sizes n lengths) (matching_fault n matched perm.now) }
 {
-    let fault = sparse::layout::size_fault(n, 0, 0, lengths);
-    if fault != refusal::ACCEPTED {
-        return fault;
-    }
+    sparse::layout::size_fault(n, 0, 0, lengths)?;
     matching_fault(n, matched, perm)
 }
 
@@ -80,8 +77,7 @@ pub fn mark_rows(n: usize, perm: &[u32], work: &mut [u32])
     requires marked { Marked n perm.now 0 work.old }
     ensures { Marked n perm.now n work.new }
 {
-    for k in 0..n {
-        let row = perm[k];
+    for &row in &perm[..n] {
         if row != NONE {
             work[row as usize] = 1;
         }
@@ -136,10 +132,10 @@ pub fn write_factors(
     ensures { let m = match_of perm.now u.now v.now cmax.now in
         slices factors.new work.new ≡ slices (symmetric_factors n m) (replicate n 0) }
 {
-    slices::clear(work);
+    slices::fill(work, 0);
     mark_rows(n, perm, work);
     fill_factors(n, perm, u, v, cmax, factors, work);
-    slices::clear(work);
+    slices::fill(work, 0);
 }
 
 // The answer of an accepted call.
@@ -163,20 +159,17 @@ pub fn log_factors(
     cmax: &[f64],
     factors: &mut [f64],
     work: &mut [u32],
-) -> Scaled
+) -> Result<Scaled, Refusal>
     ensures { let m = match_of perm.now u.now v.now cmax.now in
         let before = slices factors.old work.old in
         let after = slices factors.new work.new in
-        SymmetricPromises n matched m before result after }
+        SymmetricPromises n matched m before (numbered result) after }
 {
     let size = n as usize;
     let lengths = lengths_fit(size, perm, u, v, cmax, factors, work);
-    let fault = call_fault(n, matched, perm, lengths);
-    if fault != refusal::ACCEPTED {
-        return Scaled::Refused(fault);
-    }
+    call_fault(n, matched, perm, lengths)?;
     write_factors(size, perm, u, v, cmax, factors, work);
-    answer(n, matched)
+    Ok(answer(n, matched))
 }
 
 // x held to -709..709, or 0.0 for a NaN.
@@ -218,16 +211,13 @@ pub fn unsymmetric_factors(
     cmax: &[f64],
     rows: &mut [f64],
     columns: &mut [f64],
-) -> u32
+) -> Result<(), Refusal>
     ensures { UnsymmetricPromises n u.now v.now cmax.now
-        rows.old columns.old result rows.new columns.new }
+        rows.old columns.old (number_of result) rows.new columns.new }
 {
     let size = n as usize;
     let lengths = side_lengths(size, u, v, cmax, rows, columns);
-    let fault = sparse::layout::size_fault(n, 0, 0, lengths);
-    if fault != refusal::ACCEPTED {
-        return fault;
-    }
+    sparse::layout::size_fault(n, 0, 0, lengths)?;
     write_sides(size, u, v, cmax, rows, columns);
-    refusal::ACCEPTED
+    Ok(())
 }

@@ -1,7 +1,8 @@
 -- SPECIFICATION 10.1: What `compute_symmetric` answers and leaves: the symmetric cost graph, its match and the log
 -- factors, one after the other. It refuses as the building does, with the lengths of every slice at 3, and then changes
 -- nothing.
-use Rattle.std.specs.Prelude.{◌≡◌, Bool, ◌&&◌, List, ℕ, ◌+◌, ◌-◌, ◌*◌, eqb, Float, length, replicate}
+use Rattle.std.specs.Prelude.{◌≡◌, Bool, ◌&&◌, List, ℕ, ◌+◌, ◌-◌, ◌*◌, eqb, Float, length, replicate, Result, Ok, Err}
+use Rattle.refusal.specs.Number.{fault_of}
 use Rattle.refusal.specs.Listed.{OneOf, symmetric_graph_numbers}
 use Rattle.slices.specs.Outcome.{Outcome, outcome_is, refusing}
 use Rattle.float64.specs.Constants.{zero as fzero}
@@ -15,7 +16,7 @@ use Rattle.mc64_columns.specs.Graphs.{graph_pointers, graph_rows, graph_costs, g
 use Rattle.mc64_symmetric.specs.Graph.{mirrored_columns}
 use Rattle.mc64_symmetric.specs.Call.{lengths_fit, input_fault}
 use Rattle.factors_mc64.specs.declared.Scaled.{Scaled}
-use Rattle.factors_mc64.specs.declared.Scaled.TheVariants.{Applied, Refused}
+use Rattle.factors_mc64.specs.declared.Scaled.TheVariants.{Applied}
 use Rattle.factors_mc64.specs.Factors.{symmetric_factors}
 use Rattle.factors_mc64.specs.Calls as Factors
 use Rattle.factors_balance.specs.Balance.{WholeLogs, NoneHeld, Balanced}
@@ -78,34 +79,34 @@ slices_after m logs l =
     (factors_left g (graph_largest (mirrored_columns m) logs m.pattern.n))
 
 -- an accepted call: every column is matched, or how many are not
-unfoldable pub scaled : Matrix → List Float → ScalingSlices → Outcome Scaled ScalingSlices
+unfoldable pub scaled : Matrix → List Float → ScalingSlices → Outcome (Result Scaled ℕ) ScalingSlices
 scaled m logs l =
-    outcome_is (Factors.applied_or_partial m.pattern.n (hungarian_match (symmetric_graph m logs)).matched)
+    outcome_is (Ok (Factors.applied_or_partial m.pattern.n (hungarian_match (symmetric_graph m logs)).matched))
     (slices_after m logs l)
 
 -- what `compute_symmetric` does
-unfoldable pub symmetric_scaling : Matrix → List Float → ScalingSlices → Outcome Scaled ScalingSlices
+unfoldable pub symmetric_scaling : Matrix → List Float → ScalingSlices → Outcome (Result Scaled ℕ) ScalingSlices
 unfolding scaled rest_fits
-symmetric_scaling m logs l = refusing Refused (scaling_fault m logs l) (scaled m logs l) l
+symmetric_scaling m logs l = refusing Err (scaling_fault m logs l) (scaled m logs l) l
 
 -- what the factors achieve if every column is matched, the logs read are whole and no factor is held: the two factors
 -- of an entry and its log never exceed 0, and are exactly 0 on every matched pair
-abbrev pub Balances : Matrix → List Float → Scaled → Match Float → List Float → Type 0
+abbrev pub Balances : Matrix → List Float → Result Scaled ℕ → Match Float → List Float → Type 0
 Balances m logs answer c factors =
-    answer ≡ Applied → WholeLogs m logs → NoneHeld m.pattern.n c factors → Balanced m logs c.perm factors
+    answer ≡ Ok Applied → WholeLogs m logs → NoneHeld m.pattern.n c factors → Balanced m logs c.perm factors
 
 -- the match that is left, with the largest logs
 abbrev pub cache_left : ScalingSlices → Match Float
 cache_left after = match_of after.pairs.perm after.pairs.u after.pairs.v after.graph.cmax
 
 -- ---- all that `compute_symmetric` promises, of the matrix, its logs, what was lent, its answer r and what is left
-pub record Promises (m : Matrix) (logs : List Float) (before : ScalingSlices) (r : Scaled)
+pub record Promises (m : Matrix) (logs : List Float) (before : ScalingSlices) (r : Result Scaled ℕ)
     (after : ScalingSlices) : Type 0 where
   -- the answer and every slice left are the definition's
   pub outcome : outcome_is r after ≡ symmetric_scaling m logs before
   -- the number is that of the first fault, and an accepted call answers how many columns are unmatched
   pub answered : Factors.AnswersBy (scaling_fault m logs before) (unmatched_columns m logs) r
   -- the number is one of the call's list
-  pub number : OneOf symmetric_graph_numbers (Factors.number_of r)
+  pub number : OneOf symmetric_graph_numbers (fault_of r)
   -- if every column is matched, the factors of whole logs balance the entries
   pub balanced : Balances m logs r (cache_left after) after.scaled.factors

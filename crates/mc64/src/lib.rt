@@ -2,6 +2,7 @@
 #![tactic(auto)]
 
 ghost use Rattle.std.specs.Prelude.{◌≡◌};
+ghost use Rattle.refusal.specs.Number.{numbered};
 ghost use Rattle.sparse.specs.Matrix.{matrix};
 ghost use Rattle.hungarian.specs.Graph.{graph_of};
 ghost use Rattle.hungarian_match.specs.Call as Match;
@@ -11,7 +12,7 @@ ghost use Rattle.mc64.specs.Call.{scaling_slices, rest_lengths, Promises};
 ghost use Rattle.mc64.specs.inner.Steps.{Ready, Scales};
 
 use factors_mc64::Scaled;
-use mc64_columns::Built;
+use refusal::Refusal;
 use sparse::layout;
 
 // Whether the slices of the match and of the factors have their lengths.
@@ -69,7 +70,7 @@ fn match_and_scale(
     factors_mc64::answer(n, found.matched as u32)
 }
 
-// The log factors of a symmetric matrix, or the number of the first thing wrong.
+// The log factors of a symmetric matrix.
 pub fn compute_symmetric(
     n: u32,
     col_ptr: &[u32],
@@ -88,7 +89,7 @@ pub fn compute_symmetric(
     distances: &mut [f64],
     factors: &mut [f64],
     factor_work: &mut [u32],
-) -> Scaled
+) -> Result<Scaled, Refusal>
     ensures { let m = matrix n col_ptr.now row_idx.now values.now in
         let graph = Graphs.slices graph_ptr.old graph_rows.old cost.old
         cmax.old graph_work.old in
@@ -101,31 +102,29 @@ pub fn compute_symmetric(
         distances.new in
         let after = scaling_slices graphAfter pairs_after (Factors.slices factors.new
         factor_work.new) in
-        Promises m logs.now before result after }
+        Promises m logs.now before (numbered result) after }
 {
     let fit = rest_fits(n, perm, u, v, match_work, distances, factors, factor_work);
     if !fit {
-        let fault = layout::size_fault(n, limits::MAX_SYMMETRIC, row_idx.len(), false);
-        return Scaled::Refused(fault);
+        return Err(layout::length_fault(n, limits::MAX_SYMMETRIC, row_idx.len()));
     }
-    let built = mc64_symmetric::build_cost_graph(
+    let kept = mc64_symmetric::build_cost_graph(
         n, col_ptr, row_idx, values, logs, graph_ptr, graph_rows, cost, cmax, graph_work,
+    )?;
+    let end = kept as usize;
+    let scaled = match_and_scale(
+        n,
+        graph_ptr,
+        &graph_rows[..end],
+        &cost[..end],
+        cmax,
+        perm,
+        u,
+        v,
+        match_work,
+        distances,
+        factors,
+        factor_work,
     );
-    match built {
-        Built::Kept(kept) => match_and_scale(
-            n,
-            graph_ptr,
-            &graph_rows[..kept as usize],
-            &cost[..kept as usize],
-            cmax,
-            perm,
-            u,
-            v,
-            match_work,
-            distances,
-            factors,
-            factor_work,
-        ),
-        Built::Refused(number) => Scaled::Refused(number),
-    }
+    Ok(scaled)
 }

@@ -1,13 +1,12 @@
 -- SPECIFICATION 6.3: What every cost graph of a matrix has in common: what is lent for it, the graph of columns that
 -- follow one another, and what a builder answers and leaves.
-use Rattle.std.specs.Prelude.{◌≡◌, Bool, ◌&&◌, List, [], ◌∷◌, ◌++◌, map, ℕ, zero, suc, ◌+◌, ◌*◌, eqb, Float, length, get_or, drop, replicate}
+use Rattle.std.specs.Prelude.{◌≡◌, Bool, ◌&&◌, List, [], ◌∷◌, ◌++◌, map, ℕ, zero, suc, ◌+◌, ◌*◌, eqb, Float, length, get_or, drop, replicate, Result, Ok, Err}
 use Rattle.std.specs.Float.{nan}
 use Rattle.refusal.specs.Refusal.{accepted}
+use Rattle.refusal.specs.Number.{fault_of}
 use Rattle.slices.specs.Outcome.{Outcome, outcome_is, refusing}
 use Rattle.sparse.specs.Matrix.{Matrix}
 use Rattle.mc64_columns.specs.Columns.{normalised}
-use Rattle.mc64_columns.specs.declared.Built.{Built}
-use Rattle.mc64_columns.specs.declared.Built.TheVariants.{Kept, Refused}
 
 -- what is lent for the graph, and the work
 pub record Slices : Type 0 where
@@ -34,19 +33,15 @@ slices_fit room m logs s =
     && (eqb (length s.cmax) p.n && eqb (length s.work) (2 * p.n + 2 + length p.row_idx)))))))
 
 -- ---- answers
--- the number of an answer, 0 for a graph, and how many entries that has
-abbrev pub number_of : Built → ℕ
-number_of (Kept count) = accepted
-number_of (Refused number) = number
-
-abbrev pub kept_of : Built → ℕ
-kept_of (Kept count) = count
-kept_of (Refused number) = 0
+-- how many entries the graph of an answer has
+abbrev pub kept_of : Result ℕ ℕ → ℕ
+kept_of (Ok count) = count
+kept_of (Err number) = 0
 
 -- an answer by its fault: the number is the fault; without one, the kept count is answered
-pub record AnswersBy (fault kept : ℕ) (answer : Built) : Type 0 where
-  pub number : number_of answer ≡ fault
-  pub count : number_of answer ≡ accepted → kept_of answer ≡ kept
+pub record AnswersBy (fault kept : ℕ) (answer : Result ℕ ℕ) : Type 0 where
+  pub number : fault_of answer ≡ fault
+  pub count : fault_of answer ≡ accepted → kept_of answer ≡ kept
 
 -- ---- columns
 -- what f gives for the columns before c, one after the other
@@ -115,5 +110,5 @@ built n g logs s =
     }
 
 -- by the fault: the kept count and the graph, or the refusal
-abbrev pub outcome : ℕ → ℕ → GraphColumns → List Float → Slices → Outcome Built Slices
-outcome fault n g logs s = refusing Refused fault (outcome_is (Kept (kept_before g n)) (built n g logs s)) s
+abbrev pub outcome : ℕ → ℕ → GraphColumns → List Float → Slices → Outcome (Result ℕ ℕ) Slices
+outcome fault n g logs s = refusing Err fault (outcome_is (Ok (kept_before g n)) (built n g logs s)) s

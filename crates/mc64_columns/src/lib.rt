@@ -5,13 +5,6 @@ ghost use Rattle.std.specs.Prelude.{◌≡◌, ◌+◌, ◌≤◌, ◌<◌, leng
 ghost use Rattle.mc64_columns.specs.Columns.{largest, below, normalised};
 ghost use Rattle.mc64_columns.specs.inner.Steps.{entry_log, WordOf, WordsPut};
 
-// What a builder answers: how many entries the graph has, or the refusal.
-#[derive(Clone, Copy)]
-pub enum Built {
-    Kept(u32),
-    Refused(u32),
-}
-
 // Where the logs of entries come from: they are lent, or values are lent and the logs are computed from them.
 #[derive(Clone, Copy)]
 pub enum LogSource {
@@ -47,8 +40,7 @@ fn top_of(column: &[f64]) -> f64
     ensures { result ≡ largest column.now }
 {
     let mut top = column[0];
-    for k in 1..column.len() {
-        let log = column[k];
+    for &log in &column[1..] {
         if log > top {
             top = log;
         }
@@ -60,8 +52,8 @@ fn top_of(column: &[f64]) -> f64
 pub fn subtract(top: f64, column: &mut [f64])
     ensures { column.new ≡ below top column.old }
 {
-    for k in 0..column.len() {
-        column[k] = top - column[k];
+    for log in column {
+        *log = top - *log;
     }
 }
 

@@ -1,9 +1,10 @@
 -- SPECIFICATION 6.2: What `build_general_graph` answers and leaves: 1, 2, 3, then what `general::validate` answers,
 -- then 8 in stored order; a refusal changes nothing.
-use Rattle.std.specs.Prelude.{◌≡◌, Bool, not, ◌||◌, List, ℕ, Float, length, get_or}
+use Rattle.std.specs.Prelude.{◌≡◌, Bool, not, ◌||◌, List, ℕ, Float, length, get_or, Result}
 use Rattle.std.specs.Float.{nan}
 use Rattle.limits.specs.Limits.{max_general}
 use Rattle.refusal.specs.Refusal.{cost_range}
+use Rattle.refusal.specs.Number.{fault_of}
 use Rattle.refusal.specs.Listed.{OneOf, graph_numbers}
 use Rattle.slices.specs.Outcome.{Outcome, outcome_is}
 use Rattle.sparse.specs.Fault.{unless, or_else, first_of}
@@ -11,8 +12,7 @@ use Rattle.sparse.specs.Validate.{size_fault, general_fault}
 use Rattle.cost_limit.specs.Range.{in_log_range}
 use Rattle.sparse.specs.Matrix.{Matrix}
 use Rattle.mc64_columns.specs.Graphs.{Slices, slices_fit, outcome}
-use Rattle.mc64_columns.specs.Graphs.{number_of, kept_before, AnswersBy}
-use Rattle.mc64_columns.specs.declared.Built.{Built}
+use Rattle.mc64_columns.specs.Graphs.{kept_before, AnswersBy}
 use Rattle.mc64_general.specs.Graph.{is_kept, kept_columns}
 
 -- ---- refusals
@@ -43,15 +43,15 @@ abbrev pub general_graph_fault : Matrix → List Float → Slices → ℕ
 general_graph_fault m logs s = input_fault m logs (lengths_fit m logs s)
 
 -- what `build_general_graph` does
-unfoldable pub general_graph : Matrix → List Float → Slices → Outcome Built Slices
+unfoldable pub general_graph : Matrix → List Float → Slices → Outcome (Result ℕ ℕ) Slices
 general_graph m logs s = outcome (general_graph_fault m logs s) m.pattern.n (kept_columns m) logs s
 
 -- ---- all that `build_general_graph` promises, of the matrix, its logs, what was lent, its answer r and what is left
-pub record Promises (m : Matrix) (logs : List Float) (before : Slices) (r : Built) (after : Slices)
+pub record Promises (m : Matrix) (logs : List Float) (before : Slices) (r : Result ℕ ℕ) (after : Slices)
     : Type 0 where
   -- the answer and every slice left are the definition's
   pub outcome : outcome_is r after ≡ general_graph m logs before
   -- the number is that of the first fault, and an accepted call answers how many entries the graph has
   pub answered : AnswersBy (general_graph_fault m logs before) (kept_before (kept_columns m) m.pattern.n) r
   -- the number is one of the call's list
-  pub number : OneOf graph_numbers (number_of r)
+  pub number : OneOf graph_numbers (fault_of r)

@@ -4,6 +4,7 @@
 ghost use Rattle.std.specs.Prelude.{◌≡◌, true, cond, ◌||◌, ℕ, ◌+◌, ◌^◌, ◌≤◌, ◌<◌, ◌-◌, length};
 ghost use Rattle.std.specs.Float.Ieee.{lt};
 ghost use Rattle.limits.specs.Limits.{max_columns};
+ghost use Rattle.refusal.specs.Number.{number_of, numbered};
 ghost use Rattle.sparse.specs.Matrix.{matrix};
 ghost use Rattle.cost_limit.specs.inner.Limits.{LogLimit};
 ghost use Rattle.mc64_columns.specs.inner.Steps.{entry_logs, Worded};
@@ -12,7 +13,8 @@ ghost use Rattle.mc64_general.specs.Graph.{is_kept, kept_places};
 ghost use Rattle.mc64_general.specs.Call.{lengths_fit, log_fits, logs_fault, input_fault, Promises};
 ghost use Rattle.mc64_general.specs.inner.Steps.{Accepted, Roomy, Copied, BuiltAll};
 
-use mc64_columns::{Built, LogSource};
+use mc64_columns::LogSource;
+use refusal::Refusal;
 use sparse::{general, layout};
 
 // Whether every slice has its length.
@@ -57,24 +59,24 @@ fn log_fits(limit: f64, value: f64, log: f64) -> bool
     !is_kept(value) | fits
 }
 
-// Refusal 8, or 0. The loop has no early exit, so that it can test several entries at a time.
-fn logs_fault(n: u32, values: &[f64], logs: &[f64]) -> u32
+// Refusal 8. The loop has no early exit, so that it can test several entries at a time.
+fn logs_fault(n: u32, values: &[f64], logs: &[f64]) -> Result<(), Refusal>
     requires { (n ≤ max_columns) × (length logs.now ≡ length values.now) }
-    ensures { result ≡ logs_fault n values.now logs.now }
+    ensures { number_of result ≡ logs_fault n values.now logs.now }
 {
     let limit = cost_limit::log_limit(n);
     let mut fine = true;
-    for k in 0..values.len() {
-        fine = fine & log_fits(limit, values[k], logs[k]);
+    for (&value, &log) in values.iter().zip(logs) {
+        fine &= log_fits(limit, value, log);
     }
     if fine {
-        refusal::ACCEPTED
+        Ok(())
     } else {
-        refusal::COST_RANGE
+        Err(Refusal::CostRange)
     }
 }
 
-// The number of the first thing wrong, or 0; `lengths` says whether every slice has its length.
+// The first thing wrong; `lengths` says whether every slice has its length.
 fn input_fault(
     n: u32,
     col_ptr: &[u32],
@@ -82,19 +84,13 @@ fn input_fault(
     values: &[f64],
     logs: &[f64],
     lengths: bool,
-) -> u32
+) -> Result<(), Refusal>
     requires { lengths ≡ true → length logs.now ≡ length values.now }
     ensures { let m = matrix n col_ptr.now row_idx.now values.now in
-        result ≡ input_fault m logs.now lengths }
+        number_of result ≡ input_fault m logs.now lengths }
 {
-    let sizes = layout::size_fault(n, limits::MAX_GENERAL, row_idx.len(), lengths);
-    if sizes != refusal::ACCEPTED {
-        return sizes;
-    }
-    let fault = layout::number_of(general::validate(n, col_ptr, row_idx, values));
-    if fault != refusal::ACCEPTED {
-        return fault;
-    }
+    layout::size_fault(n, limits::MAX_GENERAL, row_idx.len(), lengths)?;
+    general::validate(n, col_ptr, row_idx, values)?;
     logs_fault(n, values, logs)
 }
 
@@ -145,10 +141,7 @@ fn keep_column(
         top = larger(next == at, log, top);
         next += 1;
     }
-    KeptColumn {
-        next: next,
-        top: top,
-    }
+    KeptColumn { next, top }
 }
 
 // The graph of an accepted matrix, column by column; how many entries it has. Where the logs are not lent, `words` has
@@ -190,7 +183,7 @@ pub fn build(
     next as u32
 }
 
-// The cost graph of the matrix, or the number of the first thing wrong.
+// The cost graph of the matrix; how many entries it has.
 pub fn build_general_graph(
     n: u32,
     col_ptr: &[u32],
@@ -202,23 +195,20 @@ pub fn build_general_graph(
     cost: &mut [f64],
     cmax: &mut [f64],
     work: &mut [u32],
-) -> Built
+) -> Result<u32, Refusal>
     ensures { let m = matrix n col_ptr.now row_idx.now values.now in
         let before = slices graph_ptr.old graph_rows.old cost.old
         cmax.old
         work.old in
         let after = slices graph_ptr.new graph_rows.new cost.new cmax.new
         work.new in
-        Promises m logs.now before result after }
+        Promises m logs.now before (numbered result) after }
 {
     let size = n as usize;
     let fit = lengths_fit(
         size, col_ptr, row_idx, values, logs, graph_ptr, graph_rows, cost, cmax, work,
     );
-    let fault = input_fault(n, col_ptr, row_idx, values, logs, fit);
-    if fault != refusal::ACCEPTED {
-        return Built::Refused(fault);
-    }
+    input_fault(n, col_ptr, row_idx, values, logs, fit)?;
     let kept = build(
         size,
         col_ptr,
@@ -232,6 +222,6 @@ pub fn build_general_graph(
         cmax,
         LogSource::Lent,
     );
-    slices::clear(work);
-    Built::Kept(kept)
+    slices::fill(work, 0);
+    Ok(kept)
 }

@@ -1,11 +1,12 @@
 -- SPECIFICATION 6.4: Cost graphs from whole-number logarithms of the values in place of lent logs: what the building of
 -- each kind answers and leaves, and what is promised of the graph. It refuses what the matrix's own tests refuse, then
 -- a value that is not finite (9), in stored order. Zeros are dropped.
-use Rattle.std.specs.Prelude.{◌≡◌, Bool, List, ℕ, ◌*◌, Float, length, get_or, take}
+use Rattle.std.specs.Prelude.{◌≡◌, Bool, List, ℕ, ◌*◌, Float, length, get_or, take, Result}
 use Rattle.std.specs.Float.{nan}
 use Rattle.std.specs.Float.Ieee.Scale.{finite}
 use Rattle.limits.specs.Limits.{max_symmetric, max_general}
 use Rattle.refusal.specs.Refusal.{accepted, value_not_finite}
+use Rattle.refusal.specs.Number.{fault_of}
 use Rattle.refusal.specs.Listed.{OneOf, whole_symmetric_numbers, whole_general_numbers}
 use Rattle.slices.specs.Outcome.{Outcome, outcome_is}
 use Rattle.sparse.specs.Fault.{unless, or_else, first_of}
@@ -16,8 +17,7 @@ use Rattle.hungarian.specs.Accepted.{Accepted}
 use Rattle.hungarian.specs.Match.{hungarian_match}
 use Rattle.hungarian.specs.Optimal.{WholeCosts, Optimal}
 use Rattle.mc64_columns.specs.Columns.{value_logs}
-use Rattle.mc64_columns.specs.Graphs.{Slices, slices_fit, outcome, number_of, kept_before, AnswersBy}
-use Rattle.mc64_columns.specs.declared.Built.{Built}
+use Rattle.mc64_columns.specs.Graphs.{Slices, slices_fit, outcome, kept_before, AnswersBy}
 use Rattle.mc64_symmetric.specs.Graph.{mirrored_columns}
 use Rattle.mc64_general.specs.Graph.{kept_columns}
 
@@ -53,11 +53,11 @@ whole_general_fault m s = general_input_fault m (general_lengths m s)
 
 -- ---- graphs
 -- what the building of each kind does
-unfoldable pub whole_symmetric_graph : Matrix → Slices → Outcome Built Slices
+unfoldable pub whole_symmetric_graph : Matrix → Slices → Outcome (Result ℕ ℕ) Slices
 whole_symmetric_graph m s =
     outcome (whole_symmetric_fault m s) m.pattern.n (mirrored_columns m) (value_logs m.values) s
 
-unfoldable pub whole_general_graph : Matrix → Slices → Outcome Built Slices
+unfoldable pub whole_general_graph : Matrix → Slices → Outcome (Result ℕ ℕ) Slices
 whole_general_graph m s =
     outcome (whole_general_fault m s) m.pattern.n (kept_columns m) (value_logs m.values) s
 
@@ -80,23 +80,23 @@ LeavesWhole number n after = number ≡ accepted → WholeGraph (graph_left n af
 
 -- ---- all that each call promises, of the matrix, what was lent, its answer r and what is left
 -- `whole_symmetric_graph`
-pub record SymmetricPromises (m : Matrix) (before : Slices) (r : Built) (after : Slices) : Type 0 where
+pub record SymmetricPromises (m : Matrix) (before : Slices) (r : Result ℕ ℕ) (after : Slices) : Type 0 where
   -- the answer and every slice left are the definition's
   pub outcome : outcome_is r after ≡ whole_symmetric_graph m before
   -- the number is that of the first fault, and an accepted call answers how many entries the graph has
   pub answered : AnswersBy (whole_symmetric_fault m before) (kept_before (mirrored_columns m) m.pattern.n) r
   -- the match accepts the graph of an accepted call, and is optimal
-  pub optimal : LeavesWhole (number_of r) m.pattern.n after
+  pub optimal : LeavesWhole (fault_of r) m.pattern.n after
   -- the number is one of the call's list
-  pub number : OneOf whole_symmetric_numbers (number_of r)
+  pub number : OneOf whole_symmetric_numbers (fault_of r)
 
 -- `whole_general_graph`
-pub record GeneralPromises (m : Matrix) (before : Slices) (r : Built) (after : Slices) : Type 0 where
+pub record GeneralPromises (m : Matrix) (before : Slices) (r : Result ℕ ℕ) (after : Slices) : Type 0 where
   -- the answer and every slice left are the definition's
   pub outcome : outcome_is r after ≡ whole_general_graph m before
   -- the number is that of the first fault, and an accepted call answers how many entries the graph has
   pub answered : AnswersBy (whole_general_fault m before) (kept_before (kept_columns m) m.pattern.n) r
   -- the match accepts the graph of an accepted call, and is optimal
-  pub optimal : LeavesWhole (number_of r) m.pattern.n after
+  pub optimal : LeavesWhole (fault_of r) m.pattern.n after
   -- the number is one of the call's list
-  pub number : OneOf whole_general_numbers (number_of r)
+  pub number : OneOf whole_general_numbers (fault_of r)

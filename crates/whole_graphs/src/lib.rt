@@ -2,62 +2,64 @@
 #![tactic(auto)]
 
 ghost use Rattle.std.specs.Prelude.{◌≡◌};
+ghost use Rattle.refusal.specs.Number.{number_of, numbered};
 ghost use Rattle.sparse.specs.Matrix.{matrix};
 ghost use Rattle.mc64_columns.specs.Graphs.{slices};
 ghost use Rattle.whole_graphs.specs.Graphs.{finite_fault, symmetric_input_fault, general_input_fault};
 ghost use Rattle.whole_graphs.specs.Graphs.{SymmetricPromises, GeneralPromises};
 
-use mc64_columns::{Built, LogSource};
+use mc64_columns::LogSource;
+use refusal::Refusal;
 use sparse::{csc, general, layout};
 
-// Refusal 9, or 0. The loop has no early exit, so that it can test several values at a time.
-fn values_fault(values: &[f64]) -> u32
-    ensures { result ≡ finite_fault values.now }
+// Refusal 9. The loop has no early exit, so that it can test several values at a time.
+fn values_fault(values: &[f64]) -> Result<(), Refusal>
+    ensures { number_of result ≡ finite_fault values.now }
 {
     let mut fine = true;
-    for k in 0..values.len() {
-        fine = fine & float64::is_finite(values[k]);
+    for &value in values {
+        fine &= float64::is_finite(value);
     }
     if fine {
-        refusal::ACCEPTED
+        Ok(())
     } else {
-        refusal::VALUE_NOT_FINITE
+        Err(Refusal::ValueNotFinite)
     }
 }
 
-// The number of the first thing wrong with a symmetric matrix, or 0; `lengths` says whether every slice has its length.
-fn symmetric_fault(n: u32, col_ptr: &[u32], row_idx: &[u32], values: &[f64], lengths: bool) -> u32
+// The first thing wrong with a symmetric matrix; `lengths` says whether every slice has its length.
+fn symmetric_fault(
+    n: u32,
+    col_ptr: &[u32],
+    row_idx: &[u32],
+    values: &[f64],
+    lengths: bool,
+) -> Result<(), Refusal>
     ensures { let m = matrix n col_ptr.now row_idx.now values.now in
-        result ≡ symmetric_input_fault m lengths }
+        number_of result ≡ symmetric_input_fault m lengths }
 {
-    let sizes = layout::size_fault(n, limits::MAX_SYMMETRIC, row_idx.len(), lengths);
-    if sizes != refusal::ACCEPTED {
-        return sizes;
-    }
-    let fault = layout::number_of(csc::validate(n, col_ptr, row_idx, values));
-    if fault != refusal::ACCEPTED {
-        return fault;
-    }
+    layout::size_fault(n, limits::MAX_SYMMETRIC, row_idx.len(), lengths)?;
+    csc::validate(n, col_ptr, row_idx, values)?;
     values_fault(values)
 }
 
 // The same of a general matrix.
-fn general_fault(n: u32, col_ptr: &[u32], row_idx: &[u32], values: &[f64], lengths: bool) -> u32
+fn general_fault(
+    n: u32,
+    col_ptr: &[u32],
+    row_idx: &[u32],
+    values: &[f64],
+    lengths: bool,
+) -> Result<(), Refusal>
     ensures { let m = matrix n col_ptr.now row_idx.now values.now in
-        result ≡ general_input_fault m lengths }
+        number_of result ≡ general_input_fault m lengths }
 {
-    let sizes = layout::size_fault(n, limits::MAX_GENERAL, row_idx.len(), lengths);
-    if sizes != refusal::ACCEPTED {
-        return sizes;
-    }
-    let fault = layout::number_of(general::validate(n, col_ptr, row_idx, values));
-    if fault != refusal::ACCEPTED {
-        return fault;
-    }
+    layout::size_fault(n, limits::MAX_GENERAL, row_idx.len(), lengths)?;
+    general::validate(n, col_ptr, row_idx, values)?;
     values_fault(values)
 }
 
-// The cost graph of a symmetric matrix, or the number of the first thing wrong.
+// The cost graph of a symmetric matrix; how many entries it has.
 pub fn whole_symmetric_graph(
     n: u32,
     col_ptr: &[u32],
@@ -68,23 +70,20 @@ pub fn whole_symmetric_graph(
     cost: &mut [f64],
     cmax: &mut [f64],
     work: &mut [u32],
-) -> Built
+) -> Result<u32, Refusal>
     ensures { let m = matrix n col_ptr.now row_idx.now values.now in
         let before = slices graph_ptr.old graph_rows.old cost.old
         cmax.old
         work.old in
         let after = slices graph_ptr.new graph_rows.new cost.new cmax.new
         work.new in
-        SymmetricPromises m before result after }
+        SymmetricPromises m before (numbered result) after }
 {
     let size = n as usize;
     let fit = mc64_symmetric::lengths_fit(
         size, col_ptr, row_idx, values, values, graph_ptr, graph_rows, cost, cmax, work,
     );
-    let fault = symmetric_fault(n, col_ptr, row_idx, values, fit);
-    if fault != refusal::ACCEPTED {
-        return Built::Refused(fault);
-    }
+    symmetric_fault(n, col_ptr, row_idx, values, fit)?;
     let kept = mc64_symmetric::build(
         size,
         col_ptr,
@@ -98,10 +97,10 @@ pub fn whole_symmetric_graph(
         work,
         LogSource::Own,
     );
-    Built::Kept(kept)
+    Ok(kept)
 }
 
-// The cost graph of a general matrix, or the number of the first thing wrong.
+// The cost graph of a general matrix; how many entries it has.
 pub fn whole_general_graph(
     n: u32,
     col_ptr: &[u32],
@@ -112,23 +111,20 @@ pub fn whole_general_graph(
     cost: &mut [f64],
     cmax: &mut [f64],
     work: &mut [u32],
-) -> Built
+) -> Result<u32, Refusal>
     ensures { let m = matrix n col_ptr.now row_idx.now values.now in
         let before = slices graph_ptr.old graph_rows.old cost.old
         cmax.old
         work.old in
         let after = slices graph_ptr.new graph_rows.new cost.new cmax.new
         work.new in
-        GeneralPromises m before result after }
+        GeneralPromises m before (numbered result) after }
 {
     let size = n as usize;
     let fit = mc64_general::lengths_fit(
         size, col_ptr, row_idx, values, values, graph_ptr, graph_rows, cost, cmax, work,
     );
-    let fault = general_fault(n, col_ptr, row_idx, values, fit);
-    if fault != refusal::ACCEPTED {
-        return Built::Refused(fault);
-    }
+    general_fault(n, col_ptr, row_idx, values, fit)?;
     mc64_columns::put_words(LogSource::Own, values, 0, work);
     let count = mc64_general::build(
         size,
@@ -143,6 +139,6 @@ pub fn whole_general_graph(
         cmax,
         LogSource::Own,
     );
-    slices::clear(work);
-    Built::Kept(count)
+    slices::fill(work, 0);
+    Ok(count)
 }
