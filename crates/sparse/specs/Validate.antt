@@ -1,25 +1,13 @@
 -- What `validate` answers: SPECIFICATION 3.4's numbers 1, 2, 3, 4, then the columns upward. In a general matrix each
 -- entry is tested for 5, then 7; in a symmetric one all entries of a column for 5, then 6, and only then the column for
 -- 7.
-use Rattle.std.specs.Prelude.{Bool, ◌&&◌, ◌||◌, List, ℕ, zero, suc, pred, ◌+◌, ◌-◌, leb, ltb, eqb, Float, length, get_or}
+use Rattle.std.specs.Prelude.{Bool, ◌&&◌, ◌||◌, List, ℕ, suc, pred, ◌+◌, ◌-◌, leb, ltb, eqb, Float, length, get_or}
 use Rattle.limits.specs.Limits.{max_columns, max_general, max_symmetric}
-use Rattle.refusal.specs.Refusal.{accepted, too_many_columns, too_many_entries, slice_length, column_pointers, index_range}
+use Rattle.refusal.specs.Refusal.{too_many_columns, too_many_entries, slice_length, column_pointers, index_range}
 use Rattle.refusal.specs.Refusal.{upper_triangle, rows_not_rising}
 use Rattle.sparse.specs.Fault.{unless, or_else, first_of}
 use Rattle.sparse.specs.Pattern.{Pattern, entries}
 use Rattle.sparse.specs.Matrix.{Matrix}
-use Rattle.sparse.specs.declared.layout.Validity.{Validity}
-use Rattle.sparse.specs.declared.layout.Validity.TheVariants.{Accepted, Refused}
-
--- the number of each case of the answer: 0, or the refusal
-abbrev pub number_of : Validity → ℕ
-number_of Accepted = accepted
-number_of (Refused number) = number
-
--- the answer of a fault
-unfoldable pub validity_of : ℕ → Validity
-validity_of zero = Accepted
-validity_of (suc fault) = Refused (suc fault)
 
 -- 1, 2, 3: n, the entry count against its limit, and whether every slice has its length
 unfoldable pub size_fault : (n limit count : ℕ) → Bool → ℕ
@@ -89,13 +77,13 @@ frame_fault limit m =
     or_else (size_fault p.n limit (entries p) (matrix_lengths p.n p.col_ptr p.row_idx m.values))
     (pointer_fault p.n p.col_ptr (entries p))
 
--- the first thing wrong with a general matrix, or 0: `general::validate` answers its `validity_of`
+-- the first thing wrong with a general matrix, or 0: what `general::validate` answers
 unfoldable pub general_fault : Matrix → ℕ
 general_fault m =
     let p = m.pattern in
     or_else (frame_fault max_general m) (general_columns p.n p.col_ptr p.row_idx)
 
--- the first thing wrong with a symmetric matrix, or 0: `csc::validate` answers its `validity_of`
+-- the first thing wrong with a symmetric matrix, or 0: what `csc::validate` answers
 unfoldable pub symmetric_fault : Matrix → ℕ
 symmetric_fault m =
     let p = m.pattern in

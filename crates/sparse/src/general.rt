@@ -1,19 +1,19 @@
 // A general matrix: every entry is stored.
 ghost use Rattle.std.specs.Prelude.{◌≡◌, true, ◌+◌, ◌≤◌, eqb, length};
 ghost use Rattle.refusal.specs.Listed.{OneOf, general_numbers, general_triplet_numbers};
+ghost use Rattle.refusal.specs.Number.{number_of, numbered};
 ghost use Rattle.slices.specs.Outcome.{outcome_is};
 ghost use Rattle.sparse.specs.Pattern.{pattern};
 ghost use Rattle.sparse.specs.Matrix.{matrix};
 ghost use Rattle.sparse.specs.Validate.{general_column, general_columns, pattern_fault, general_fault};
-ghost use Rattle.sparse.specs.Validate.{number_of, validity_of};
 ghost use Rattle.sparse.specs.Columns.{Pointers};
 ghost use Rattle.sparse.specs.Fault.{first_of};
 ghost use Rattle.triplets.specs.Built.{triplets, slices, kept_count};
 ghost use Rattle.sparse.specs.Assemble.{AnswersBy, general_triplet, general_triplet_fault};
-ghost use Rattle.sparse.specs.Assemble.{general_assembly, number_of as tripletNumber};
+ghost use Rattle.sparse.specs.Assemble.{general_assembly};
 
 use crate::layout;
-use crate::layout::{Assembled, Validity};
+use refusal::Refusal;
 
 // Whether a column has no fault: it rises to a row below n. The loop has no early exit, so that it can test several
 // entries at a time.
@@ -26,110 +26,86 @@ pub fn column_rises(n: usize, row_idx: &[u32], from: usize, to: usize) -> bool
         return true;
     }
     let mut fine = true;
-    let mut k = from + 1;
-    while k < to {
-        fine = fine & (row_idx[k - 1] < row_idx[k]);
-        k += 1;
+    for k in from + 1..to {
+        fine &= row_idx[k - 1] < row_idx[k];
     }
     fine & ((row_idx[to - 1] as usize) < n)
 }
 
 // The first of refusals 5 and 7 in a column. `least` is the least row that an entry may have.
-fn first_fault(n: usize, row_idx: &[u32], from: usize, to: usize) -> u32
+fn first_fault(n: usize, row_idx: &[u32], from: usize, to: usize) -> Result<(), Refusal>
     requires { to ≤ length row_idx.now }
-    ensures { result ≡ general_column n row_idx.now from to }
+    ensures { number_of result ≡ general_column n row_idx.now from to }
 {
     let mut least: usize = 0;
-    let mut k = from;
-    while k < to {
+    for k in from..to {
         let row = row_idx[k] as usize;
         if row >= n {
-            return refusal::INDEX_RANGE;
+            return Err(Refusal::IndexRange);
         }
         if row < least {
-            return refusal::ROWS_NOT_RISING;
+            return Err(Refusal::RowsNotRising);
         }
         least = row + 1;
-        k += 1;
     }
-    refusal::ACCEPTED
+    Ok(())
 }
 
 // Refusals 5 and 7 of one column, whose entries are those from `from` up to `to`.
-fn column_fault(n: usize, row_idx: &[u32], from: usize, to: usize) -> u32
+fn column_fault(n: usize, row_idx: &[u32], from: usize, to: usize) -> Result<(), Refusal>
     requires fact_1 { from ≤ to }
     requires fact_2 { to ≤ length row_idx.now }
-    ensures { result ≡ general_column n row_idx.now from to }
+    ensures { number_of result ≡ general_column n row_idx.now from to }
 {
     if column_rises(n, row_idx, from, to) {
-        return refusal::ACCEPTED;
+        return Ok(());
     }
     first_fault(n, row_idx, from, to)
 }
 
 // Refusals 5 and 7 of all columns.
-pub fn columns_fault(n: usize, col_ptr: &[u32], row_idx: &[u32]) -> u32
+pub fn columns_fault(n: usize, col_ptr: &[u32], row_idx: &[u32]) -> Result<(), Refusal>
     requires col_ptr_len { length col_ptr.now ≡ n + 1 }
     requires pointers { Pointers n col_ptr.now (length row_idx.now) }
-    ensures { result ≡ general_columns n col_ptr.now row_idx.now }
+    ensures { number_of result ≡ general_columns n col_ptr.now row_idx.now }
 {
-    let mut j = 0;
-    while j < n {
-        let fault = column_fault(n, row_idx, col_ptr[j] as usize, col_ptr[j + 1] as usize);
-        if fault != refusal::ACCEPTED {
-            return fault;
-        }
-        j += 1;
+    for j in 0..n {
+        column_fault(n, row_idx, col_ptr[j] as usize, col_ptr[j + 1] as usize)?;
     }
-    refusal::ACCEPTED
+    Ok(())
 }
 
-// Refusals 1 to 5 and 7 of a pattern, or 0. `lengths` says whether every slice of the call has its length.
-pub fn pattern_fault(n: u32, col_ptr: &[u32], row_idx: &[u32], lengths: bool) -> u32
+// Refusals 1 to 5 and 7 of a pattern. `lengths` says whether every slice of the call has its length.
+pub fn pattern_fault(n: u32, col_ptr: &[u32], row_idx: &[u32], lengths: bool) -> Result<(), Refusal>
     requires { lengths ≡ true → length col_ptr.now ≡ n + 1 }
-    ensures { result ≡ pattern_fault (pattern n col_ptr.now row_idx.now) lengths }
+    ensures { number_of result ≡ pattern_fault (pattern n col_ptr.now row_idx.now) lengths }
 {
     let count = row_idx.len();
-    let sizes = layout::size_fault(n, limits::MAX_GENERAL, count, lengths);
-    if sizes != refusal::ACCEPTED {
-        return sizes;
-    }
-    let pointers = layout::pointer_fault(n as usize, col_ptr, count);
-    if pointers != refusal::ACCEPTED {
-        return pointers;
-    }
+    layout::size_fault(n, limits::MAX_GENERAL, count, lengths)?;
+    layout::pointer_fault(n as usize, col_ptr, count)?;
     columns_fault(n as usize, col_ptr, row_idx)
 }
 
 // Tests a matrix: the first thing wrong refuses it.
-pub fn validate(n: u32, col_ptr: &[u32], row_idx: &[u32], values: &[f64]) -> Validity
-    ensures answer { let fault = general_fault (matrix n col_ptr.now row_idx.now values.now) in
-        result ≡ validity_of fault }
+pub fn validate(n: u32, col_ptr: &[u32], row_idx: &[u32], values: &[f64]) -> Result<(), Refusal>
+    ensures answer { number_of result ≡ general_fault (matrix n col_ptr.now row_idx.now values.now) }
     ensures number { OneOf general_numbers (number_of result) }
 {
-    let frame = layout::frame_fault(limits::MAX_GENERAL, n, col_ptr, row_idx, values);
-    if frame != refusal::ACCEPTED {
-        return Validity::Refused(frame);
-    }
-    layout::validity_of(columns_fault(n as usize, col_ptr, row_idx))
+    layout::frame_fault(limits::MAX_GENERAL, n, col_ptr, row_idx, values)?;
+    columns_fault(n as usize, col_ptr, row_idx)
 }
 
 // Refusal 5 of the triplets, each in turn.
-fn triplets_fault(n: u32, rows: &[u32], cols: &[u32]) -> u32
+fn triplets_fault(n: u32, rows: &[u32], cols: &[u32]) -> Result<(), Refusal>
     requires { length cols.now ≡ length rows.now }
-    ensures { result ≡ first_of (length rows.now) (general_triplet n rows.now cols.now) 0 }
+    ensures { number_of result ≡ first_of (length rows.now) (general_triplet n rows.now cols.now) 0 }
 {
-    let mut k = 0;
-    while k < rows.len() {
-        if rows[k] >= n {
-            return refusal::INDEX_RANGE;
+    for k in 0..rows.len() {
+        if rows[k] >= n || cols[k] >= n {
+            return Err(Refusal::IndexRange);
         }
-        if cols[k] >= n {
-            return refusal::INDEX_RANGE;
-        }
-        k += 1;
     }
-    refusal::ACCEPTED
+    Ok(())
 }
 
 // The matrix of the triplets, those of one position summed in input order.
@@ -142,19 +118,19 @@ pub fn from_triplets(
     row_idx: &mut [u32],
     values: &mut [f64],
     work: &mut [u32],
-) -> Assembled
+) -> Result<u32, Refusal>
     ensures outcome { let t = triplets rows.now cols.now vals.now in
         let before = slices col_ptr.old row_idx.old values.old
         work.old in
         let after = slices col_ptr.new row_idx.new values.new work.new in
-        outcome_is result after ≡ general_assembly n t before }
+        outcome_is (numbered result) after ≡ general_assembly n t before }
     ensures answered { let t = triplets rows.now cols.now vals.now in
         let before = slices col_ptr.old row_idx.old values.old
         work.old in
-        AnswersBy (general_triplet_fault n t before) (kept_count n t) result }
-    ensures number { OneOf general_triplet_numbers (tripletNumber result) }
+        AnswersBy (general_triplet_fault n t before) (kept_count n t) (numbered result) }
+    ensures number { OneOf general_triplet_numbers (number_of result) }
 {
-    let sizes = layout::triplet_sizes(
+    layout::triplet_sizes(
         limits::MAX_GENERAL,
         n,
         rows.len(),
@@ -164,16 +140,7 @@ pub fn from_triplets(
         row_idx.len(),
         values.len(),
         work.len(),
-    );
-    if sizes != refusal::ACCEPTED {
-        return Assembled::Refused(sizes);
-    }
-    let fault = triplets_fault(n, rows, cols);
-    if fault != refusal::ACCEPTED {
-        return Assembled::Refused(fault);
-    }
-    let kept = triplets_sorted::assemble(
-        n as usize, rows, cols, vals, col_ptr, row_idx, values, work,
-    );
-    Assembled::Kept(kept)
+    )?;
+    triplets_fault(n, rows, cols)?;
+    Ok(triplets_sorted::assemble(n as usize, rows, cols, vals, col_ptr, row_idx, values, work))
 }
