@@ -20,6 +20,11 @@ def text(name):
     return (ROOT / name).read_text()
 
 
+def upper(name):
+    """SLICE_LENGTH of slice_length, SliceLength or itself"""
+    return re.sub(r"(?<=[a-z])(?=[A-Z])", "_", name).upper()
+
+
 def source():
     """number: (NAME, when) of every refusal"""
     one = r"((?:^-- .*\n)+)abbrev pub (\w+) : ℕ\n\2 = (\d+)\n"
@@ -27,7 +32,7 @@ def source():
     rows = {}
     for comment, name, number in found:
         when = " ".join(line[3:] for line in comment.splitlines())
-        rows[int(number)] = (re.sub(r"([A-Z])", r"_\1", name).upper(), when)
+        rows[int(number)] = (upper(name), when)
     return rows
 
 
@@ -38,14 +43,14 @@ def table(rows):
 
 def pairs(name, pattern):
     """(number, NAME) of each line of a file that the pattern finds, as its groups `number` and `name`"""
-    return {int(m["number"]): m["name"] for m in re.finditer(pattern, text(name), re.M)}
+    return {int(m["number"]): upper(m["name"]) for m in re.finditer(pattern, text(name), re.M)}
 
 
 def differences(rows):
     names = {number: name for number, (name, _) in rows.items()}
     calls = {number: name for number, name in names.items() if number not in PRINTED}
     tables = [
-        ("crates/refusal/src/lib.rt", r"^pub const (?P<name>(?!ACCEPTED)\w+): u32 = (?P<number>\d+);", names),
+        ("crates/refusal/src/lib.rt", r"^    (?P<name>[A-Z]\w+) = (?P<number>\d+),", names),
         ("include/suontarvi.h", r"^#define SUONTARVI_REFUSED_(?P<name>\w+) (?P<number>\d+)", calls),
         ("host/src/refusal.rs", r'^    (?P<number>\d+) \w+ "(?P<name>\w+)"', calls),
         ("python/suontarvi/_refused.py", r'^    (?P<number>\d+): \("(?P<name>\w+)"', calls),
