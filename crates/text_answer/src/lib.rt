@@ -10,10 +10,11 @@ ghost use Rattle.text_report.specs.inner.Steps.{output_length};
 ghost use Rattle.text_answer.specs.Answer.{report_answer, report_written, answer_text, graph_text, Promises};
 ghost use Rattle.text_answer.specs.inner.Steps.{Reportable, FileEntries, Entries, EntriesReported, entries_text};
 
-use text_matrix_market::Verdict;
+use refusal::Refusal;
+use text_matrix_market::File;
 use text_matrix_market::banner::Kind;
 use text_report::Form;
-use text_symmetric_graph::{ASSEMBLY_WORDS, COLUMNS, ENTRIES, Mirrored, POINTERS};
+use text_symmetric_graph::{ASSEMBLY_WORDS, COLUMNS, ENTRIES, POINTERS};
 
 // One more byte than an input may have.
 pub const BUFFER_LENGTH: usize = 32769;
@@ -102,7 +103,7 @@ fn answer_triplets(
         &mut work[..2 * size + 2 + len],
     );
     if kept as usize != len {
-        return text_report::put_refused(refusal::REPEATED_PAIR, output);
+        return text_report::put_refused(u32::from(Refusal::RepeatedPair), output);
     }
     answer_graph(
         form,
@@ -144,7 +145,7 @@ fn answer_symmetric(
         &mut cost[..room],
     );
     match built {
-        Mirrored::Graph(kept) => {
+        Some(kept) => {
             let count = kept as usize;
             answer_graph(
                 form,
@@ -155,7 +156,7 @@ fn answer_symmetric(
                 output,
             )
         }
-        Mirrored::Repeated => text_report::put_refused(refusal::REPEATED_PAIR, output),
+        None => text_report::put_refused(u32::from(Refusal::RepeatedPair), output),
     }
 }
 
@@ -165,8 +166,8 @@ fn set_values(weights: &[u64], values: &mut [f64])
     requires below { Below (2 ^ 53) weights.now }
     ensures { values.new ≡ cost_values weights.now }
 {
-    for k in 0..weights.len() {
-        values[k] = weights[k] as f64;
+    for (value, &weight) in values.iter_mut().zip(weights) {
+        *value = weight as f64;
     }
 }
 
@@ -190,9 +191,8 @@ fn answer_entries(
     set_values(weights, &mut doubles[..count]);
     let values = &doubles[..count];
     match kind {
-        Kind::General => answer_triplets(form, n, rows, cols, values, output),
+        Kind::General | Kind::Pattern => answer_triplets(form, n, rows, cols, values, output),
         Kind::Symmetric => answer_symmetric(form, n, rows, cols, values, output),
-        Kind::Pattern => answer_triplets(form, n, rows, cols, values, output),
     }
 }
 
@@ -206,9 +206,8 @@ fn answer_input(form: Form, input: &[u8], output: &mut [u8]) -> usize
     let mut rows = [0u32; ENTRIES];
     let mut cols = [0u32; ENTRIES];
     let mut weights = [0u64; ENTRIES];
-    let verdict = text_matrix_market::read_file(input, &mut rows, &mut cols, &mut weights);
-    match verdict {
-        Verdict::File(kind, n, count) => {
+    match text_matrix_market::read_file(input, &mut rows, &mut cols, &mut weights) {
+        Ok(File { kind, n, count }) => {
             let size = count as usize;
             answer_entries(
                 form,
@@ -220,7 +219,7 @@ fn answer_input(form: Form, input: &[u8], output: &mut [u8]) -> usize
                 output,
             )
         }
-        Verdict::Refused(number) => text_report::put_refused(number, output),
+        Err(refusal) => text_report::put_refused(u32::from(refusal), output),
     }
 }
 
@@ -235,10 +234,5 @@ pub fn answer(
 ) -> usize
     ensures { Promises form count buffer.now output.old result output.new }
 {
-    let all: &[u8] = buffer;
-    let reported: &mut [u8] = output;
-    if count < BUFFER_LENGTH {
-        return answer_input(form, &all[..count], reported);
-    }
-    answer_input(form, all, reported)
+    answer_input(form, &buffer[..count.min(BUFFER_LENGTH)], output)
 }

@@ -1,12 +1,11 @@
 -- SPECIFICATION 11.2: The banner: `%%MatrixMarket matrix coordinate` and the two words of a kind, in any letter case,
 -- from the line's first byte on. The kinds are `integer general`, `integer symmetric` and `pattern general`.
-use Rattle.std.specs.Prelude.{Bool, true, false, cond, ◌&&◌, List, [], ◌∷◌, ℕ, zero, suc, ◌+◌, eqb, leb}
+use Rattle.std.specs.Prelude.{Bool, true, false, cond, ◌&&◌, Option, Some, None, List, [], ◌∷◌}
+use Rattle.std.specs.Prelude.{ℕ, zero, suc, ◌+◌, eqb, leb}
 use Prim.Native.String.{String, len, char_at}
 use Prim.Native.Char.{code}
 use Rattle.text_matrix_market.specs.declared.banner.Kind.{Kind}
 use Rattle.text_matrix_market.specs.declared.banner.Kind.TheVariants.{General, Symmetric, Pattern}
-use Rattle.text_matrix_market.specs.declared.banner.BannerRead.{BannerRead}
-use Rattle.text_matrix_market.specs.declared.banner.BannerRead.TheVariants.{Is, Other}
 use Rattle.text_matrix_market.specs.Text.{words_of, begins_percent}
 
 -- a capital letter as a small one, any other byte as it is
@@ -45,13 +44,13 @@ unfoldable pub is_banner : List ℕ → List ℕ → List ℕ → Bool
 is_banner field symmetry line = begins_percent line && same_words (words_of line) (banner_words field symmetry)
 
 -- the kind, if the test holds; else the next result
-abbrev pub kind_if : Bool → Kind → BannerRead → BannerRead
-kind_if true kind next = Is kind
+abbrev pub kind_if : Bool → Kind → Option Kind → Option Kind
+kind_if true kind next = Some kind
 kind_if false kind next = next
 
 -- the kind of file whose banner a line is
-unfoldable pub banner_kind : List ℕ → BannerRead
+unfoldable pub banner_kind : List ℕ → Option Kind
 banner_kind line =
     kind_if (is_banner (codes "integer") (codes "general") line) General
     (kind_if (is_banner (codes "integer") (codes "symmetric") line) Symmetric
-    (kind_if (is_banner (codes "pattern") (codes "general") line) Pattern Other))
+    (kind_if (is_banner (codes "pattern") (codes "general") line) Pattern None))

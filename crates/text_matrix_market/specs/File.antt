@@ -1,17 +1,12 @@
 -- SPECIFICATION 11.2 and 11.3: The file that an input holds, or the number of its refusal. Lines are read from the top,
 -- as the banner's kind requires.
-use Rattle.std.specs.Prelude.{Bool, false, cond, ◌&&◌, ◌||◌, List, [], ◌∷◌, ◌++◌, map, ℕ, ◌-◌, ◌*◌, ◌^◌, eqb, leb, ltb, length}
+use Rattle.std.specs.Prelude.{Bool, false, cond, ◌&&◌, ◌||◌, Option, Some, None, Result, Ok, Err, List, [], ◌∷◌, ◌++◌}
+use Rattle.std.specs.Prelude.{map, ℕ, ◌-◌, ◌*◌, ◌^◌, eqb, leb, ltb, length}
 use Rattle.refusal.specs.Refusal as number
 use Rattle.refusal.specs.Refusal.{size_line, input_limit, entry_line, entry_count, repeated_pair, upper_entry}
 use Rattle.text_matrix_market.specs.declared.banner.Kind.{Kind}
 use Rattle.text_matrix_market.specs.declared.banner.Kind.TheVariants.{General, Symmetric, Pattern}
-use Rattle.text_matrix_market.specs.declared.banner.BannerRead.{BannerRead}
-use Rattle.text_matrix_market.specs.declared.banner.BannerRead.TheVariants as banner
-use Rattle.text_matrix_market.specs.declared.numbers.Numbers.{Numbers}
-use Rattle.text_matrix_market.specs.declared.numbers.Numbers.TheVariants.{Three, Other}
 use Rattle.text_matrix_market.specs.declared.stages.Entry.{Entry}
-use Rattle.text_matrix_market.specs.declared.stages.EntryRead.{EntryRead}
-use Rattle.text_matrix_market.specs.declared.stages.EntryRead.TheVariants.{Is, Misshapen, Upper}
 use Rattle.text_matrix_market.specs.Text.{lines_of, is_blank_line, begins_percent}
 use Rattle.text_matrix_market.specs.Numbers.{numbers_of}
 use Rattle.text_matrix_market.specs.Banner.{banner_kind}
@@ -55,15 +50,15 @@ abbrev pub zero_based : ℕ → ℕ → ℕ → Entry
 zero_based row column weight = record { row = row - 1; column = column - 1; weight = weight }
 
 -- 23 if there is none, then 26
-abbrev pub entry_from : Kind → ℕ → Numbers → EntryRead
-entry_from kind n Other = Misshapen
-entry_from kind n (Three row column weight) =
+abbrev pub entry_from : Kind → ℕ → Option (ℕ × ℕ × ℕ) → Result Entry ℕ
+entry_from kind n None = Err entry_line
+entry_from kind n (Some (row, column, weight)) =
     cond (is_within n row && (is_within n column && weight_fits kind n weight))
-    (cond (is_upper kind row column) Upper (Is (zero_based row column weight)))
-    Misshapen
+    (cond (is_upper kind row column) (Err upper_entry) (Ok (zero_based row column weight)))
+    (Err entry_line)
 
--- the entry of a line
-unfoldable pub line_entry : Kind → ℕ → List ℕ → EntryRead
+-- the entry of a line, or its refusal
+unfoldable pub line_entry : Kind → ℕ → List ℕ → Result Entry ℕ
 line_entry kind n line = entry_from kind n (numbers_of kind line)
 
 -- ---- how far the reading has come
@@ -77,22 +72,21 @@ pub data State : Type 0 where
   refused : ℕ → State
 
 -- the banner
-abbrev pub begun : BannerRead → State
-begun (banner.Is kind) = sizing kind
-begun banner.Other = refused number.banner
+abbrev pub begun : Option Kind → State
+begun (Some kind) = sizing kind
+begun None = refused number.banner
 
 -- the size line: M = N before the limits
-abbrev pub sized : Kind → Numbers → State
-sized kind Other = refused size_line
-sized kind (Three m n count) =
+abbrev pub sized : Kind → Option (ℕ × ℕ × ℕ) → State
+sized kind None = refused size_line
+sized kind (Some (m, n, count)) =
     cond (eqb m n) (cond (leb n max_order && leb count max_entries) (entering kind n count []) (refused input_limit))
     (refused size_line)
 
 -- one entry more
-abbrev pub entered : Kind → ℕ → ℕ → List Entry → EntryRead → State
-entered kind n count entries Misshapen = refused entry_line
-entered kind n count entries Upper = refused upper_entry
-entered kind n count entries (Is e) = entering kind n count (entries ++ (e ∷ []))
+abbrev pub entered : Kind → ℕ → ℕ → List Entry → Result Entry ℕ → State
+entered kind n count entries (Err fault) = refused fault
+entered kind n count entries (Ok e) = entering kind n count (entries ++ (e ∷ []))
 
 -- what a line does, by what it says: an entry line after the L-th gives 24, whatever it says
 unfoldable pub content : State → List ℕ → State

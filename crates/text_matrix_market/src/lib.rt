@@ -7,63 +7,60 @@ mod stages;
 mod text;
 
 ghost use Rattle.std.specs.Prelude.{◌≡◌};
+ghost use Rattle.refusal.specs.Number.{numbered};
 ghost use Rattle.text_matrix_market.specs.File.{max_entries, reading_at_end, reading_of};
 ghost use Rattle.text_matrix_market.specs.inner.Steps.{Lists, lists, state_of, reading_from, Places, stored};
 ghost use Rattle.text_matrix_market.specs.inner.Steps.{taken_of};
 
 use crate::banner::Kind;
 use crate::stages::Stage;
+use refusal::Refusal;
 
-// An input holds a file of a kind, with n and a count of entries, or is refused with a number.
+// The file that an input holds: its kind, n and a count of entries.
 #[derive(Clone, Copy)]
-pub enum Verdict {
-    File(Kind, u32, u32),
-    Refused(u32),
+pub struct File {
+    pub kind: Kind,
+    pub n: u32,
+    pub count: u32,
 }
 
 const MAX_INPUT: usize = 32768;
 
-// The verdict at the end of the input.
-fn conclude(stage: Stage) -> Verdict
-    ensures { (l : Lists) → reading_from result l ≡ reading_at_end (state_of stage l) }
+// The answer at the end of the input.
+fn conclude(stage: Stage) -> Result<File, Refusal>
+    ensures { (l : Lists) → reading_from (numbered result) l ≡ reading_at_end (state_of stage l) }
 {
     match stage {
-        Stage::Start => Verdict::Refused(refusal::BANNER),
-        Stage::Sizing(_) => Verdict::Refused(refusal::SIZE_LINE),
-        Stage::Entering(kind, n, count, read) => {
-            if read == count {
-                Verdict::File(kind, n, count)
-            } else {
-                Verdict::Refused(refusal::ENTRY_COUNT)
-            }
-        }
-        Stage::Refused(number) => Verdict::Refused(number),
+        Stage::Start => Err(Refusal::Banner),
+        Stage::Sizing(_) => Err(Refusal::SizeLine),
+        Stage::Entering(kind, n, count, read) if read == count => Ok(File { kind, n, count }),
+        Stage::Entering(_, _, _, _) => Err(Refusal::EntryCount),
     }
 }
 
-// The file that an input holds, or the number of a refusal other than 25. The front of the slices then has the entries
-// that were read, for a refused input those before the refused line; after them all is as it was.
+// The file that an input holds, or a refusal other than 25. The front of the slices then has the entries that were
+// read, for a refused input those before the refused line; after them all is as it was.
 pub fn read_file(
     input: &[u8],
     rows: &mut [u32],
     columns: &mut [u32],
     weights: &mut [u64],
-) -> Verdict
+) -> Result<File, Refusal>
     requires { Places max_entries (lists rows.old columns.old weights.old) }
     ensures reading { let after = lists rows.new columns.new weights.new in
-        reading_from result after ≡ reading_of input.now }
+        reading_from (numbered result) after ≡ reading_of input.now }
     ensures slices { let before = lists rows.old columns.old weights.old in
         let after = lists rows.new columns.new weights.new in
         after ≡ stored 0 (taken_of input.now) before }
 {
     if input.len() > MAX_INPUT {
-        return Verdict::Refused(refusal::INPUT_LIMIT);
+        return Err(Refusal::InputLimit);
     }
     let mut stage = Stage::Start;
     let mut at = 0;
     while at < input.len() {
         let end = text::line_end(input, at);
-        stage = stages::next_stage(stage, &input[at..end], rows, columns, weights);
+        stage = stages::next_stage(stage, &input[at..end], rows, columns, weights)?;
         at = end + 1;
     }
     conclude(stage)

@@ -1,14 +1,15 @@
 // The stages of reading, line by line.
 ghost use Rattle.std.specs.Prelude.{◌≡◌, ◌<◌};
+ghost use Rattle.refusal.specs.Number.{numbered};
 ghost use Rattle.text_matrix_market.specs.File.{start, sizing, entering, is_within, weight_fits, is_upper};
 ghost use Rattle.text_matrix_market.specs.File.{line_entry};
-ghost use Rattle.text_matrix_market.specs.File.{content, too_long, read_line};
-ghost use Rattle.text_matrix_market.specs.inner.Steps.{Lists, lists, first_entries, state_of, Places, Room};
-ghost use Rattle.text_matrix_market.specs.inner.Steps.{line_stored};
+ghost use Rattle.text_matrix_market.specs.File.{content, read_line};
+ghost use Rattle.text_matrix_market.specs.inner.Steps.{Lists, lists, first_entries, state_of, state_after};
+ghost use Rattle.text_matrix_market.specs.inner.Steps.{Places, Room, line_stored};
 
-use crate::banner::{BannerRead, Kind};
-use crate::numbers::Numbers;
+use crate::banner::Kind;
 use crate::{banner, numbers, text};
+use refusal::Refusal;
 
 // Row and column count from 0. The weight is the cost, or the size of a symmetric entry's value; a pattern's is 0.
 #[derive(Clone, Copy)]
@@ -18,20 +19,12 @@ pub struct Entry {
     pub weight: u64,
 }
 
-#[derive(Clone, Copy)]
-pub enum EntryRead {
-    Is(Entry),
-    Misshapen,
-    Upper,
-}
-
-// Before the banner, before the size line, below it (N, L and how many entries were read), or refused.
+// Before the banner, before the size line, or below it (N, L and how many entries were read).
 #[derive(Clone, Copy)]
 pub enum Stage {
     Start,
     Sizing(Kind),
     Entering(Kind, u32, u32, u32),
-    Refused(u32),
 }
 
 const MAX_LINE: usize = 1024;
@@ -50,7 +43,7 @@ const VALUE_LIMIT: u64 = 0x20_0000_0000_0000;
 fn within(n: u64, index: u64) -> bool
     ensures { result ≡ is_within n index }
 {
-    (1 <= index) & (index <= n)
+    (1..=n).contains(&index)
 }
 
 // Whether a weight is in the range of its kind.
@@ -60,9 +53,8 @@ fn weight_fits(kind: Kind, n: u64, weight: u64) -> bool
 {
     match kind {
         // N times a cost of eighteen digits may exceed 64 bits
-        Kind::General => weight <= MAX_PRODUCT / n,
+        Kind::General | Kind::Pattern => weight <= MAX_PRODUCT / n,
         Kind::Symmetric => weight < VALUE_LIMIT,
-        Kind::Pattern => weight <= MAX_PRODUCT / n,
     }
 }
 
@@ -71,61 +63,45 @@ fn is_upper(kind: Kind, row: u64, column: u64) -> bool
     ensures { result ≡ is_upper kind row column }
 {
     match kind {
-        Kind::General => false,
         Kind::Symmetric => row < column,
-        Kind::Pattern => false,
+        Kind::General | Kind::Pattern => false,
     }
 }
 
 // The entry of a line: two indices from 1 to n and a weight in range.
-fn read_entry(kind: Kind, n: u32, line: &[u8]) -> EntryRead
-    ensures { result ≡ line_entry kind n line.now }
+fn read_entry(kind: Kind, n: u32, line: &[u8]) -> Result<Entry, Refusal>
+    ensures { numbered result ≡ line_entry kind n line.now }
 {
-    let Numbers::Three(row, column, weight) = numbers::line_numbers(kind, line) else {
-        return EntryRead::Misshapen;
-    };
-    if !within(n as u64, row) {
-        return EntryRead::Misshapen;
-    }
-    if !within(n as u64, column) {
-        return EntryRead::Misshapen;
-    }
-    if !weight_fits(kind, n as u64, weight) {
-        return EntryRead::Misshapen;
+    let (row, column, weight) = numbers::line_numbers(kind, line).ok_or(Refusal::EntryLine)?;
+    let order = u64::from(n);
+    if !within(order, row) || !within(order, column) || !weight_fits(kind, order, weight) {
+        return Err(Refusal::EntryLine);
     }
     if is_upper(kind, row, column) {
-        return EntryRead::Upper;
+        return Err(Refusal::UpperEntry);
     }
-    EntryRead::Is(Entry {
+    Ok(Entry {
         row: (row - 1) as u32,
         column: (column - 1) as u32,
-        weight: weight,
+        weight,
     })
 }
 
 // A line before the size line, or the size line.
-fn size_line(kind: Kind, line: &[u8]) -> Stage
-    ensures { (l : Lists) → state_of result l ≡ content (sizing kind) line.now }
+fn size_line(kind: Kind, line: &[u8]) -> Result<Stage, Refusal>
+    ensures { (l : Lists) → state_after (numbered result) l ≡ content (sizing kind) line.now }
 {
-    if text::is_blank_line(line) {
-        return Stage::Sizing(kind);
+    if text::is_blank_line(line) || text::begins_percent(line) {
+        return Ok(Stage::Sizing(kind));
     }
-    if text::begins_percent(line) {
-        return Stage::Sizing(kind);
-    }
-    let Numbers::Three(m, n, count) = numbers::line_numbers(Kind::General, line) else {
-        return Stage::Refused(refusal::SIZE_LINE);
-    };
+    let (m, n, count) = numbers::line_numbers(Kind::General, line).ok_or(Refusal::SizeLine)?;
     if m != n {
-        return Stage::Refused(refusal::SIZE_LINE);
+        return Err(Refusal::SizeLine);
     }
-    if n > MAX_ORDER {
-        return Stage::Refused(refusal::INPUT_LIMIT);
+    if n > MAX_ORDER || count > MAX_ENTRIES {
+        return Err(Refusal::InputLimit);
     }
-    if count > MAX_ENTRIES {
-        return Stage::Refused(refusal::INPUT_LIMIT);
-    }
-    Stage::Entering(kind, n as u32, count as u32, 0)
+    Ok(Stage::Entering(kind, n as u32, count as u32, 0))
 }
 
 // A line below the size line. Its entry goes to the place after those that were read.
@@ -138,57 +114,37 @@ fn entry_line(
     rows: &mut [u32],
     columns: &mut [u32],
     weights: &mut [u64],
-) -> Stage
+) -> Result<Stage, Refusal>
     requires { Places count (lists rows.old columns.old weights.old) }
     ensures state { let before = lists rows.old columns.old weights.old in
         let after = lists rows.new columns.new weights.new in
-        state_of result after ≡ content (entering kind n count (first_entries read before)) line.now }
+        let state = entering kind n count (first_entries read before) in
+        state_after (numbered result) after ≡ content state line.now }
     ensures slices { let before = lists rows.old columns.old weights.old in
         let after = lists rows.new columns.new weights.new in
         let state = entering kind n count (first_entries read before) in
         after ≡ line_stored state (content state line.now) before }
 {
     if text::is_blank_line(line) {
-        return Stage::Entering(kind, n, count, read);
+        return Ok(Stage::Entering(kind, n, count, read));
     }
     if read >= count {
-        return Stage::Refused(refusal::ENTRY_COUNT);
+        return Err(Refusal::EntryCount);
     }
-    let found = read_entry(kind, n, line);
-    match found {
-        EntryRead::Misshapen => Stage::Refused(refusal::ENTRY_LINE),
-        EntryRead::Upper => Stage::Refused(refusal::UPPER_ENTRY),
-        EntryRead::Is(entry) => {
-            let at = read as usize;
-            rows[at] = entry.row;
-            columns[at] = entry.column;
-            weights[at] = entry.weight;
-            Stage::Entering(kind, n, count, read + 1)
-        }
-    }
-}
-
-// A line that is too long: an earlier refusal stays.
-fn after_long_line(stage: Stage) -> Stage
-    ensures { (l : Lists) → state_of result l ≡ too_long (state_of stage l) }
-{
-    match stage {
-        Stage::Start => Stage::Refused(refusal::INPUT_LIMIT),
-        Stage::Sizing(_) => Stage::Refused(refusal::INPUT_LIMIT),
-        Stage::Entering(_, _, _, _) => Stage::Refused(refusal::INPUT_LIMIT),
-        Stage::Refused(number) => Stage::Refused(number),
-    }
+    let entry = read_entry(kind, n, line)?;
+    let at = read as usize;
+    rows[at] = entry.row;
+    columns[at] = entry.column;
+    weights[at] = entry.weight;
+    Ok(Stage::Entering(kind, n, count, read + 1))
 }
 
 // The first line.
-fn banner_line(line: &[u8]) -> Stage
-    ensures { (l : Lists) → state_of result l ≡ content start line.now }
+fn banner_line(line: &[u8]) -> Result<Stage, Refusal>
+    ensures { (l : Lists) → state_after (numbered result) l ≡ content start line.now }
 {
-    let found = banner::read_banner(line);
-    match found {
-        BannerRead::Is(kind) => Stage::Sizing(kind),
-        BannerRead::Other => Stage::Refused(refusal::BANNER),
-    }
+    let kind = banner::read_banner(line).ok_or(Refusal::Banner)?;
+    Ok(Stage::Sizing(kind))
 }
 
 // One more line.
@@ -198,18 +154,18 @@ pub fn next_stage(
     rows: &mut [u32],
     columns: &mut [u32],
     weights: &mut [u64],
-) -> Stage
+) -> Result<Stage, Refusal>
     requires { Room stage (lists rows.old columns.old weights.old) }
     ensures state { let before = lists rows.old columns.old weights.old in
         let after = lists rows.new columns.new weights.new in
-        state_of result after ≡ read_line (state_of stage before) line.now }
+        state_after (numbered result) after ≡ read_line (state_of stage before) line.now }
     ensures slices { let before = lists rows.old columns.old weights.old in
         let after = lists rows.new columns.new weights.new in
         let state = state_of stage before in
         after ≡ line_stored state (read_line state line.now) before }
 {
     if line.len() > MAX_LINE {
-        return after_long_line(stage);
+        return Err(Refusal::InputLimit);
     }
     match stage {
         Stage::Start => banner_line(line),
@@ -217,6 +173,5 @@ pub fn next_stage(
         Stage::Entering(kind, n, count, read) => {
             entry_line(kind, n, count, read, line, rows, columns, weights)
         }
-        Stage::Refused(number) => Stage::Refused(number),
     }
 }

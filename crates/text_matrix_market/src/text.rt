@@ -7,7 +7,7 @@ ghost use Rattle.text_matrix_market.specs.inner.Steps.{line_end, word_start, wor
 pub fn is_blank(b: u8) -> bool
     ensures { result ≡ is_blank b }
 {
-    (b == b' ') | ((b == b'\t') | (b == b'\r'))
+    matches!(b, b' ' | b'\t' | b'\r')
 }
 
 // The line feed that ends the line, or the end of the input.
@@ -15,14 +15,10 @@ pub fn line_end(input: &[u8], from: usize) -> usize
     requires { from ≤ length input.now }
     ensures { result ≡ line_end input.now from }
 {
-    let mut at = from;
-    while at < input.len() {
-        if input[at] == b'\n' {
-            return at;
-        }
-        at += 1;
+    match input[from..].iter().position(|b| *b == b'\n') {
+        Some(count) => from + count,
+        None => input.len(),
     }
-    at
 }
 
 // The place past the leading blanks.
@@ -30,14 +26,10 @@ pub fn word_start(line: &[u8], from: usize) -> usize
     requires { from ≤ length line.now }
     ensures { result ≡ word_start line.now from }
 {
-    let mut at = from;
-    while at < line.len() {
-        if !is_blank(line[at]) {
-            return at;
-        }
-        at += 1;
+    match line[from..].iter().position(|b| !is_blank(*b)) {
+        Some(count) => from + count,
+        None => line.len(),
     }
-    at
 }
 
 // The blank that ends the word, or the end of the line.
@@ -45,14 +37,10 @@ pub fn word_end(line: &[u8], from: usize) -> usize
     requires { from ≤ length line.now }
     ensures { result ≡ word_end line.now from }
 {
-    let mut at = from;
-    while at < line.len() {
-        if is_blank(line[at]) {
-            return at;
-        }
-        at += 1;
+    match line[from..].iter().position(|b| is_blank(*b)) {
+        Some(count) => from + count,
+        None => line.len(),
     }
-    at
 }
 
 // A line without words.
@@ -66,8 +54,5 @@ pub fn is_blank_line(line: &[u8]) -> bool
 pub fn begins_percent(line: &[u8]) -> bool
     ensures { result ≡ begins_percent line.now }
 {
-    if line.len() == 0 {
-        return false;
-    }
-    line[0] == b'%'
+    matches!(line, [b'%', ..])
 }

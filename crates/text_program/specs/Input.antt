@@ -1,26 +1,20 @@
 -- SPECIFICATION 11.1: The result of the reads of standard input.
-use Rattle.std.specs.Prelude.{◌≡◌, cond, ℕ, zero, suc, ◌+◌, ◌≤◌, ltb, ℤ, pos, negsuc}
+use Rattle.std.specs.Prelude.{cond, Option, Some, None, ℕ, zero, suc, ◌+◌, ◌≤◌, ltb}
 use Rattle.text_answer.specs.Answer.{buffer_length}
 use Rattle.text_program.specs.declared.Input.{Input}
-use Rattle.text_program.specs.declared.Input.TheVariants.{More, All, Failed}
+use Rattle.text_program.specs.declared.Input.TheVariants.{More, All}
 
--- what a read with room for n bytes answers: -1, or how many bytes it brought, at most n
-abbrev pub Moved : ℕ → ℤ → Type 0
-Moved n (pos k) = k ≤ n
-Moved n (negsuc k) = k ≡ 0
+-- what a read with room for n bytes answers: none if it fails, or how many bytes it brought, at most n
+abbrev pub Moved : ℕ → Option ℕ → Type 0
+Moved n (Some k) = k ≤ n
+Moved n None = Unit
 
 -- a full buffer needs no further read
 abbrev pub taken : ℕ → Input
 taken count = cond (ltb count buffer_length) (More count) (All count)
 
--- after `at` bytes a read answers -1 if it fails, 0 at the end of the input, or the number of bytes read
-unfoldable pub input_after : ℕ → ℤ → Input
-input_after at (negsuc k) = Failed
-input_after at (pos zero) = All at
-input_after at (pos (suc k)) = taken (at + suc k)
-
--- no more is to be read
-abbrev pub Settled : Input → Type 0
-Settled (More count) = ⊥
-Settled (All count) = count ≤ buffer_length
-Settled Failed = Unit
+-- after `at` bytes a read answers none if it fails, 0 at the end of the input, or the number of bytes read
+unfoldable pub input_after : ℕ → Option ℕ → Option Input
+input_after at None = None
+input_after at (Some zero) = Some (All at)
+input_after at (Some (suc k)) = Some (taken (at + suc k))

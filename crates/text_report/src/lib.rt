@@ -24,7 +24,8 @@ pub enum Form {
     Pairs,
 }
 
-// The first digits are the text of a tenth of the number.
+// The first digits are the text of a tenth of the number. It is written by hand, since there is no heap for the text
+// that std's formats make.
 fn put_decimal(out: &mut [u8], at: usize, value: u64) -> usize
     requires { at + length (decimal value) ≤ length out.old }
     ensures { Wrote out.old at (decimal value) out.new result }
@@ -64,12 +65,9 @@ fn put_bytes(out: &mut [u8], at: usize, text: &[u8]) -> usize
     requires { at + length text.now ≤ length out.old }
     ensures { Wrote out.old at text.now out.new result }
 {
-    let mut i = 0;
-    while i < text.len() {
-        out[at + i] = text[i];
-        i += 1;
-    }
-    at + i
+    let next = at + text.len();
+    out[at..next].copy_from_slice(text);
+    next
 }
 
 // A space and the number.
@@ -96,9 +94,10 @@ fn row_number(row: u32) -> u64
     ensures { result ≡ row_number row }
 {
     if row == limits::NONE {
-        return 0;
+        0
+    } else {
+        u64::from(row) + 1
     }
-    row as u64 + 1
 }
 
 // The line of the matched count.
@@ -140,11 +139,9 @@ fn put_lines(out: &mut [u8], at: usize, n: usize, perm: &[u32], u: &[f64], v: &[
     ensures { let text = pair_lines n perm.now u.now v.now in
         Wrote out.old at text out.new result }
 {
-    let mut k = 0;
     let mut next = at;
-    while k < n {
+    for k in 0..n {
         next = put_line(out, next, k as u64 + 1, perm[k], u[k], v[k]);
-        k += 1;
     }
     next
 }
@@ -156,10 +153,8 @@ fn put_counts(out: &mut [u8], at: usize, counts: &[u64]) -> usize
     ensures { Wrote out.old at (counts_line counts.now) out.new result }
 {
     let mut next = put_bytes(out, at, b"counts");
-    let mut k = 0;
-    while k < 7 {
-        next = put_spaced(out, next, counts[k + 1]);
-        k += 1;
+    for &count in &counts[1..] {
+        next = put_spaced(out, next, count);
     }
     out[next] = b'\n';
     next + 1
@@ -203,8 +198,8 @@ fn put_pair(out: &mut [u8], at: usize, row: u32, column: u32) -> usize
     requires { at + length (matched_pair row column) ≤ length out.old }
     ensures { Wrote out.old at (matched_pair row column) out.new result }
 {
-    let after_row = put_decimal(out, at, row as u64 + 1);
-    let last = put_spaced(out, after_row, column as u64 + 1);
+    let after_row = put_decimal(out, at, u64::from(row) + 1);
+    let last = put_spaced(out, after_row, u64::from(column) + 1);
     out[last] = b'\n';
     last + 1
 }
@@ -227,11 +222,9 @@ fn put_columns(out: &mut [u8], at: usize, n: usize, perm: &[u32]) -> usize
     requires perm_in_bounds { at + length (matched_pairs n perm.now) ≤ length out.old }
     ensures { Wrote out.old at (matched_pairs n perm.now) out.new result }
 {
-    let mut k = 0;
     let mut next = at;
-    while k < n {
+    for k in 0..n {
         next = put_column(out, next, perm[k], k as u32);
-        k += 1;
     }
     next
 }
@@ -292,7 +285,7 @@ pub fn put_refused(number: u32, out: &mut [u8]) -> usize
     ensures fits { result ≤ output_length }
 {
     let after_word = put_bytes(out, 0, b"refused ");
-    let last = put_decimal(out, after_word, number as u64);
+    let last = put_decimal(out, after_word, u64::from(number));
     out[last] = b'\n';
     last + 1
 }

@@ -20,14 +20,8 @@ pub const POINTERS: usize = COLUMNS + 1;
 // What the assembly needs: two words for each pointer and one for each entry.
 pub const ASSEMBLY_WORDS: usize = 2 * POINTERS + ENTRIES;
 
-// How many entries the graph has, or that a pair occurs twice.
-#[derive(Clone, Copy)]
-pub enum Mirrored {
-    Graph(u32),
-    Repeated,
-}
-
-// The graph of entries with slices for their matrix. A repeated pair leaves fewer than were given.
+// The graph of entries with slices for their matrix: how many entries it has, or none if a pair occurs twice. A repeated
+// pair leaves fewer than were given.
 fn mirror_matrix(
     n: usize,
     rows: &[u32],
@@ -41,7 +35,7 @@ fn mirror_matrix(
     graph_rows: &mut [u32],
     cost: &mut [f64],
     cmax: &mut [f64],
-) -> Mirrored
+) -> Option<u32>
     requires symmetric_values { SymmetricValues n rows.now cols.now values.now }
     requires sized { Sized n rows.now cols.now col_ptr.old work.old }
     requires roomy { Roomy n rows.now cols.now values.now row_idx.old stored.old work.old }
@@ -56,9 +50,9 @@ fn mirror_matrix(
 {
     let kept = triplets::assemble(n, rows, cols, values, col_ptr, row_idx, stored, work);
     if kept as usize != rows.len() {
-        return Mirrored::Repeated;
+        return None;
     }
-    let count = mc64_symmetric::build(
+    Some(mc64_symmetric::build(
         n,
         col_ptr,
         row_idx,
@@ -70,8 +64,7 @@ fn mirror_matrix(
         cmax,
         work,
         LogSource::Own,
-    );
-    Mirrored::Graph(count)
+    ))
 }
 
 // The graph of entries, with local arrays for their matrix. The work on these is a function of its own: the time to
@@ -84,7 +77,7 @@ pub fn symmetric_graph(
     graph_ptr: &mut [u32],
     graph_rows: &mut [u32],
     cost: &mut [f64],
-) -> Mirrored
+) -> Option<u32>
     requires symmetric_values { SymmetricValues n rows.now cols.now values.now }
     requires graph_room { GraphRoom n (length rows.now) graph_ptr.old graph_rows.old cost.old }
     ensures answer { let t = triplets rows.now cols.now values.now in

@@ -1,20 +1,14 @@
 -- What the reader's functions answer and leave, by the definitions of the tie file.
-use Rattle.std.specs.Prelude.{Bool, true, false, cond, not, List, [], ◌∷◌, ◌++◌, map, ℕ, zero, suc, ◌+◌, ◌-◌, ◌≤◌, leb, length, take, drop, get_or}
+use Rattle.std.specs.Prelude.{Bool, true, false, cond, not, Option, Some, None, Result, Ok, Err, List, [], ◌∷◌, ◌++◌}
+use Rattle.std.specs.Prelude.{map, ℕ, zero, suc, ◌+◌, ◌-◌, ◌≤◌, leb, length, take, drop, get_or}
 use Rattle.std.proofs.lemmas.List.Edits.{sets}
 use Rattle.text_matrix_market.specs.declared.banner.Kind.{Kind}
 use Rattle.text_matrix_market.specs.declared.banner.Kind.TheVariants as kind
-use Rattle.text_matrix_market.specs.declared.numbers.Number.{Number}
-use Rattle.text_matrix_market.specs.declared.numbers.Number.TheVariants as number
-use Rattle.text_matrix_market.specs.declared.numbers.Field.{Field}
-use Rattle.text_matrix_market.specs.declared.numbers.Field.TheVariants as field
-use Rattle.text_matrix_market.specs.declared.banner.Next.{Next}
-use Rattle.text_matrix_market.specs.declared.banner.Next.TheVariants as next
 use Rattle.text_matrix_market.specs.declared.stages.Entry.{Entry}
 use Rattle.text_matrix_market.specs.declared.stages.Stage.{Stage}
 use Rattle.text_matrix_market.specs.declared.stages.Stage.TheVariants as stage
-use Rattle.text_matrix_market.specs.declared.Verdict.{Verdict}
-use Rattle.text_matrix_market.specs.declared.Verdict.TheVariants as verdict
-use Rattle.text_matrix_market.specs.Text.{is_blank, is_line_feed, lines_of}
+use Rattle.text_matrix_market.specs.declared.File.{File}
+use Rattle.text_matrix_market.specs.Text.{is_blank, is_line_feed, is_nil, lines_of, words_of}
 use Rattle.text_matrix_market.specs.Numbers.{number_read, size_read}
 use Rattle.text_matrix_market.specs.File.{max_input, State, start, sizing, entering, refused, read_line, entry_row}
 use Rattle.text_matrix_market.specs.File.{Reading, file, refusal, entry_column, entry_weight}
@@ -53,19 +47,24 @@ unfoldable pub word_past : List ℕ → ℕ → ℕ
 word_past line from = word_end line (word_start line from)
 
 -- the next word is a number
-abbrev pub field_of : Number → ℕ → Field
-field_of number.Misshapen past = field.Misshapen
-field_of (number.Is value) past = field.Is value past
+abbrev pub field_of : Option ℕ → ℕ → Option (ℕ × ℕ)
+field_of None past = None
+field_of (Some value) past = Some (value, past)
 
 -- the weight after row and column, from a place on: a pattern has none
-unfoldable pub weight_field : Kind → List ℕ → ℕ → Field
+unfoldable pub weight_field : Kind → List ℕ → ℕ → Option (ℕ × ℕ)
 weight_field kind.General line from = field_of (number_read (next_word line from)) (word_past line from)
 weight_field kind.Symmetric line from = field_of (size_read (next_word line from)) (word_past line from)
-weight_field kind.Pattern line from = field.Is 0 from
+weight_field kind.Pattern line from = Some (0, from)
 
 -- the next word is the name
-abbrev pub next_of : Bool → ℕ → Next
-next_of same past = cond same (next.Past past) next.Other
+abbrev pub next_of : Bool → ℕ → Option ℕ
+next_of same past = cond same (Some past) None
+
+-- a place was found, and no word begins from there on
+abbrev pub nothing_past : Option ℕ → List ℕ → Bool
+nothing_past None line = false
+nothing_past (Some past) line = is_nil (words_of (drop past line))
 
 -- ---- entries in three lists
 pub record Lists : Type 0 where
@@ -90,12 +89,16 @@ abbrev pub state_of : Stage → Lists → State
 state_of stage.Start l = start
 state_of (stage.Sizing kind) l = sizing kind
 state_of (stage.Entering kind n count read) l = entering kind n count (first_entries read l)
-state_of (stage.Refused number) l = refused number
 
--- what is read: the verdict, with the entries that the lists hold
-abbrev pub reading_from : Verdict → Lists → Reading
-reading_from (verdict.File kind n count) l = file kind n (first_entries count l)
-reading_from (verdict.Refused number) l = refusal number
+-- the state that a line leads to: that of its stage, or its refusal
+abbrev pub state_after : Result Stage ℕ → Lists → State
+state_after (Ok next) l = state_of next l
+state_after (Err fault) l = refused fault
+
+-- what is read: the file, with the entries that the lists hold, or the refusal
+abbrev pub reading_from : Result File ℕ → Lists → Reading
+reading_from (Ok f) l = file f.kind f.n (first_entries f.count l)
+reading_from (Err fault) l = refusal fault
 
 -- each list has a place for each of that many entries
 abbrev pub Places : ℕ → Lists → Type 0
@@ -106,7 +109,6 @@ abbrev pub Room : Stage → Lists → Type 0
 Room stage.Start l = Unit
 Room (stage.Sizing kind) l = Unit
 Room (stage.Entering kind n count read) l = Places count l
-Room (stage.Refused number) l = Unit
 
 -- ---- what a reading leaves in the lists
 -- entries stored from a place on, over what was there
@@ -143,6 +145,6 @@ unfoldable pub taken_of : List ℕ → List Entry
 taken_of input = cond (leb (length input) max_input) (taken start (lines_of input)) []
 
 -- the number of a word, which may begin with a minus if it is signed
-abbrev pub word_read : Bool → List ℕ → Number
+abbrev pub word_read : Bool → List ℕ → Option ℕ
 word_read true word = size_read word
 word_read false word = number_read word

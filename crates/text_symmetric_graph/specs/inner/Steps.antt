@@ -1,11 +1,9 @@
 -- What the inner functions require and promise.
-use Rattle.std.specs.Prelude.{◌≡◌, true, false, List, ◌++◌, ℕ, ◌+◌, ◌*◌, ◌≤◌, Float, length, take, drop}
+use Rattle.std.specs.Prelude.{◌≡◌, true, false, Option, Some, None, List, ◌++◌, ℕ, ◌+◌, ◌*◌, ◌≤◌, Float, length, take, drop}
 use Rattle.triplets.specs.Built.{Triplets}
 use Rattle.hungarian.specs.Graph.{graph_of}
 use Rattle.mc64_columns.specs.Graphs.{graph_rows}
 use Rattle.text_matrix_market.specs.File.{repeats}
-use Rattle.text_symmetric_graph.specs.declared.Mirrored.{Mirrored}
-use Rattle.text_symmetric_graph.specs.declared.Mirrored.TheVariants.{Graph, Repeated}
 use Rattle.text_symmetric_graph.specs.Graph.{triplet_graph}
 
 -- room for the graph of that many entries, each of which may be mirrored
@@ -21,9 +19,9 @@ pub record HoldsGraph (n : ℕ) (t : Triplets) (graph_ptr graph_rows : List ℕ)
   pub fits : kept ≤ 2 * length t.rows
 
 -- what is answered, and what the slices then hold
-abbrev pub Answers : ℕ → Triplets → List ℕ → List ℕ → List Float → Mirrored → Type 0
-Answers n t graph_ptr graph_rows cost (Graph kept) = HoldsGraph n t graph_ptr graph_rows cost kept
-Answers n t graph_ptr graph_rows cost Repeated = repeats t.rows t.cols ≡ true
+abbrev pub Answers : ℕ → Triplets → List ℕ → List ℕ → List Float → Option ℕ → Type 0
+Answers n t graph_ptr graph_rows cost (Some kept) = HoldsGraph n t graph_ptr graph_rows cost kept
+Answers n t graph_ptr graph_rows cost None = repeats t.rows t.cols ≡ true
 
 pub record GraphSlices : Type 0 where
   pub pointers : List ℕ
@@ -34,9 +32,9 @@ abbrev pub graph_slices : List ℕ → List ℕ → List Float → GraphSlices
 graph_slices pointers rows costs = record { pointers = pointers; rows = rows; costs = costs }
 
 -- the graph, followed by what the slices held; if a pair occurs twice, everything is as it was
-abbrev pub graph_left : ℕ → Triplets → GraphSlices → Mirrored → GraphSlices
-graph_left n t before (Graph kept) =
+abbrev pub graph_left : ℕ → Triplets → GraphSlices → Option ℕ → GraphSlices
+graph_left n t before (Some kept) =
     let g = triplet_graph n t in
     graph_slices g.pattern.col_ptr (g.pattern.row_idx ++ drop kept before.rows)
     (g.cost ++ drop kept before.costs)
-graph_left n t before Repeated = before
+graph_left n t before None = before
