@@ -1,6 +1,8 @@
 // The log factors of a small match given as bytes: sizes are tested, then each factor is made from the bytes of its
 // doubles and laid down as bytes.
 ghost use Rattle.std.specs.Prelude.{◌≡◌, ◌*◌, length};
+ghost use Rattle.refusal.specs.Number.{number_of};
+ghost use Rattle.refusal.specs.Refusal.{accepted};
 ghost use Rattle.slices.specs.Outcome.{outcome_is};
 ghost use Rattle.matching.specs.Match.{match_of};
 ghost use Rattle.factors_mc64.specs.Factors.{symmetric_factors};
@@ -11,20 +13,28 @@ ghost use Rattle.byte_forms.specs.inner.Steps.{cache_result, Duals};
 
 use crate::match_bytes::{COLUMNS, MAX_COLUMNS};
 use limits::NONE;
+use refusal::Refusal;
 
-// Refusals 1 and 3, or 0. `others` says whether the other slices have their lengths; all but it and n are lengths.
-pub fn size_fault(n: u32, u: usize, v: usize, cmax: usize, factors: usize, others: bool) -> u32
-    ensures { result ≡ factor_sizes n u v cmax factors others }
+// Refusals 1 and 3. `others` says whether the other slices have their lengths; all but it and n are lengths.
+pub fn size_fault(
+    n: u32,
+    u: usize,
+    v: usize,
+    cmax: usize,
+    factors: usize,
+    others: bool,
+) -> Result<(), Refusal>
+    ensures { number_of result ≡ factor_sizes n u v cmax factors others }
 {
     if n > MAX_COLUMNS {
-        return refusal::TOO_MANY_COLUMNS;
+        return Err(Refusal::TooManyColumns);
     }
     let doubles = 8 * n as usize;
     let results = (factors == doubles) & others;
     if (u == doubles) & ((v == doubles) & ((cmax == doubles) & results)) {
-        refusal::ACCEPTED
+        Ok(())
     } else {
-        refusal::SLICE_LENGTH
+        Err(Refusal::SliceLength)
     }
 }
 
@@ -36,10 +46,10 @@ pub fn read_sides(
     cmax: &[u8],
     row_factors: &mut [u8],
     column_factors: &mut [u8],
-) -> u32
+)
     requires duals { Duals n (8 * n) u.now v.now cmax.now }
     requires row_factors_len { (length row_factors.old ≡ 8 * n) × (length column_factors.old ≡ 8 * n) }
-    ensures { outcome_is result (factor_bytes row_factors.new column_factors.new)
+    ensures { outcome_is accepted (factor_bytes row_factors.new column_factors.new)
         ≡ sides_laid n (doubles u.now n) (doubles v.now n) (doubles cmax.now n) }
 {
     let size = n as usize;
@@ -50,7 +60,6 @@ pub fn read_sides(
         byte_numbers::put_double(row_factors, at, factors_mc64::hold(row));
         byte_numbers::put_double(column_factors, at, factors_mc64::hold(column));
     }
-    refusal::ACCEPTED
 }
 
 // The factors of a match, from the marks of the matched rows.
@@ -91,24 +100,21 @@ pub fn read_factors(
     cmax: &[u8],
     factors: &mut [u8],
     unmatched: &mut [u8],
-) -> u32
+) -> Result<(), Refusal>
     requires duals { Duals n (8 * n) u.now v.now cmax.now }
     requires perm_len { length perm.now ≡ 4 * n }
     requires factors_len { (length factors.old ≡ 8 * n) × (length unmatched.old ≡ 4) }
-    ensures { outcome_is result (factor_bytes factors.new unmatched.new)
+    ensures { outcome_is (number_of result) (factor_bytes factors.new unmatched.new)
         ≡ cache_result n matched (cache_read n perm.now u.now v.now cmax.now)
         factors.old unmatched.old }
 {
     let size = n as usize;
     let mut rows_of = [0u32; COLUMNS];
     byte_numbers::read_words(perm, &mut rows_of[..size]);
-    let fault = factors_mc64::matching_fault(n, matched, &rows_of[..size]);
-    if fault != refusal::ACCEPTED {
-        return fault;
-    }
+    factors_mc64::matching_fault(n, matched, &rows_of[..size])?;
     let mut marks = [0u32; COLUMNS];
     factors_mc64::mark_rows(size, &rows_of[..size], &mut marks[..size]);
     put_factors(size, &rows_of[..size], &marks[..size], u, v, cmax, factors);
     byte_numbers::put_u32(unmatched, 0, n - matched);
-    refusal::ACCEPTED
+    Ok(())
 }

@@ -1,6 +1,7 @@
 // The match of a small graph given as bytes: sizes are tested, words and doubles are read into local arrays and
 // matched, and the match is written as bytes.
 ghost use Rattle.std.specs.Prelude.{◌≡◌, [], ◌≤◌};
+ghost use Rattle.refusal.specs.Number.{number_of};
 ghost use Rattle.slices.specs.Outcome.{outcome_is};
 ghost use Rattle.hungarian.specs.Graph.{graph_of};
 ghost use Rattle.hungarian_match.specs.Call.{slices, match_after};
@@ -9,7 +10,7 @@ ghost use Rattle.byte_forms.specs.MatchBytes.{graph_bytes, graph_read, match_byt
 ghost use Rattle.byte_forms.specs.inner.Steps.{graph_result, Laying, Roomy, Fitting, Small, Sized};
 
 use hungarian::Counts;
-use hungarian_match::Answer;
+use refusal::Refusal;
 
 // The most columns and entries of a graph given as bytes; the lengths of arrays for them.
 pub const MAX_COLUMNS: u32 = 256;
@@ -48,7 +49,7 @@ fn lengths_fit(
     (col_ptr == 4 * (n + 1)) & ((row_idx == 4 * count) & ((cost == 8 * count) & result))
 }
 
-// Refusals 1, 2 and 3, or 0. All but n are lengths.
+// Refusals 1, 2 and 3. All but n are lengths.
 pub fn size_fault(
     n: u32,
     col_ptr: usize,
@@ -58,19 +59,19 @@ pub fn size_fault(
     u: usize,
     v: usize,
     answer: usize,
-) -> u32
-    ensures { result ≡ byte_sizes n col_ptr row_idx cost perm u v answer }
+) -> Result<(), Refusal>
+    ensures { number_of result ≡ byte_sizes n col_ptr row_idx cost perm u v answer }
 {
     if n > MAX_COLUMNS {
-        return refusal::TOO_MANY_COLUMNS;
+        return Err(Refusal::TooManyColumns);
     }
     if row_idx / 4 > MAX_ENTRIES {
-        return refusal::TOO_MANY_ENTRIES;
+        return Err(Refusal::TooManyEntries);
     }
     if lengths_fit(n as usize, col_ptr, row_idx, cost, perm, u, v, answer) {
-        refusal::ACCEPTED
+        Ok(())
     } else {
-        refusal::SLICE_LENGTH
+        Err(Refusal::SliceLength)
     }
 }
 
@@ -123,25 +124,20 @@ fn match_in(
     u: &mut [u8],
     v: &mut [u8],
     answer: &mut [u8],
-) -> u32
+) -> Result<(), Refusal>
     requires fact { let room = slices rows_of.old row_duals.old col_duals.old work.old fwork.old in
         Fitting (graph_of n col_ptr.now row_idx.now cost.now) room }
     requires roomy { Roomy n (match_bytes perm.old u.old v.old answer.old) }
     ensures { let g = graph_of n col_ptr.now row_idx.now cost.now in
         let before = match_bytes perm.old u.old v.old answer.old in
         let after = match_bytes perm.new u.new v.new answer.new in
-        outcome_is result after ≡ graph_result g before }
+        outcome_is (number_of result) after ≡ graph_result g before }
 {
-    let outcome = hungarian_match::hungarian_match(
+    let found = hungarian_match::hungarian_match(
         n, col_ptr, row_idx, cost, rows_of, row_duals, col_duals, work, fwork,
-    );
-    match outcome {
-        Answer::Matched(found) => {
-            put_match(rows_of, row_duals, col_duals, found, perm, u, v, answer);
-            refusal::ACCEPTED
-        }
-        Answer::Refused(number) => number,
-    }
+    )?;
+    put_match(rows_of, row_duals, col_duals, found, perm, u, v, answer);
+    Ok(())
 }
 
 // The same with local arrays.
@@ -154,13 +150,13 @@ fn match_small(
     u: &mut [u8],
     v: &mut [u8],
     answer: &mut [u8],
-) -> u32
+) -> Result<(), Refusal>
     requires small { Small (graph_of n col_ptr.now row_idx.now cost.now) }
     requires roomy { Roomy n (match_bytes perm.old u.old v.old answer.old) }
     ensures { let g = graph_of n col_ptr.now row_idx.now cost.now in
         let before = match_bytes perm.old u.old v.old answer.old in
         let after = match_bytes perm.new u.new v.new answer.new in
-        outcome_is result after ≡ graph_result g before }
+        outcome_is (number_of result) after ≡ graph_result g before }
 {
     let size = n as usize;
     let mut rows_of = [0u32; COLUMNS];
@@ -195,13 +191,13 @@ pub fn read_and_match(
     u: &mut [u8],
     v: &mut [u8],
     answer: &mut [u8],
-) -> u32
+) -> Result<(), Refusal>
     requires sized { Sized (graph_bytes n col_ptr.now row_idx.now cost.now) }
     requires roomy { Roomy n (match_bytes perm.old u.old v.old answer.old) }
     ensures { let g = graph_read (graph_bytes n col_ptr.now row_idx.now cost.now) in
         let before = match_bytes perm.old u.old v.old answer.old in
         let after = match_bytes perm.new u.new v.new answer.new in
-        outcome_is result after ≡ graph_result g before }
+        outcome_is (number_of result) after ≡ graph_result g before }
 {
     let pointers = n as usize + 1;
     let count = row_idx.len() / 4;

@@ -1,39 +1,30 @@
 // Cases of the root, of the log factors of both kinds and of the inf-norm factors of both kinds.
-use crate::list::Place;
+use crate::list::{Place, Word};
 use crate::{list, matrices};
 use factors_mc64::Scaled;
-use sparse::layout;
-use square_root::Root;
+use refusal::Refusal;
 
 // The number of the refusal, or 0, and the root.
 pub fn root(input: &[u8], from: Place) -> Place {
-    let x = list::next(input, from);
-    let answer = square_root::sqrt(list::double(x));
-    match answer {
-        Root::Is(y) => {
-            let place = list::expect(input, x, 0);
-            list::expect_double(input, place, y)
-        }
-        Root::Refused(number) => list::expect_kept(input, x, number, 0),
-    }
+    let place = list::next(input, from);
+    let x = f64::of(place);
+    list::expect_answer(input, place, square_root::sqrt(x))
 }
 
 // The next word of the list is the answer of the log factors.
-fn expect_scaled(input: &[u8], from: Place, answer: Scaled) -> Place {
-    match answer {
-        Scaled::Applied => list::expect_done(input, from, refusal::ACCEPTED, 0, 0),
-        Scaled::PartialSingular(unmatched) => {
-            list::expect_done(input, from, refusal::ACCEPTED, 1, unmatched)
-        }
-        Scaled::Refused(number) => list::expect_done(input, from, number, 0, 0),
-    }
+fn expect_scaled(input: &[u8], from: Place, answer: Result<Scaled, Refusal>) -> Place {
+    let done = answer.map(|scaled| match scaled {
+        Scaled::Applied => (0, 0),
+        Scaled::PartialSingular(unmatched) => (1, unmatched),
+    });
+    list::expect_done(input, from, done)
 }
 
 // The duals of a match and the largest log of each column.
 fn fill_duals(input: &[u8], from: Place, u: &mut [f64], v: &mut [f64], cmax: &mut [f64]) -> Place {
-    let place = list::doubles(input, from, u);
-    let place = list::doubles(input, place, v);
-    list::doubles(input, place, cmax)
+    let place = list::fill(input, from, u);
+    let place = list::fill(input, place, v);
+    list::fill(input, place, cmax)
 }
 
 // The case, with slices of its lengths: fills them from the list, makes the call, and compares what it leaves.
@@ -49,14 +40,14 @@ fn symmetric_lent(
     factors: &mut [f64],
     work: &mut [u32],
 ) -> Place {
-    let place = list::words(input, from, perm);
+    let place = list::fill(input, from, perm);
     let place = fill_duals(input, place, u, v, cmax);
-    let place = list::doubles(input, place, factors);
-    let place = list::words(input, place, work);
+    let place = list::fill(input, place, factors);
+    let place = list::fill(input, place, work);
     let answer = factors_mc64::log_factors(n, matched, perm, u, v, cmax, factors, work);
     let place = expect_scaled(input, place, answer);
-    let place = list::expect_doubles(input, place, factors);
-    list::expect_words(input, place, work)
+    let place = list::expect_all(input, place, factors);
+    list::expect_all(input, place, work)
 }
 
 // One case of the call: the lengths of its slices, then the slices.
@@ -101,12 +92,12 @@ fn unsymmetric_lent(
     columns: &mut [f64],
 ) -> Place {
     let place = fill_duals(input, from, u, v, cmax);
-    let place = list::doubles(input, place, rows);
-    let place = list::doubles(input, place, columns);
-    let number = factors_mc64::unsymmetric_factors(n, u, v, cmax, rows, columns);
-    let place = list::expect(input, place, number as u64);
-    let place = list::expect_doubles(input, place, rows);
-    list::expect_doubles(input, place, columns)
+    let place = list::fill(input, place, rows);
+    let place = list::fill(input, place, columns);
+    let answer = factors_mc64::unsymmetric_factors(n, u, v, cmax, rows, columns);
+    let place = list::expect(input, place, refusal::answer(answer));
+    let place = list::expect_all(input, place, rows);
+    list::expect_all(input, place, columns)
 }
 
 // One case of the call: the lengths of its slices, then the slices.
@@ -146,12 +137,12 @@ fn infnorm_lent(
     work: &mut [f64],
 ) -> Place {
     let place = matrices::fill(input, from, col_ptr, rows, values);
-    let place = list::doubles(input, place, factors);
-    let place = list::doubles(input, place, work);
+    let place = list::fill(input, place, factors);
+    let place = list::fill(input, place, work);
     let answer = infnorm::compute_infnorm(n, col_ptr, rows, values, factors, work);
-    let place = list::expect(input, place, layout::number_of(answer) as u64);
-    let place = list::expect_doubles(input, place, factors);
-    list::expect_doubles(input, place, work)
+    let place = list::expect(input, place, refusal::answer(answer));
+    let place = list::expect_all(input, place, factors);
+    list::expect_all(input, place, work)
 }
 
 // One case of the call: the lengths of its slices, then the slices.
@@ -190,10 +181,10 @@ fn onepass_lent(
     factors: &mut [f64],
 ) -> Place {
     let place = matrices::fill(input, from, col_ptr, rows, values);
-    let place = list::doubles(input, place, factors);
+    let place = list::fill(input, place, factors);
     let answer = infnorm::compute_onepass(n, col_ptr, rows, values, factors);
-    let place = list::expect(input, place, layout::number_of(answer) as u64);
-    list::expect_doubles(input, place, factors)
+    let place = list::expect(input, place, refusal::answer(answer));
+    list::expect_all(input, place, factors)
 }
 
 // One case of the call: the lengths of its slices, then the slices.

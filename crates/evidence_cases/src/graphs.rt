@@ -1,7 +1,21 @@
 // Cases of graph building of both kinds.
 use crate::list::Place;
 use crate::{list, matrices};
-use mc64_columns::Built;
+use refusal::Refusal;
+
+// The call that builds a graph.
+pub type Build = fn(
+    u32,
+    &[u32],
+    &[u32],
+    &[f64],
+    &[f64],
+    &mut [u32],
+    &mut [u32],
+    &mut [f64],
+    &mut [f64],
+    &mut [u32],
+) -> Result<u32, Refusal>;
 
 // The slices that a graph is built into.
 pub fn fill(
@@ -14,8 +28,8 @@ pub fn fill(
     work: &mut [u32],
 ) -> Place {
     let place = matrices::fill(input, from, graph_ptr, graph_rows, cost);
-    let place = list::doubles(input, place, cmax);
-    list::words(input, place, work)
+    let place = list::fill(input, place, cmax);
+    list::fill(input, place, work)
 }
 
 // The next words of the list are what the slices hold after the call.
@@ -28,50 +42,18 @@ pub fn expect(
     cmax: &[f64],
     work: &[u32],
 ) -> Place {
-    let place = list::expect_words(input, from, graph_ptr);
-    let place = list::expect_words(input, place, graph_rows);
-    let place = list::expect_doubles(input, place, cost);
-    let place = list::expect_doubles(input, place, cmax);
-    list::expect_words(input, place, work)
-}
-
-// The next word of the list is the answer of the building.
-fn expect_built(input: &[u8], from: Place, answer: Built) -> Place {
-    match answer {
-        Built::Kept(kept) => list::expect_kept(input, from, refusal::ACCEPTED, kept),
-        Built::Refused(number) => list::expect_kept(input, from, number, 0),
-    }
-}
-
-// The call of either kind.
-fn build(
-    symmetric: bool,
-    n: u32,
-    col_ptr: &[u32],
-    rows: &[u32],
-    values: &[f64],
-    logs: &[f64],
-    graph_ptr: &mut [u32],
-    graph_rows: &mut [u32],
-    cost: &mut [f64],
-    cmax: &mut [f64],
-    work: &mut [u32],
-) -> Built {
-    if symmetric {
-        return mc64_symmetric::build_cost_graph(
-            n, col_ptr, rows, values, logs, graph_ptr, graph_rows, cost, cmax, work,
-        );
-    }
-    mc64_general::build_general_graph(
-        n, col_ptr, rows, values, logs, graph_ptr, graph_rows, cost, cmax, work,
-    )
+    let place = list::expect_all(input, from, graph_ptr);
+    let place = list::expect_all(input, place, graph_rows);
+    let place = list::expect_all(input, place, cost);
+    let place = list::expect_all(input, place, cmax);
+    list::expect_all(input, place, work)
 }
 
 // The case, with slices of its lengths: fills them from the list, makes the call, and compares what it leaves.
 fn graph_lent(
     input: &[u8],
     from: Place,
-    symmetric: bool,
+    build: Build,
     n: u32,
     col_ptr: &mut [u32],
     rows: &mut [u32],
@@ -82,25 +64,23 @@ fn graph_lent(
     cost: &mut [f64],
     cmax: &mut [f64],
     work: &mut [u32],
-) -> Place {
+) -> Place
+    requires { IsAlwaysCallable build }
+{
     let place = matrices::fill(input, from, col_ptr, rows, values);
-    let place = list::doubles(input, place, logs);
+    let place = list::fill(input, place, logs);
     let place = fill(input, place, graph_ptr, graph_rows, cost, cmax, work);
     let answer = build(
-        symmetric, n, col_ptr, rows, values, logs, graph_ptr, graph_rows, cost, cmax, work,
+        n, col_ptr, rows, values, logs, graph_ptr, graph_rows, cost, cmax, work,
     );
-    let place = expect_built(input, place, answer);
+    let place = list::expect_answer(input, place, answer);
     expect(input, place, graph_ptr, graph_rows, cost, cmax, work)
 }
 
 // One case of the call: the lengths of its slices, then the slices.
-pub fn graph(
-    input: &[u8],
-    from: Place,
-    symmetric: bool,
-    rows: &mut [u32],
-    values: &mut [f64],
-) -> Place {
+pub fn graph(input: &[u8], from: Place, build: Build, rows: &mut [u32], values: &mut [f64]) -> Place
+    requires { IsAlwaysCallable build }
+{
     let most = rows.len();
     let places = values.len();
     let n = list::next_u32(input, from);
@@ -123,7 +103,7 @@ pub fn graph(
     graph_lent(
         input,
         l8,
-        symmetric,
+        build,
         list::word(n),
         &mut col_ptr[..list::size(l0, list::POINTERS)],
         &mut rows[..list::size(l1, most)],

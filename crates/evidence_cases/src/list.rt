@@ -1,13 +1,7 @@
 // The words of the list, one after the other, and the state of a case.
 ghost use Rattle.std.specs.Prelude.{◌≤◌};
 
-pub const ALIKE: u32 = 0;
-
-pub const DIFFERS: u32 = 1;
-
-pub const BAD: u32 = 2;
-
-pub const ENDED: u32 = 3;
+use refusal::Refusal;
 
 // The longest slices beside rows and values: those of n = 4,097 and 1,024 entries.
 pub const COLUMNS: usize = 4097;
@@ -22,14 +16,24 @@ pub const MATCH_WORK: usize = 49165;
 
 pub const DISTANCES: usize = 8194;
 
+// The state of a case. The last two end the reading: the list cannot be read further, or is at its end.
+#[derive(Clone, Copy, Default, PartialEq)]
+pub enum State {
+    #[default]
+    Alike,
+    Differs,
+    Bad,
+    Ended,
+}
+
 // The reading of the list: the last word, how often it is repeated and by what it grows, and the state of the case.
-#[derive(Clone, Copy)]
+#[derive(Clone, Copy, Default)]
 pub struct Place {
     pub at: usize,
     pub value: u64,
     pub left: u64,
     pub step: u64,
-    pub state: u32,
+    pub state: State,
 }
 
 // The number of some digits, and the place after them.
@@ -40,95 +44,94 @@ struct Digits {
 }
 
 impl Place {
-    pub fn new() -> Self {
-        Self {
-            at: 0,
-            value: 0,
-            left: 0,
-            step: 0,
-            state: ALIKE,
-        }
-    }
-
     // The list cannot be read further.
-    pub fn bad(mut self) -> Self {
-        self.state = BAD;
-        self
+    pub fn bad(self) -> Self {
+        Self {
+            state: State::Bad,
+            ..self
+        }
     }
 
     // The list is at its end.
-    pub fn ended(mut self) -> Self {
-        self.state = ENDED;
-        self
+    pub fn ended(self) -> Self {
+        Self {
+            state: State::Ended,
+            ..self
+        }
     }
 
     // The case differs, unless the list is at its end or cannot be read.
-    pub fn differs(mut self) -> Self {
-        if self.state == ALIKE {
-            self.state = DIFFERS;
+    pub fn differs(self) -> Self {
+        match self.state {
+            State::Alike => Self {
+                state: State::Differs,
+                ..self
+            },
+            _ => self,
         }
-        self
     }
 
     // The state of a case does not carry over to the next.
-    pub fn alike(mut self) -> Self {
-        if self.state == DIFFERS {
-            self.state = ALIKE;
+    pub fn alike(self) -> Self {
+        match self.state {
+            State::Differs => Self {
+                state: State::Alike,
+                ..self
+            },
+            _ => self,
         }
-        self
+    }
+
+    // No case follows.
+    pub fn is_last(self) -> bool {
+        matches!(self.state, State::Bad | State::Ended)
     }
 }
 
-// What a hexadecimal digit stands for; 16 for any other byte.
-fn digit(byte: u8) -> u64 {
-    if byte >= b'0' && byte <= b'9' {
-        return (byte - b'0') as u64;
+// What a hexadecimal digit stands for.
+fn digit(byte: u8) -> Option<u64> {
+    match byte {
+        b'0'..=b'9' => Some(u64::from(byte - b'0')),
+        b'a'..=b'f' => Some(u64::from(byte - b'a') + 10),
+        _ => None,
     }
-    if byte >= b'a' && byte <= b'f' {
-        return (byte - b'a') as u64 + 10;
-    }
-    16
 }
 
 // The digits from a place on, up to the first that does not fit 64 bits.
 fn number(input: &[u8], from: usize) -> Digits {
-    let mut at = from;
     let mut value = 0u64;
-    while at < input.len() {
-        let digit = digit(input[at]);
-        if digit > 15 {
-            return Digits { value, next: at };
+    for next in from..input.len() {
+        match digit(input[next]) {
+            Some(digit) if value <= 0xfff_ffff_ffff_ffff => value = value * 16 + digit,
+            _ => return Digits { value, next },
         }
-        if value > 0xfff_ffff_ffff_ffff {
-            return Digits { value, next: at };
-        }
-        value = value * 16 + digit;
-        at += 1;
     }
-    Digits { value, next: at }
+    Digits {
+        value,
+        next: from.max(input.len()),
+    }
 }
 
 // The next place that is neither blank nor in a comment, which goes from `#` to the end of its line.
 fn skip(input: &[u8], from: usize) -> usize {
-    let mut at = from;
     let mut comment = false;
-    while at < input.len() {
+    for at in from..input.len() {
         let byte = input[at];
         comment = byte == b'#' || comment && byte != b'\n';
         if !comment && byte != b' ' && byte != b'\n' {
             return at;
         }
-        at += 1;
     }
-    at
+    from.max(input.len())
 }
 
 // The place after the mark, or the same place if another byte is there.
 fn behind(input: &[u8], at: usize, mark: u8) -> usize {
     if at < input.len() && input[at] == mark {
-        return at + 1;
+        at + 1
+    } else {
+        at
     }
-    at
 }
 
 // A word `value`, or a run of words `count*value` or `count*value+step`, at its first word.
@@ -145,7 +148,7 @@ fn run(input: &[u8], from: Place) -> Place {
             value: first.value,
             left: 0,
             step: 0,
-            state: from.state,
+            ..from
         };
     }
     let value = number(input, star);
@@ -158,24 +161,22 @@ fn run(input: &[u8], from: Place) -> Place {
         value: value.value,
         left: first.value - 1,
         step: step.value,
-        state: from.state,
+        ..from
     }
 }
 
 // The next word. If the list cannot be read, the place stays.
 pub fn next(input: &[u8], from: Place) -> Place {
-    if from.state == BAD {
+    if from.state == State::Bad {
         return from;
     }
     if from.left == 0 {
         return run(input, from);
     }
     Place {
-        at: from.at,
-        value: std::num::wrapping_add_u64(from.value, from.step),
+        value: from.value.wrapping_add(from.step),
         left: from.left - 1,
-        step: from.step,
-        state: from.state,
+        ..from
     }
 }
 
@@ -191,11 +192,6 @@ pub fn next_u32(input: &[u8], from: Place) -> Place {
 // The low 32 bits of the word that was read.
 pub fn word(place: Place) -> u32 {
     (place.value % 0x1_0000_0000) as u32
-}
-
-// The number of a call as an index.
-pub fn index(call: u32) -> usize {
-    call as usize
 }
 
 // The next word, a length up to the limit.
@@ -218,86 +214,102 @@ pub fn size(place: Place, limit: usize) -> usize
     size
 }
 
+// What the list has as a word: a number, or a double by its bits.
+pub trait Word: Copy + Default {
+    // The next word.
+    fn next(input: &[u8], from: Place) -> Place;
+
+    // What the word stands for that was read.
+    fn of(place: Place) -> Self;
+
+    fn bits(self) -> u64;
+}
+
+impl Word for u32 {
+    fn next(input: &[u8], from: Place) -> Place {
+        next_u32(input, from)
+    }
+
+    fn of(place: Place) -> u32 {
+        word(place)
+    }
+
+    fn bits(self) -> u64 {
+        u64::from(self)
+    }
+}
+
+impl Word for u64 {
+    fn next(input: &[u8], from: Place) -> Place {
+        next(input, from)
+    }
+
+    fn of(place: Place) -> u64 {
+        place.value
+    }
+
+    fn bits(self) -> u64 {
+        self
+    }
+}
+
 // Every pattern of a NaN gives the one NaN.
-pub fn double(place: Place) -> f64 {
-    byte_numbers::double_of(place.value)
+impl Word for f64 {
+    fn next(input: &[u8], from: Place) -> Place {
+        next(input, from)
+    }
+
+    fn of(place: Place) -> f64 {
+        byte_numbers::double_of(place.value)
+    }
+
+    fn bits(self) -> u64 {
+        byte_numbers::bits_of(self)
+    }
 }
 
 // What the slice holds before the call.
-pub fn words(input: &[u8], from: Place, out: &mut [u32]) -> Place {
+pub fn fill<T: Word>(input: &[u8], from: Place, out: &mut [T]) -> Place {
     let mut place = from;
-    for i in 0..out.len() {
-        place = next_u32(input, place);
-        out[i] = word(place);
+    for x in out {
+        place = T::next(input, place);
+        *x = T::of(place);
     }
     place
 }
 
-// What the slice of doubles holds before the call.
-pub fn doubles(input: &[u8], from: Place, out: &mut [f64]) -> Place {
-    let mut place = from;
-    for i in 0..out.len() {
-        place = next(input, place);
-        out[i] = double(place);
-    }
-    place
-}
-
-// The number is the next word.
-pub fn expect(input: &[u8], from: Place, got: u64) -> Place {
+// The next word is this one.
+pub fn expect<T: Word>(input: &[u8], from: Place, got: T) -> Place {
     let place = next(input, from);
-    if place.value != got {
-        return place.differs();
+    if place.value == got.bits() {
+        place
+    } else {
+        place.differs()
     }
-    place
 }
 
-// The number of the refusal, or 0, and how many entries are kept.
-pub fn expect_kept(input: &[u8], from: Place, number: u32, kept: u32) -> Place {
-    let place = expect(input, from, number as u64);
-    expect(input, place, kept as u64)
+// Compares what the slice holds after the call with the list.
+pub fn expect_all<T: Word>(input: &[u8], from: Place, got: &[T]) -> Place {
+    got.iter().fold(from, |place, x| expect(input, place, *x))
 }
 
-// The number of the refusal, or 0; what was done, and how many columns are unmatched.
-pub fn expect_done(input: &[u8], from: Place, number: u32, done: u64, unmatched: u32) -> Place {
-    let place = expect(input, from, number as u64);
+// The number that a call answers, and what it makes, which is 0 if it is refused.
+pub fn expect_answer<T: Word>(input: &[u8], from: Place, answer: Result<T, Refusal>) -> Place {
+    let (number, made) = match answer {
+        Ok(made) => (refusal::ACCEPTED, made),
+        Err(refusal) => (u32::from(refusal), T::default()),
+    };
+    let place = expect(input, from, number);
+    expect(input, place, made)
+}
+
+// The number that a call answers, what was done, and how many columns are unmatched.
+pub fn expect_done(input: &[u8], from: Place, done: Result<(u64, u32), Refusal>) -> Place {
+    let (number, done, unmatched) = match done {
+        Ok((done, unmatched)) => (refusal::ACCEPTED, done, unmatched),
+        Err(refusal) => (u32::from(refusal), 0, 0),
+    };
+    let place = expect(input, from, number);
     let place = expect(input, place, done);
-    expect(input, place, unmatched as u64)
-}
-
-// The double's bits are the next word.
-pub fn expect_double(input: &[u8], from: Place, got: f64) -> Place {
-    expect(input, from, byte_numbers::bits_of(got))
-}
-
-// As 64 bits.
-fn wide(x: u32) -> u64 {
-    x as u64
-}
-
-// Compares what the slice holds after the call with the list.
-pub fn expect_words(input: &[u8], from: Place, got: &[u32]) -> Place {
-    let mut place = from;
-    for i in 0..got.len() {
-        place = expect(input, place, wide(got[i]));
-    }
-    place
-}
-
-// Compares what the slice holds after the call with the list.
-pub fn expect_numbers(input: &[u8], from: Place, got: &[u64]) -> Place {
-    let mut place = from;
-    for i in 0..got.len() {
-        place = expect(input, place, got[i]);
-    }
-    place
-}
-
-// Compares what the slice holds after the call with the list.
-pub fn expect_doubles(input: &[u8], from: Place, got: &[f64]) -> Place {
-    let mut place = from;
-    for i in 0..got.len() {
-        place = expect_double(input, place, got[i]);
-    }
-    place
+    expect(input, place, unmatched)
 }

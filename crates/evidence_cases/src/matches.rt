@@ -1,7 +1,8 @@
 // Cases of the match.
 use crate::list::Place;
 use crate::{list, matrices};
-use hungarian_match::Answer;
+use hungarian::Counts;
+use refusal::Refusal;
 
 // The slices that the match is lent beside its graph.
 pub fn fill(
@@ -13,11 +14,11 @@ pub fn fill(
     work: &mut [u32],
     distances: &mut [f64],
 ) -> Place {
-    let place = list::words(input, from, perm);
-    let place = list::doubles(input, place, u);
-    let place = list::doubles(input, place, v);
-    let place = list::words(input, place, work);
-    list::doubles(input, place, distances)
+    let place = list::fill(input, from, perm);
+    let place = list::fill(input, place, u);
+    let place = list::fill(input, place, v);
+    let place = list::fill(input, place, work);
+    list::fill(input, place, distances)
 }
 
 // The next words of the list are what the slices hold after the call.
@@ -30,27 +31,25 @@ pub fn expect(
     work: &[u32],
     distances: &[f64],
 ) -> Place {
-    let place = list::expect_words(input, from, perm);
-    let place = list::expect_doubles(input, place, u);
-    let place = list::expect_doubles(input, place, v);
-    let place = list::expect_words(input, place, work);
-    list::expect_doubles(input, place, distances)
+    let place = list::expect_all(input, from, perm);
+    let place = list::expect_all(input, place, u);
+    let place = list::expect_all(input, place, v);
+    let place = list::expect_all(input, place, work);
+    list::expect_all(input, place, distances)
 }
 
 // The number of the refusal, or 0, and the matched count with the seven counts.
-fn expect_answer(input: &[u8], from: Place, answer: Answer) -> Place {
+fn expect_answer(input: &[u8], from: Place, answer: Result<Counts, Refusal>) -> Place {
     let mut counts = [0u64; hungarian_match::ANSWER_LENGTH];
-    match answer {
-        Answer::Matched(found) => {
+    let number = match answer {
+        Ok(found) => {
             hungarian_match::put_counts(&mut counts, found);
-            let place = list::expect(input, from, 0);
-            list::expect_numbers(input, place, &counts)
+            refusal::ACCEPTED
         }
-        Answer::Refused(number) => {
-            let place = list::expect(input, from, number as u64);
-            list::expect_numbers(input, place, &counts)
-        }
-    }
+        Err(refusal) => u32::from(refusal),
+    };
+    let place = list::expect(input, from, number);
+    list::expect_all(input, place, &counts)
 }
 
 // The case, with slices of its lengths: fills them from the list, makes the call, and compares what it leaves.

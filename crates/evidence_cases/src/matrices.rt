@@ -1,8 +1,22 @@
 // Cases of the calls on matrices: `validate` and `from_triplets` of both kinds.
 use crate::list;
 use crate::list::Place;
-use sparse::layout;
-use sparse::layout::Assembled;
+use refusal::Refusal;
+
+// The call that tests a matrix.
+pub type Validate = fn(u32, &[u32], &[u32], &[f64]) -> Result<(), Refusal>;
+
+// The call that assembles triplets.
+pub type Assemble = fn(
+    u32,
+    &[u32],
+    &[u32],
+    &[f64],
+    &mut [u32],
+    &mut [u32],
+    &mut [f64],
+    &mut [u32],
+) -> Result<u32, Refusal>;
 
 // The three slices of a matrix.
 pub fn fill(
@@ -12,38 +26,38 @@ pub fn fill(
     rows: &mut [u32],
     values: &mut [f64],
 ) -> Place {
-    let place = list::words(input, from, col_ptr);
-    let place = list::words(input, place, rows);
-    list::doubles(input, place, values)
+    let place = list::fill(input, from, col_ptr);
+    let place = list::fill(input, place, rows);
+    list::fill(input, place, values)
 }
 
 // The case, with slices of its lengths: fills them from the list, makes the call, and compares what it leaves.
 fn validate_lent(
     input: &[u8],
     from: Place,
-    symmetric: bool,
+    validate: Validate,
     n: u32,
     col_ptr: &mut [u32],
     rows: &mut [u32],
     values: &mut [f64],
-) -> Place {
+) -> Place
+    requires { IsAlwaysCallable validate }
+{
     let place = fill(input, from, col_ptr, rows, values);
-    if symmetric {
-        let number = layout::number_of(sparse::csc::validate(n, col_ptr, rows, values));
-        return list::expect(input, place, number as u64);
-    }
-    let number = layout::number_of(sparse::general::validate(n, col_ptr, rows, values));
-    list::expect(input, place, number as u64)
+    let answer = validate(n, col_ptr, rows, values);
+    list::expect(input, place, refusal::answer(answer))
 }
 
 // One case of the call: the lengths of its slices, then the slices.
 pub fn validate(
     input: &[u8],
     from: Place,
-    symmetric: bool,
+    validate: Validate,
     rows: &mut [u32],
     values: &mut [f64],
-) -> Place {
+) -> Place
+    requires { IsAlwaysCallable validate }
+{
     let most = rows.len();
     let places = values.len();
     let n = list::next_u32(input, from);
@@ -54,7 +68,7 @@ pub fn validate(
     validate_lent(
         input,
         l2,
-        symmetric,
+        validate,
         list::word(n),
         &mut col_ptr[..list::size(l0, list::POINTERS)],
         &mut rows[..list::size(l1, most)],
@@ -62,37 +76,11 @@ pub fn validate(
     )
 }
 
-// The next word of the list is the answer of the assembly.
-fn expect_assembled(input: &[u8], from: Place, answer: Assembled) -> Place {
-    match answer {
-        Assembled::Kept(kept) => list::expect_kept(input, from, refusal::ACCEPTED, kept),
-        Assembled::Refused(number) => list::expect_kept(input, from, number, 0),
-    }
-}
-
-// The call of either kind.
-fn assemble(
-    symmetric: bool,
-    n: u32,
-    rows: &[u32],
-    cols: &[u32],
-    vals: &[f64],
-    col_ptr: &mut [u32],
-    row_idx: &mut [u32],
-    values: &mut [f64],
-    work: &mut [u32],
-) -> Assembled {
-    if symmetric {
-        return sparse::csc::from_triplets(n, rows, cols, vals, col_ptr, row_idx, values, work);
-    }
-    sparse::general::from_triplets(n, rows, cols, vals, col_ptr, row_idx, values, work)
-}
-
 // The case, with slices of its lengths: fills them from the list, makes the call, and compares what it leaves.
 fn triplets_lent(
     input: &[u8],
     from: Place,
-    symmetric: bool,
+    assemble: Assemble,
     n: u32,
     rows: &mut [u32],
     cols: &mut [u32],
@@ -101,22 +89,24 @@ fn triplets_lent(
     row_idx: &mut [u32],
     values: &mut [f64],
     work: &mut [u32],
-) -> Place {
+) -> Place
+    requires { IsAlwaysCallable assemble }
+{
     let place = fill(input, from, rows, cols, vals);
     let place = fill(input, place, col_ptr, row_idx, values);
-    let place = list::words(input, place, work);
-    let answer = assemble(
-        symmetric, n, rows, cols, vals, col_ptr, row_idx, values, work,
-    );
-    let place = expect_assembled(input, place, answer);
-    let place = list::expect_words(input, place, col_ptr);
-    let place = list::expect_words(input, place, row_idx);
-    let place = list::expect_doubles(input, place, values);
-    list::expect_words(input, place, work)
+    let place = list::fill(input, place, work);
+    let answer = assemble(n, rows, cols, vals, col_ptr, row_idx, values, work);
+    let place = list::expect_answer(input, place, answer);
+    let place = list::expect_all(input, place, col_ptr);
+    let place = list::expect_all(input, place, row_idx);
+    let place = list::expect_all(input, place, values);
+    list::expect_all(input, place, work)
 }
 
 // One case of the call: the lengths of its slices, then the slices.
-pub fn triplets(input: &[u8], from: Place, symmetric: bool, rows: &mut [u32]) -> Place {
+pub fn triplets(input: &[u8], from: Place, assemble: Assemble, rows: &mut [u32]) -> Place
+    requires { IsAlwaysCallable assemble }
+{
     let most = rows.len();
     let n = list::next_u32(input, from);
     let l0 = list::length(input, n, most);
@@ -135,7 +125,7 @@ pub fn triplets(input: &[u8], from: Place, symmetric: bool, rows: &mut [u32]) ->
     triplets_lent(
         input,
         l6,
-        symmetric,
+        assemble,
         list::word(n),
         &mut rows[..list::size(l0, most)],
         &mut cols[..list::size(l1, list::ENTRIES)],

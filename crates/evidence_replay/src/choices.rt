@@ -2,18 +2,17 @@
 // next group; after the call they are compared from the last group to the first.
 use evidence_cases::list::Place;
 use evidence_cases::{graphs, list, matches, matrices};
+use refusal::Refusal;
 use scaling::Scaling;
 
 // The next word of the list is the answer of the chooser.
-fn expect_scaling(input: &[u8], from: Place, answer: Scaling) -> Place {
-    match answer {
-        Scaling::Applied => list::expect_done(input, from, refusal::ACCEPTED, 0, 0),
-        Scaling::PartialSingular(unmatched) => {
-            list::expect_done(input, from, refusal::ACCEPTED, 1, unmatched)
-        }
-        Scaling::NotApplied => list::expect_done(input, from, refusal::ACCEPTED, 2, 0),
-        Scaling::Refused(number) => list::expect_done(input, from, number, 0, 0),
-    }
+fn expect_scaling(input: &[u8], from: Place, answer: Result<Scaling, Refusal>) -> Place {
+    let done = answer.map(|scaling| match scaling {
+        Scaling::Applied => (0, 0),
+        Scaling::PartialSingular(unmatched) => (1, unmatched),
+        Scaling::NotApplied => (2, 0),
+    });
+    list::expect_done(input, from, done)
 }
 
 // The slices of all choices but MC64.
@@ -29,10 +28,10 @@ fn fill(
     maxima: &mut [f64],
 ) -> Place {
     let place = matrices::fill(input, from, col_ptr, rows, values);
-    let place = list::doubles(input, place, external);
-    let place = list::doubles(input, place, logs);
-    let place = list::doubles(input, place, factors);
-    list::doubles(input, place, maxima)
+    let place = list::fill(input, place, external);
+    let place = list::fill(input, place, logs);
+    let place = list::fill(input, place, factors);
+    list::fill(input, place, maxima)
 }
 
 // The call, and its comparison with the list: its answer and the last group.
@@ -84,7 +83,7 @@ fn choice_held(
     );
     let place = expect_scaling(input, from, answer);
     let place = matches::expect(input, place, perm, u, v, match_work, distances);
-    list::expect_words(input, place, factor_work)
+    list::expect_all(input, place, factor_work)
 }
 
 // The case with one more group of slices, of its lengths and filled from the list.
@@ -113,7 +112,7 @@ fn match_lent(
     factor_work: &mut [u32],
 ) -> Place {
     let place = matches::fill(input, from, perm, u, v, match_work, distances);
-    let place = list::words(input, place, factor_work);
+    let place = list::fill(input, place, factor_work);
     choice_held(
         input,
         place,
@@ -288,8 +287,8 @@ fn choice_lent(
     let place = with_graph(
         input, place, choice, n, col_ptr, rows, values, external, logs, factors, maxima,
     );
-    let place = list::expect_doubles(input, place, factors);
-    list::expect_doubles(input, place, maxima)
+    let place = list::expect_all(input, place, factors);
+    list::expect_all(input, place, maxima)
 }
 
 // The choice as a number, and the slices of every choice.

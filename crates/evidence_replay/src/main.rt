@@ -4,7 +4,7 @@
 
 mod choices;
 
-use evidence_cases::list::Place;
+use evidence_cases::list::{Place, State};
 use evidence_cases::{factors, graphs, list, matches, matrices};
 
 // The numbers of the calls are below this; 0 ends the list.
@@ -13,14 +13,14 @@ const CALLS: usize = 14;
 // One case of a call, from the word after the call's number.
 fn case(input: &[u8], from: Place, call: u32, rows: &mut [u32], values: &mut [f64]) -> Place {
     match call {
-        1 => matrices::validate(input, from, true, rows, values),
-        2 => matrices::validate(input, from, false, rows, values),
-        3 => matrices::triplets(input, from, true, rows),
-        4 => matrices::triplets(input, from, false, rows),
+        1 => matrices::validate(input, from, sparse::csc::validate, rows, values),
+        2 => matrices::validate(input, from, sparse::general::validate, rows, values),
+        3 => matrices::triplets(input, from, sparse::csc::from_triplets, rows),
+        4 => matrices::triplets(input, from, sparse::general::from_triplets, rows),
         5 => factors::root(input, from),
         6 => matches::matching(input, from, rows, values),
-        7 => graphs::graph(input, from, true, rows, values),
-        8 => graphs::graph(input, from, false, rows, values),
+        7 => graphs::graph(input, from, mc64_symmetric::build_cost_graph, rows, values),
+        8 => graphs::graph(input, from, mc64_general::build_general_graph, rows, values),
         9 => factors::symmetric(input, from),
         10 => factors::unsymmetric(input, from),
         11 => factors::iterated(input, from, rows, values),
@@ -30,29 +30,29 @@ fn case(input: &[u8], from: Place, call: u32, rows: &mut [u32], values: &mut [f6
     }
 }
 
-// Prints the name of a call.
-fn name(call: usize) {
+// The name of a call.
+fn name(call: usize) -> &'static [u8] {
     match call {
-        1 => io::write_all(1, b"csc::validate"),
-        2 => io::write_all(1, b"general::validate"),
-        3 => io::write_all(1, b"csc::from_triplets"),
-        4 => io::write_all(1, b"general::from_triplets"),
-        5 => io::write_all(1, b"sqrt"),
-        6 => io::write_all(1, b"hungarian_match"),
-        7 => io::write_all(1, b"build_cost_graph"),
-        8 => io::write_all(1, b"build_general_graph"),
-        9 => io::write_all(1, b"log_factors"),
-        10 => io::write_all(1, b"unsymmetric_factors"),
-        11 => io::write_all(1, b"compute_infnorm"),
-        12 => io::write_all(1, b"compute_onepass"),
-        13 => io::write_all(1, b"compute_scaling"),
-        _ => io::write_all(1, b"in all"),
-    };
+        1 => b"csc::validate",
+        2 => b"general::validate",
+        3 => b"csc::from_triplets",
+        4 => b"general::from_triplets",
+        5 => b"sqrt",
+        6 => b"hungarian_match",
+        7 => b"build_cost_graph",
+        8 => b"build_general_graph",
+        9 => b"log_factors",
+        10 => b"unsymmetric_factors",
+        11 => b"compute_infnorm",
+        12 => b"compute_onepass",
+        13 => b"compute_scaling",
+        _ => b"in all",
+    }
 }
 
 // A line of the report: a call, its cases and how many of them differ.
 fn line(call: usize, cases: u64, differences: u64) {
-    name(call);
+    io::write_all(1, name(call));
     io::write_all(1, b" ");
     io::print_decimal(1, cases);
     io::write_all(1, b" cases, ");
@@ -63,8 +63,8 @@ fn line(call: usize, cases: u64, differences: u64) {
 // One more case of the call, and of all calls at place 0.
 fn count(counts: &mut [u64; CALLS], call: usize) {
     if call < CALLS {
-        counts[call] = std::num::wrapping_add_u64(counts[call], 1);
-        counts[0] = std::num::wrapping_add_u64(counts[0], 1);
+        counts[call] = counts[call].wrapping_add(1);
+        counts[0] = counts[0].wrapping_add(1);
     }
 }
 
@@ -79,16 +79,16 @@ fn step(
 ) -> Place {
     let first = list::next_u32(input, from.alike());
     let call = list::word(first);
-    if first.state == list::BAD {
+    if first.state == State::Bad {
         return first;
     }
     if call == 0 {
         return first.ended();
     }
     let place = case(input, first, call, rows, values);
-    count(cases, list::index(call));
-    if place.state != list::ALIKE {
-        count(differences, list::index(call));
+    count(cases, call as usize);
+    if place.state != State::Alike {
+        count(differences, call as usize);
     }
     place
 }
@@ -101,10 +101,10 @@ fn replay(
     cases: &mut [u64; CALLS],
     differences: &mut [u64; CALLS],
 ) -> Place {
-    let mut place = Place::new();
+    let mut place = Place::default();
     for _ in 0..input.len() {
         place = step(input, place, rows, values, cases, differences);
-        if place.state >= list::BAD {
+        if place.is_last() {
             return place;
         }
     }
@@ -132,7 +132,7 @@ fn main() {
         &mut cases,
         &mut differences,
     );
-    if place.state == list::BAD {
+    if place.state == State::Bad {
         io::write_all(1, b"bad list at byte ");
         io::print_decimal(1, place.at as u64);
         io::write_all(1, b"\n");

@@ -8,7 +8,9 @@ use native.Mathlib.Omega.{arith}
 use lib.Dec.{eqb}
 use lib.Ieee.{binary64, of_bits, eq, lt, le}
 use lib.ListN.{replicate, get_or, get_or-replicate}
+use Rattle.std.specs.Prelude.{Err}
 use Rattle.refusal.specs.Refusal.{accepted, cost_range}
+use Rattle.refusal.specs.Number.{fault_of}
 use Rattle.slices.specs.Outcome.{refusing}
 use Rattle.float64.specs.Number.{magnitude, units_per_one}
 use Rattle.cost_limit.specs.Range.{in_range}
@@ -18,7 +20,6 @@ use Rattle.sparse.proofs.Accepted.{sizes_accepted, pointers_accepted, general_co
 use Rattle.hungarian.specs.Graph.{CostGraph}
 use Rattle.hungarian.specs.Test.{cost_fault, graph_fault}
 use Rattle.hungarian_match.specs.Call as Match
-use Rattle.hungarian_match.specs.declared.Answer.TheVariants.{Refused}
 use Rattle.evidence_samples.specs.Table.{single, pairs_lent, match_number, most_columns}
 
 -- the pointers of such a graph of n columns
@@ -26,7 +27,7 @@ abbrev starts : ℕ → List ℕ
 starts n = 0 ∷ replicate n 1
 
 -- the number of the match is that of its fault
-number : (g : CostGraph) (s : Match.Slices) (fault : ℕ) → Match.number_of (refusing Refused fault (Match.finished g s) s).answer ≡ fault
+number : (g : CostGraph) (s : Match.Slices) (fault : ℕ) → fault_of (refusing Err fault (Match.finished g s) s).answer ≡ fault
 unfolding Match.finished
 number g s zero = refl
 number g s (suc fault) = refl

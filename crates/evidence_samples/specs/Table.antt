@@ -1,20 +1,19 @@
 -- Samples 1 to 11 and 13 to 15 of SPECIFICATION 13, as one table: a row is the sample's number and a test to compute.
 -- The tests are about what the calls' contracts name: what each call answers and leaves in slices that held other
 -- values. Indices from 0, doubles by their bits.
-use Rattle.std.specs.Prelude.{Bool, true, false, ◌&&◌, List, [], ◌∷◌, ◌++◌, map, ℕ, zero, suc, ◌+◌, ◌-◌, ◌*◌, eqb, Float, ℤ, pos, negsuc, get_or, replicate}
+use Rattle.std.specs.Prelude.{Bool, true, false, ◌&&◌, List, [], ◌∷◌, ◌++◌, map, ℕ, zero, suc, ◌+◌, ◌-◌, ◌*◌, eqb, Float, ℤ, pos, negsuc, Result, Ok, Err, get_or, replicate}
 use Prim.Native.String.{String}
 use Rattle.std.specs.Float.{nan, binary64}
 use Rattle.std.specs.Float.Ieee.{of_bits, to_bits}
 use Rattle.limits.specs.Limits.{none}
 use Rattle.refusal.specs.Refusal.{accepted, cost_range}
+use Rattle.refusal.specs.Number.{fault_of}
 use Rattle.slices.specs.Outcome.{Outcome}
 use Rattle.matching.specs.Match.{match_of as handed}
-use Rattle.hungarian_match.specs.declared.Answer.{Answer}
+use Rattle.hungarian.specs.declared.Counts.{Counts}
 use Rattle.byte_numbers.specs.Bytes as Bytes
 use Rattle.byte_numbers.specs.Root.{root_bytes, root_number}
 use Rattle.whole_log.specs.Log.{whole_log}
-use Rattle.whole_log.specs.declared.Log.{Log}
-use Rattle.whole_log.specs.declared.Log.TheVariants as log
 use Rattle.hungarian.specs.Graph.{CostGraph, graph_of}
 use Rattle.hungarian_match.specs.Call as Match
 use Rattle.hungarian_match.specs.Call.{match_outcome, counts_left}
@@ -51,14 +50,14 @@ pairs_lent n =
     Match.slices (replicate n 1) (replicate n nan) (replicate n nan) (replicate (12 * n + 1) 1) (replicate (2 * n) nan)
 
 -- what the match does with a graph
-abbrev pub match_of : CostGraph → Outcome Answer Match.Slices
+abbrev pub match_of : CostGraph → Outcome (Result Counts ℕ) Match.Slices
 match_of g = match_outcome g (pairs_lent g.pattern.n)
 
 -- the number answered, and the count of pairs
 abbrev pub match_number : CostGraph → ℕ
-match_number g = Match.number_of (match_of g).answer
+match_number g = fault_of (match_of g).answer
 
-abbrev pub pair_count : Outcome Answer Match.Slices → ℕ
+abbrev pub pair_count : Outcome (Result Counts ℕ) Match.Slices → ℕ
 pair_count found = get_or (counts_left found.answer []) 0 0
 
 -- an accepted graph whose match has these rows, duals, count of pairs and counts, with zero work
@@ -85,27 +84,27 @@ root_is x root =
 unfoldable pub log_is : ℕ → ℤ → Bool
 log_is x p = answer (whole_log (of_bits binary64 x)) p
   where
-    answer : Log → ℤ → Bool
-    answer (log.Is (pos a)) (pos b) = eqb a b
-    answer (log.Is (pos a)) (negsuc b) = false
-    answer (log.Is (negsuc a)) (pos b) = false
-    answer (log.Is (negsuc a)) (negsuc b) = eqb a b
-    answer (log.Refused number) p = false
+    answer : Result ℤ ℕ → ℤ → Bool
+    answer (Ok (pos a)) (pos b) = eqb a b
+    answer (Ok (pos a)) (negsuc b) = false
+    answer (Ok (negsuc a)) (pos b) = false
+    answer (Ok (negsuc a)) (negsuc b) = eqb a b
+    answer (Err fault) p = false
 
 -- ---- factors
 -- what `log_factors` does with the match of n columns and their largest logs
-abbrev pub factors_of : ℕ → Outcome Answer Match.Slices → List Float → Outcome Scaled Slices
+abbrev pub factors_of : ℕ → Outcome (Result Counts ℕ) Match.Slices → List Float → Outcome (Result Scaled ℕ) Slices
 factors_of n found cmax =
     symmetric_outcome n (pair_count found) (handed found.after.perm found.after.u found.after.v cmax)
     (slices (replicate n nan) (replicate n 1))
 
 -- the answer if that many columns are unmatched
-abbrev pub scaled_is : ℕ → Scaled → Bool
-scaled_is unmatched (scaled.Refused number) = false
-scaled_is zero scaled.Applied = true
-scaled_is zero (scaled.PartialSingular count) = false
-scaled_is (suc k) scaled.Applied = false
-scaled_is (suc k) (scaled.PartialSingular count) = eqb count (suc k)
+abbrev pub scaled_is : ℕ → Result Scaled ℕ → Bool
+scaled_is unmatched (Err fault) = false
+scaled_is zero (Ok scaled.Applied) = true
+scaled_is zero (Ok (scaled.PartialSingular count)) = false
+scaled_is (suc k) (Ok scaled.Applied) = false
+scaled_is (suc k) (Ok (scaled.PartialSingular count)) = eqb count (suc k)
 
 -- what is lent for a graph of n columns: room for its entries, and the number of stored entries of the matrix
 abbrev pub graph_lent : (n room stored : ℕ) → Graphs.Slices
@@ -128,7 +127,7 @@ symmetric_is value log cmax unheld factor unmatched =
     let found = match_of g in
     let largest = built.after.cmax in
     let call = factors_of 1 found largest in
-    eqb (Graphs.number_of built.answer) accepted
+    eqb (fault_of built.answer) accepted
     && eqb (match_number g) accepted
     && same (bits largest) (cmax ∷ [])
     && same (bits (argument (get_or found.after.u 0 nan) (get_or found.after.v 0 nan) (get_or largest 0 nan) ∷ []))
@@ -143,7 +142,7 @@ unfolding same
 general_is value log cmax unmatched =
     let built = general_graph (one value) (of_bits binary64 log ∷ []) (graph_lent 1 1 1) in
     let g = graph_left 1 built.after in
-    eqb (Graphs.number_of built.answer) accepted
+    eqb (fault_of built.answer) accepted
     && eqb (match_number g) accepted
     && same (bits built.after.cmax) (cmax ∷ [])
     && eqb (1 - pair_count (match_of g)) unmatched

@@ -1,12 +1,11 @@
 -- SPECIFICATION 5.15: suontarvi_check_match: what a host may rely on for its own matches, by what suontarvi_match left.
 use Rattle.std.specs.Prelude.{◌≡◌, List, ℕ, get_or}
 use Rattle.refusal.specs.Refusal.{accepted}
-use Rattle.refusal.specs.Listed.{OneOf, check_numbers}
 use Rattle.hungarian.specs.Graph.{CostGraph}
 use Rattle.hungarian.specs.Optimal.{WholeCosts}
 use Rattle.hungarian_match.specs.Call.{Slices}
 use Rattle.match_check.specs.Check.{Claim}
-use Rattle.match_check.specs.Call.{number_of, checked, Exactly, Least, claim_left}
+use Rattle.match_check.specs.Call.{Promises, claim_left}
 use Rattle.suontarvi.specs.Match.{match_result}
 
 -- the claim is what a call of `suontarvi_match` left on this graph: its costs are whole, and whatever the slices held
@@ -24,13 +23,7 @@ OursAccepted g s number = Ours g s → number ≡ accepted
 
 -- ---- all that `suontarvi_check_match` promises, of the graph, the claim and its number r
 pub record CheckPromises (g : CostGraph) (s : Claim) (r : ℕ) : Type 0 where
-  -- the number is that of the definition's answer
-  pub answer : r ≡ number_of (checked g s)
-  -- it is one of the call's list
-  pub number : OneOf check_numbers r
-  -- accepted are exactly the certified claims
-  pub exactly : Exactly g s r
-  -- no complete matching costs less than an accepted one
-  pub least : Least g s r
+  -- all that `check_match` promises
+  pub checked : Promises g s r
   -- our own complete matches of whole costs are accepted
   pub ours : OursAccepted g s r

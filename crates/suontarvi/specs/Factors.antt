@@ -1,19 +1,18 @@
 -- SPECIFICATION 7: Log factors over the C interface: what mc64_factors does, with its answer as a number and the
 -- unmatched count. The unsymmetric call answers a number already (mc64_factors' unsymmetric_outcome).
-use Rattle.std.specs.Prelude.{◌≡◌, false, cond, List, [], ◌∷◌, ℕ, eqb, Float, length}
+use Rattle.std.specs.Prelude.{◌≡◌, false, cond, List, [], ◌∷◌, ℕ, eqb, Float, Result, Ok, Err, length}
 use Rattle.refusal.specs.Listed.{OneOf, log_factor_numbers}
+use Rattle.refusal.specs.Number.{fault_of}
 use Rattle.slices.specs.Outcome.{Outcome, outcome_is, refusing, as_number}
 use Rattle.matching.specs.Match.{Match}
 use Rattle.factors_mc64.specs.declared.Scaled.{Scaled}
-use Rattle.factors_mc64.specs.declared.Scaled.TheVariants.{Applied, PartialSingular, Refused}
-use Rattle.factors_mc64.specs.Calls.{number_of, unmatched_of, sizes, Slices, log_factors_fault, scaled}
+use Rattle.factors_mc64.specs.Calls.{unmatched_of, sizes, Slices, log_factors_fault, scaled}
 use Rattle.byte_forms.specs.FactorBytes.{FactorBytes}
 
 -- the count left: the number of unmatched columns, or what was there if there are no factors
-abbrev pub unmatched_left : Scaled → List ℕ → List ℕ
-unmatched_left Applied old = unmatched_of Applied ∷ []
-unmatched_left (PartialSingular unmatched) old = unmatched_of (PartialSingular unmatched) ∷ []
-unmatched_left (Refused number) old = old
+abbrev pub unmatched_left : Result Scaled ℕ → List ℕ → List ℕ
+unmatched_left (Ok done) old = unmatched_of (Ok done) ∷ []
+unmatched_left (Err fault) old = old
 
 -- what is lent: the slices of the factors, and one place for the unmatched count
 pub record Lent : Type 0 where
@@ -24,8 +23,8 @@ abbrev pub lent : Slices → List ℕ → Lent
 lent slices unmatched = record { slices = slices; unmatched = unmatched }
 
 -- an outcome of the call as a number and a count
-abbrev pub factors_result_of : Outcome Scaled Slices → List ℕ → Outcome ℕ Lent
-factors_result_of o old = outcome_is (number_of o.answer) (lent o.after (unmatched_left o.answer old))
+abbrev pub factors_result_of : Outcome (Result Scaled ℕ) Slices → List ℕ → Outcome ℕ Lent
+factors_result_of o old = outcome_is (fault_of o.answer) (lent o.after (unmatched_left o.answer old))
 
 -- the first thing wrong, or 0. A wrong length of `unmatched` is a wrong length: 1 comes before it, 10 after
 unfoldable pub factors_fault : ℕ → ℕ → Match Float → Slices → List ℕ → ℕ

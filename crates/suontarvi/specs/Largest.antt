@@ -2,12 +2,11 @@
 -- suontarvi_match left.
 use Rattle.std.specs.Prelude.{◌≡◌, List, ℕ, Float}
 use Rattle.refusal.specs.Refusal.{accepted}
-use Rattle.refusal.specs.Listed.{OneOf, largest_numbers}
 use Rattle.sparse.specs.Pattern.{Pattern}
 use Rattle.hungarian.specs.Graph.{with_costs}
 use Rattle.hungarian.specs.Accepted.{Doubles}
 use Rattle.hungarian_match.specs.Call.{Slices as MatchSlices}
-use Rattle.match_largest.specs.Call.{number_of, Slices, Room, largest_outcome, Exactly, Shows}
+use Rattle.match_largest.specs.Call.{Promises, Slices, Room}
 use Rattle.suontarvi.specs.Match.{match_result}
 
 -- perm is what a call of `suontarvi_match` left on this pattern with some costs, which are doubles: whatever the slices
@@ -26,14 +25,7 @@ OursAccepted g perm s number = Ours g perm → Room g s → number ≡ accepted
 -- ---- all that `suontarvi_check_largest` promises, of the pattern, perm, the slices lent, its answer r and the slices
 -- left
 pub record LargestPromises (g : Pattern) (perm : List ℕ) (before : Slices) (r : ℕ) (after : Slices) : Type 0 where
-  -- the number is that of the definition's answer, and the slices left are the definition's
-  pub answer : r ≡ number_of (largest_outcome g perm before).answer
-  pub left : after ≡ (largest_outcome g perm before).after
-  -- the number is one of the call's list
-  pub number : OneOf largest_numbers r
-  -- 0 exactly for the largest matchings
-  pub exactly : Exactly g perm before r
-  -- the marks show why no matching has more pairs
-  pub shows : Shows g perm r after
+  -- all that `check_largest` promises
+  pub checked : Promises g perm before r after
   -- our own matches are accepted
   pub ours : OursAccepted g perm before r

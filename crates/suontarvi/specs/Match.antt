@@ -1,19 +1,20 @@
 -- SPECIFICATION 5.1: suontarvi_match: what hungarian_match does, with the answer as a number, the matched count and the
 -- seven counts.
-use Rattle.std.specs.Prelude.{◌≡◌, false, cond, List, ℕ, eqb, length, get_or}
+use Rattle.std.specs.Prelude.{◌≡◌, false, cond, List, ℕ, eqb, Result, length, get_or}
 use Rattle.limits.specs.Limits.{max_general}
 use Rattle.refusal.specs.Refusal.{accepted}
 use Rattle.refusal.specs.Listed.{OneOf, graph_numbers}
+use Rattle.refusal.specs.Number.{fault_of}
 use Rattle.slices.specs.Outcome.{Outcome, outcome_is, refusing, as_number}
 use Rattle.sparse.specs.Validate.{size_fault}
 use Rattle.sparse.specs.Pattern.{entries}
 use Rattle.hungarian.specs.Graph.{CostGraph}
 use Rattle.hungarian.specs.Counts.{counts}
+use Rattle.hungarian.specs.declared.Counts.{Counts}
 use Rattle.hungarian.specs.Match.{Matching}
 use Rattle.hungarian.specs.Optimal.{LargestMatch, Optimal, WholeCosts}
 use Rattle.hungarian.specs.Work.{Work}
-use Rattle.hungarian_match.specs.Call.{Slices, number_of, counts_left, answer_length, match_fault, finished}
-use Rattle.hungarian_match.specs.declared.Answer.{Answer}
+use Rattle.hungarian_match.specs.Call.{Slices, counts_left, answer_length, match_fault, finished}
 use Rattle.byte_forms.specs.MatchBytes.{GraphBytes, MatchBytes, match_bytes_result}
 use Rattle.byte_forms.specs.MatchBytes.{BytesMatch, BytesPromised, BytesCounted}
 
@@ -26,8 +27,8 @@ abbrev pub lent : Slices → List ℕ → Lent
 lent slices answer = record { slices = slices; answer = answer }
 
 -- an outcome of the match as a number and counts
-abbrev pub match_result_of : Outcome Answer Slices → List ℕ → Outcome ℕ Lent
-match_result_of o old = outcome_is (number_of o.answer) (lent o.after (counts_left o.answer old))
+abbrev pub match_result_of : Outcome (Result Counts ℕ) Slices → List ℕ → Outcome ℕ Lent
+match_result_of o old = outcome_is (fault_of o.answer) (lent o.after (counts_left o.answer old))
 
 -- the first thing wrong, or 0. A wrong length of the answer is a wrong length: 1 and 2 come before it
 unfoldable pub result_fault : CostGraph → Slices → List ℕ → ℕ

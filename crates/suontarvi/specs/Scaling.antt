@@ -1,14 +1,15 @@
 -- SPECIFICATION 10.2: The chooser over the C interface: the choice as a number, and what was done as two numbers in
 -- `info`.
-use Rattle.std.specs.Prelude.{◌≡◌, false, cond, ◌||◌, List, ℕ, eqb, leb, Float, length, get_or}
+use Rattle.std.specs.Prelude.{◌≡◌, false, cond, ◌||◌, List, ℕ, eqb, leb, Float, Result, length, get_or}
 use Rattle.limits.specs.Limits.{max_symmetric}
 use Rattle.refusal.specs.Refusal.{accepted}
 use Rattle.refusal.specs.Listed.{OneOf, chooser_numbers}
+use Rattle.refusal.specs.Number.{fault_of}
 use Rattle.slices.specs.Outcome.{Outcome, outcome_is, refusing, as_number}
 use Rattle.sparse.specs.Validate.{size_fault}
 use Rattle.sparse.specs.Matrix.{Matrix}
 use Rattle.factors_balance.specs.Balance.{WholeLogs, NoneHeld, Balanced}
-use Rattle.scaling.specs.Choice.{Slices, cache_of, last_choice, strategy_for, no_choice, number_of, choice_fault, chosen}
+use Rattle.scaling.specs.Choice.{Slices, cache_of, last_choice, strategy_for, no_choice, choice_fault, chosen}
 use Rattle.scaling.specs.Choice.{info_of}
 use Rattle.scaling.specs.declared.Scaling.{Scaling}
 
@@ -21,8 +22,8 @@ abbrev pub lent : Slices → List ℕ → Lent
 lent slices info = record { slices = slices; info = info }
 
 -- an outcome of the chooser as a number and what was done
-abbrev pub scaling_result_of : Outcome Scaling Slices → List ℕ → Outcome ℕ Lent
-scaling_result_of o old = outcome_is (number_of o.answer) (lent o.after (info_of o.answer old))
+abbrev pub scaling_result_of : Outcome (Result Scaling ℕ) Slices → List ℕ → Outcome ℕ Lent
+scaling_result_of o old = outcome_is (fault_of o.answer) (lent o.after (info_of o.answer old))
 
 -- the first thing wrong, or 0. A wrong length of `info` is a wrong length: 1 and 2 come before it. The external choice,
 -- the last one, tests no length

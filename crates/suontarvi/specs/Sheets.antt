@@ -1,14 +1,11 @@
 -- SPECIFICATION 5.16: Sheet files over the C interface: what sheet_writer and sheet_reader do, with the answer as a
 -- number and its values in a slice.
-use Rattle.std.specs.Prelude.{◌≡◌, true, false, cond, List, [], ◌∷◌, ℕ, eqb, length, get_or}
+use Rattle.std.specs.Prelude.{◌≡◌, true, false, cond, List, [], ◌∷◌, ℕ, eqb, Result, Ok, Err, length, get_or}
 use Rattle.refusal.specs.Listed.{OneOf, write_sheet_numbers, read_sheet_numbers, canonical_sheet_numbers}
+use Rattle.refusal.specs.Number.{fault_of}
 use Rattle.slices.specs.Outcome.{Outcome, outcome_is, refusing, as_number}
 use Rattle.matching.specs.Match.{Match}
-use Rattle.sheet_writer.specs.declared.Written.{Written}
-use Rattle.sheet_writer.specs.declared.Written.TheVariants as written
 use Rattle.sheet_writer.specs.Call as writing
-use Rattle.sheet_reader.specs.declared.Reading.{Reading}
-use Rattle.sheet_reader.specs.declared.Reading.TheVariants as read
 use Rattle.sheet_reader.specs.Call as reading
 
 -- ---- writing
@@ -21,13 +18,13 @@ abbrev pub write_lent : List ℕ → List ℕ → WriteLent
 write_lent sheet used = record { sheet = sheet; used = used }
 
 -- the length used, or what was there if nothing is written
-abbrev pub used_left : Written → List ℕ → List ℕ
-used_left (written.Used count) old = count ∷ []
-used_left (written.Refused number) old = old
+abbrev pub used_left : Result ℕ ℕ → List ℕ → List ℕ
+used_left (Ok count) old = count ∷ []
+used_left (Err fault) old = old
 
 -- an outcome of the writer as a number and a length
-abbrev pub write_result_of : Outcome Written (List ℕ) → List ℕ → Outcome ℕ WriteLent
-write_result_of o old = outcome_is (writing.number_of o.answer) (write_lent o.after (used_left o.answer old))
+abbrev pub write_result_of : Outcome (Result ℕ ℕ) (List ℕ) → List ℕ → Outcome ℕ WriteLent
+write_result_of o old = outcome_is (fault_of o.answer) (write_lent o.after (used_left o.answer old))
 
 -- the first thing wrong, or 0. A wrong length of `used` is a wrong length: 1 comes before it, 10 after
 unfoldable pub writing_fault : ℕ → ℕ → Match ℕ → List ℕ → List ℕ → ℕ
@@ -51,13 +48,13 @@ abbrev pub read_lent : Match ℕ → List ℕ → ReadLent
 read_lent found answer = record { found = found; answer = answer }
 
 -- n and the matched count, or what was there if nothing is read
-abbrev pub values_left : Reading → List ℕ → List ℕ
-values_left (read.Read n matched) old = n ∷ matched ∷ []
-values_left (read.Refused number) old = old
+abbrev pub values_left : Result (ℕ × ℕ) ℕ → List ℕ → List ℕ
+values_left (Ok found) old = found.0 ∷ found.1 ∷ []
+values_left (Err fault) old = old
 
 -- an outcome of a reader as a number and values
-abbrev pub read_result_of : Outcome Reading (Match ℕ) → List ℕ → Outcome ℕ ReadLent
-read_result_of o old = outcome_is (reading.number_of o.answer) (read_lent o.after (values_left o.answer old))
+abbrev pub read_result_of : Outcome (Result (ℕ × ℕ) ℕ) (Match ℕ) → List ℕ → Outcome ℕ ReadLent
+read_result_of o old = outcome_is (fault_of o.answer) (read_lent o.after (values_left o.answer old))
 
 -- the first thing wrong, or 0, by the fault of the records. A wrong length of `answer` is a wrong length: the 40 of n
 -- comes before it, the records after

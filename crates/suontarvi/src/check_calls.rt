@@ -3,8 +3,6 @@ ghost use Rattle.hungarian.specs.Graph.{graph_of};
 ghost use Rattle.match_check.specs.Check.{claim};
 ghost use Rattle.suontarvi.specs.Check.{CheckPromises};
 
-use match_check::Verdict;
-
 // Checks whether a pairing with duals is a complete matching of least total and the duals show it. Answers 0 or the
 // refusal; nothing is written.
 #[unsafe(no_mangle)]
@@ -21,9 +19,5 @@ pub extern "C" fn suontarvi_check_match(
         let s = claim perm.now u.now v.now in
         CheckPromises g s result }
 {
-    let verdict = match_check::check_match(n, col_ptr, row_idx, cost, perm, u, v);
-    match verdict {
-        Verdict::Accepted => refusal::ACCEPTED,
-        Verdict::Refused(number) => number,
-    }
+    refusal::answer(match_check::check_match(n, col_ptr, row_idx, cost, perm, u, v))
 }

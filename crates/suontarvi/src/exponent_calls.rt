@@ -19,7 +19,7 @@ pub extern "C" fn suontarvi_exponents(
         ExponentPromises n d row_exponents.old column_exponents.old result
         row_exponents.new column_exponents.new }
 {
-    exponents::exponents(n, u, v, cmax, row_exponents, column_exponents)
+    refusal::answer(exponents::exponents(n, u, v, cmax, row_exponents, column_exponents))
 }
 
 // A general matrix scaled in place by powers of two. Answers 0 or the refusal.
@@ -36,5 +36,12 @@ pub extern "C" fn suontarvi_apply_exponents(
         let e = exponents row_exponents.now column_exponents.now in
         ApplyPromises m e values.old result values.new }
 {
-    exponents_apply::apply_exponents(n, col_ptr, row_idx, row_exponents, column_exponents, values)
+    refusal::answer(exponents_apply::apply_exponents(
+        n,
+        col_ptr,
+        row_idx,
+        row_exponents,
+        column_exponents,
+        values,
+    ))
 }

@@ -32,19 +32,17 @@ pub extern "C" fn suontarvi_log_factors(
         FactorsPromises n matched c before unmatched.old left }
 {
     if unmatched.len() != 1 {
-        return sparse::layout::size_fault(n, 0, 0, false);
+        return u32::from(sparse::layout::length_fault(n, 0, 0));
     }
-    let answer = factors_mc64::log_factors(n, matched, perm, u, v, cmax, factors, work);
-    match answer {
-        Scaled::Applied => {
-            unmatched[0] = 0;
+    match factors_mc64::log_factors(n, matched, perm, u, v, cmax, factors, work) {
+        Ok(done) => {
+            unmatched[0] = match done {
+                Scaled::Applied => 0,
+                Scaled::PartialSingular(count) => count,
+            };
             refusal::ACCEPTED
         }
-        Scaled::PartialSingular(count) => {
-            unmatched[0] = count;
-            refusal::ACCEPTED
-        }
-        Scaled::Refused(number) => number,
+        Err(refusal) => u32::from(refusal),
     }
 }
 
@@ -62,7 +60,7 @@ pub extern "C" fn suontarvi_unsymmetric_factors(
         row_factors.old column_factors.old result
         row_factors.new column_factors.new }
 {
-    factors_mc64::unsymmetric_factors(n, u, v, cmax, row_factors, column_factors)
+    refusal::answer(factors_mc64::unsymmetric_factors(n, u, v, cmax, row_factors, column_factors))
 }
 
 // The symmetric factors of a small match for comparison: wide slices as bytes, low byte first. Answers 0,
@@ -85,10 +83,10 @@ pub extern "C" fn suontarvi_log_factors_bytes(
 {
     let others = (perm.len() == 4 * n as usize) & (unmatched.len() == 4);
     let sizes = factor_bytes::size_fault(n, u.len(), v.len(), cmax.len(), factors.len(), others);
-    if sizes != refusal::ACCEPTED {
-        return sizes;
+    if let Err(refusal) = sizes {
+        return u32::from(refusal);
     }
-    factor_bytes::read_factors(n, matched, perm, u, v, cmax, factors, unmatched)
+    refusal::answer(factor_bytes::read_factors(n, matched, perm, u, v, cmax, factors, unmatched))
 }
 
 // The same for the unsymmetric factors of a small match.
@@ -115,8 +113,9 @@ pub extern "C" fn suontarvi_unsymmetric_factors_bytes(
         row_factors.len(),
         others,
     );
-    if sizes != refusal::ACCEPTED {
-        return sizes;
+    if let Err(refusal) = sizes {
+        return u32::from(refusal);
     }
-    factor_bytes::read_sides(n, u, v, cmax, row_factors, column_factors)
+    factor_bytes::read_sides(n, u, v, cmax, row_factors, column_factors);
+    refusal::ACCEPTED
 }

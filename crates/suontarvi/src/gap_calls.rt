@@ -1,9 +1,7 @@
 // How far a match, whoever made it, can be from the least total, over the C interface, with native slices.
 ghost use Rattle.hungarian.specs.Graph.{graph_of};
 ghost use Rattle.match_check.specs.Check.{claim};
-ghost use Rattle.suontarvi.specs.Gap.{GapPromises};
-
-use match_gap::Gap;
+ghost use Rattle.match_gap.specs.Call.{Promises as GapPromises};
 
 // gap[0] gets a number of steps of 2 ^ -digits: the total of the pairs is at most that of every complete matching plus
 // these, exactly. Answers 0 or the refusal; a refused call leaves the slice as it is.
@@ -23,9 +21,5 @@ pub extern "C" fn suontarvi_match_gap(
         let c = claim perm.now u.now v.now in
         GapPromises digits g c gap.old result gap.new }
 {
-    let found = match_gap::match_gap(n, digits, col_ptr, row_idx, cost, perm, u, v, gap);
-    match found {
-        Gap::Found => refusal::ACCEPTED,
-        Gap::Refused(number) => number,
-    }
+    refusal::answer(match_gap::match_gap(n, digits, col_ptr, row_idx, cost, perm, u, v, gap))
 }

@@ -5,9 +5,9 @@ ghost use Rattle.sparse.specs.Matrix.{matrix};
 ghost use Rattle.mc64_columns.specs.Graphs.{slices};
 ghost use Rattle.mc64_symmetric.specs.Call.{cost_graph};
 ghost use Rattle.mc64_general.specs.Call.{general_graph};
-ghost use Rattle.suontarvi.specs.Graphs.{GraphPromises};
+ghost use Rattle.suontarvi.specs.Numbered.{Promises as GraphPromises};
 
-use mc64_columns::Built;
+use crate::told;
 
 // The cost graph of a symmetric matrix. Answers 0, and the last pointer is then the kept count, or the number of the
 // refusal.
@@ -32,13 +32,9 @@ pub extern "C" fn suontarvi_symmetric_graph(
         work.new in
         GraphPromises symmetric_graph_numbers (cost_graph m logs.now before) result after }
 {
-    let answer = mc64_symmetric::build_cost_graph(
+    told(mc64_symmetric::build_cost_graph(
         n, col_ptr, row_idx, values, logs, graph_ptr, graph_rows, cost, cmax, work,
-    );
-    match answer {
-        Built::Kept(_) => refusal::ACCEPTED,
-        Built::Refused(number) => number,
-    }
+    ))
 }
 
 // The same for a general matrix.
@@ -63,11 +59,7 @@ pub extern "C" fn suontarvi_general_graph(
         work.new in
         GraphPromises graph_numbers (general_graph m logs.now before) result after }
 {
-    let answer = mc64_general::build_general_graph(
+    told(mc64_general::build_general_graph(
         n, col_ptr, row_idx, values, logs, graph_ptr, graph_rows, cost, cmax, work,
-    );
-    match answer {
-        Built::Kept(_) => refusal::ACCEPTED,
-        Built::Refused(number) => number,
-    }
+    ))
 }

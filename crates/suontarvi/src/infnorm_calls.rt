@@ -1,9 +1,7 @@
 // Inf-norm factors of a symmetric matrix over the C interface, with native slices. Each call answers 0 or the
 // number of the refusal.
 ghost use Rattle.sparse.specs.Matrix.{matrix};
-ghost use Rattle.suontarvi.specs.Infnorm.{InfnormPromises, OnepassPromises};
-
-use sparse::layout;
+ghost use Rattle.infnorm.specs.Call.{InfnormPromises, OnepassPromises};
 
 // Iterated.
 #[unsafe(no_mangle)]
@@ -18,8 +16,7 @@ pub extern "C" fn suontarvi_infnorm(
     ensures { let m = matrix n col_ptr.now row_idx.now values.now in
         InfnormPromises m factors.old work.old result factors.new work.new }
 {
-    let answer = infnorm::compute_infnorm(n, col_ptr, row_idx, values, factors, work);
-    layout::number_of(answer)
+    refusal::answer(infnorm::compute_infnorm(n, col_ptr, row_idx, values, factors, work))
 }
 
 // In one pass.
@@ -34,6 +31,5 @@ pub extern "C" fn suontarvi_onepass(
     ensures { let m = matrix n col_ptr.now row_idx.now values.now in
         OnepassPromises m factors.old result factors.new }
 {
-    let answer = infnorm::compute_onepass(n, col_ptr, row_idx, values, factors);
-    layout::number_of(answer)
+    refusal::answer(infnorm::compute_onepass(n, col_ptr, row_idx, values, factors))
 }

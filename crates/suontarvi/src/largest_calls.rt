@@ -3,8 +3,6 @@ ghost use Rattle.sparse.specs.Pattern.{pattern};
 ghost use Rattle.match_largest.specs.Call.{slices};
 ghost use Rattle.suontarvi.specs.Largest.{LargestPromises};
 
-use match_largest::Verdict;
-
 // columns and rows get 1 for each that an alternating path reaches from a column without a row, else 0; matched[0] gets
 // the number of pairs. Answers 0 or the refusal; a refused call leaves every slice as it is.
 #[unsafe(no_mangle)]
@@ -22,9 +20,5 @@ pub extern "C" fn suontarvi_check_largest(
         let after = slices columns.new rows.new matched.new in
         LargestPromises g perm.now before result after }
 {
-    let verdict = match_largest::check_largest(n, col_ptr, row_idx, perm, columns, rows, matched);
-    match verdict {
-        Verdict::Accepted => refusal::ACCEPTED,
-        Verdict::Refused(number) => number,
-    }
+    refusal::answer(match_largest::check_largest(n, col_ptr, row_idx, perm, columns, rows, matched))
 }

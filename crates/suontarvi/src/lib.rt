@@ -3,6 +3,7 @@
 
 ghost use Rattle.std.specs.Prelude.{◌≡◌};
 ghost use Rattle.refusal.specs.Listed.{OneOf, root_byte_numbers};
+ghost use Rattle.refusal.specs.Number.{number_of};
 ghost use Rattle.byte_numbers.specs.Root.{root_number, root_bytes, RootPromised};
 
 mod check_calls;
@@ -21,6 +22,18 @@ mod scaling_calls;
 mod sheet_calls;
 mod version;
 
+use refusal::Refusal;
+
+// What a call answers over C where what it makes has a count.
+fn told(made: Result<u32, Refusal>) -> u32
+    ensures { result ≡ number_of made }
+{
+    match made {
+        Ok(_) => refusal::ACCEPTED,
+        Err(refusal) => u32::from(refusal),
+    }
+}
+
 // The square root of x into 8 bytes, low byte first. Answers 0 or the number of the refusal; a refused call leaves the
 // bytes as they are.
 #[unsafe(no_mangle)]
@@ -30,5 +43,5 @@ pub extern "C" fn suontarvi_sqrt(x: f64, root: &mut [u8]) -> u32
     ensures ieee { RootPromised x root.old result root.new }
     ensures number { OneOf root_byte_numbers result }
 {
-    byte_numbers::sqrt(x, root)
+    refusal::answer(byte_numbers::sqrt(x, root))
 }

@@ -6,7 +6,7 @@ ghost use Rattle.whole_log.specs.Stored.{Promises};
 ghost use Rattle.whole_graphs.specs.Graphs.{whole_symmetric_graph, whole_general_graph};
 ghost use Rattle.suontarvi.specs.Graphs.{WholeGraphPromises};
 
-use mc64_columns::Built;
+use crate::told;
 
 // The base-two logarithm of the magnitude of x, in units of 1/65,536, into one number. Answers 0 or the number of the
 // refusal; a refused call leaves the number as it is.
@@ -14,7 +14,7 @@ use mc64_columns::Built;
 pub extern "C" fn suontarvi_whole_log(x: f64, p: &mut [i32]) -> u32
     ensures { Promises x p.old result p.new }
 {
-    whole_log::store_log(x, p)
+    refusal::answer(whole_log::store_log(x, p))
 }
 
 // The cost graph of a symmetric matrix from logarithms of its values. Answers 0, and the last pointer is then the kept
@@ -39,13 +39,9 @@ pub extern "C" fn suontarvi_whole_symmetric_graph(
         work.new in
         WholeGraphPromises whole_symmetric_numbers n (whole_symmetric_graph m before) result after }
 {
-    let answer = whole_graphs::whole_symmetric_graph(
+    told(whole_graphs::whole_symmetric_graph(
         n, col_ptr, row_idx, values, graph_ptr, graph_rows, cost, cmax, work,
-    );
-    match answer {
-        Built::Kept(_) => refusal::ACCEPTED,
-        Built::Refused(number) => number,
-    }
+    ))
 }
 
 // The same for a general matrix.
@@ -69,11 +65,7 @@ pub extern "C" fn suontarvi_whole_general_graph(
         work.new in
         WholeGraphPromises whole_general_numbers n (whole_general_graph m before) result after }
 {
-    let answer = whole_graphs::whole_general_graph(
+    told(whole_graphs::whole_general_graph(
         n, col_ptr, row_idx, values, graph_ptr, graph_rows, cost, cmax, work,
-    );
-    match answer {
-        Built::Kept(_) => refusal::ACCEPTED,
-        Built::Refused(number) => number,
-    }
+    ))
 }

@@ -6,7 +6,6 @@ ghost use Rattle.suontarvi.specs.Match.{lent, MatchPromises, MatchBytesPromises}
 ghost use Rattle.byte_forms.specs.MatchBytes.{graph_bytes, match_bytes};
 
 use byte_forms::match_bytes;
-use hungarian_match::Answer;
 
 // The match of a cost graph. Answers 0, and `answer` has the matched count and the seven counts, or the number of
 // the refusal.
@@ -30,17 +29,14 @@ pub extern "C" fn suontarvi_match(
         MatchPromises g before answer.old (outcome_is result (lent after answer.new)) }
 {
     if answer.len() != hungarian_match::ANSWER_LENGTH {
-        return sparse::layout::size_fault(n, limits::MAX_GENERAL, row_idx.len(), false);
+        return u32::from(sparse::layout::length_fault(n, limits::MAX_GENERAL, row_idx.len()));
     }
-    let outcome = hungarian_match::hungarian_match(
-        n, col_ptr, row_idx, cost, perm, u, v, work, fwork,
-    );
-    match outcome {
-        Answer::Matched(found) => {
+    match hungarian_match::hungarian_match(n, col_ptr, row_idx, cost, perm, u, v, work, fwork) {
+        Ok(found) => {
             hungarian_match::put_counts(answer, found);
             refusal::ACCEPTED
         }
-        Answer::Refused(number) => number,
+        Err(refusal) => u32::from(refusal),
     }
 }
 
@@ -72,8 +68,8 @@ pub extern "C" fn suontarvi_match_bytes(
         v.len(),
         answer.len(),
     );
-    if sizes != refusal::ACCEPTED {
-        return sizes;
+    if let Err(refusal) = sizes {
+        return u32::from(refusal);
     }
-    match_bytes::read_and_match(n, col_ptr, row_idx, cost, perm, u, v, answer)
+    refusal::answer(match_bytes::read_and_match(n, col_ptr, row_idx, cost, perm, u, v, answer))
 }

@@ -5,10 +5,10 @@ ghost use Rattle.sparse.specs.Matrix.{matrix};
 ghost use Rattle.sparse.specs.Validate.{symmetric_fault, general_fault};
 ghost use Rattle.triplets.specs.Built.{triplets, slices};
 ghost use Rattle.sparse.specs.Assemble.{symmetric_assembly, general_assembly};
-ghost use Rattle.suontarvi.specs.Matrices.{ValidatePromises, TripletPromises};
+ghost use Rattle.suontarvi.specs.Matrices.{ValidatePromises};
+ghost use Rattle.suontarvi.specs.Numbered.{Promises as TripletPromises};
 
-use sparse::layout;
-use sparse::layout::Assembled;
+use crate::told;
 
 // Tests a symmetric matrix, stored as its lower triangle. Answers 0 or the number of the refusal.
 #[unsafe(no_mangle)]
@@ -21,7 +21,7 @@ pub extern "C" fn suontarvi_validate_symmetric(
     ensures { ValidatePromises symmetric_numbers
         (symmetric_fault (matrix n col_ptr.now row_idx.now values.now)) result }
 {
-    layout::number_of(sparse::csc::validate(n, col_ptr, row_idx, values))
+    refusal::answer(sparse::csc::validate(n, col_ptr, row_idx, values))
 }
 
 // Tests a general matrix.
@@ -35,7 +35,7 @@ pub extern "C" fn suontarvi_validate_general(
     ensures { ValidatePromises general_numbers
         (general_fault (matrix n col_ptr.now row_idx.now values.now)) result }
 {
-    layout::number_of(sparse::general::validate(n, col_ptr, row_idx, values))
+    refusal::answer(sparse::general::validate(n, col_ptr, row_idx, values))
 }
 
 // The symmetric matrix of the triplets. Answers 0, and the last pointer is then the kept count, or the number of the
@@ -57,11 +57,7 @@ pub extern "C" fn suontarvi_triplets_symmetric(
         let after = slices col_ptr.new row_idx.new values.new work.new in
         TripletPromises symmetric_triplet_numbers (symmetric_assembly n t before) result after }
 {
-    let answer = sparse::csc::from_triplets(n, rows, cols, vals, col_ptr, row_idx, values, work);
-    match answer {
-        Assembled::Kept(_) => refusal::ACCEPTED,
-        Assembled::Refused(number) => number,
-    }
+    told(sparse::csc::from_triplets(n, rows, cols, vals, col_ptr, row_idx, values, work))
 }
 
 // The same for a general matrix.
@@ -82,11 +78,5 @@ pub extern "C" fn suontarvi_triplets_general(
         let after = slices col_ptr.new row_idx.new values.new work.new in
         TripletPromises general_triplet_numbers (general_assembly n t before) result after }
 {
-    let answer = sparse::general::from_triplets(
-        n, rows, cols, vals, col_ptr, row_idx, values, work,
-    );
-    match answer {
-        Assembled::Kept(_) => refusal::ACCEPTED,
-        Assembled::Refused(number) => number,
-    }
+    told(sparse::general::from_triplets(n, rows, cols, vals, col_ptr, row_idx, values, work))
 }

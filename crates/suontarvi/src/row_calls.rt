@@ -19,5 +19,5 @@ pub extern "C" fn suontarvi_row_index(
         let after = slices row_ptr.new cols.new places.new work.new in
         Promises g before result after }
 {
-    row_index::row_index(n, col_ptr, row_idx, cost, row_ptr, cols, places, work)
+    refusal::answer(row_index::row_index(n, col_ptr, row_idx, cost, row_ptr, cols, places, work))
 }

@@ -31,8 +31,8 @@ pub extern "C" fn suontarvi_log_factors_by_rule(
         let after = slices factors.new work.new in
         NumberPromises rule matched g before unmatched.old result after unmatched.new }
 {
-    factors_flat::factors_by_number(
+    refusal::answer(factors_flat::factors_by_number(
         rule, n, matched, perm, u, v, cmax, col_ptr, row_idx, values, logs, factors, work,
         unmatched,
-    )
+    ))
 }

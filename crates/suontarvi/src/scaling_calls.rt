@@ -50,13 +50,13 @@ pub extern "C" fn suontarvi_scaling(
 {
     // refused before any length is tested
     if choice == 4 {
-        return scaling::external_fault(n, row_idx.len());
+        return u32::from(scaling::external_fault(n, row_idx.len()));
     }
     if info.len() != 2 {
-        return sparse::layout::size_fault(n, limits::MAX_SYMMETRIC, row_idx.len(), false);
+        return u32::from(sparse::layout::length_fault(n, limits::MAX_SYMMETRIC, row_idx.len()));
     }
     if choice > 4 {
-        return scaling::no_choice(n, col_ptr, row_idx, values, factors);
+        return u32::from(scaling::no_choice(n, col_ptr, row_idx, values, factors));
     }
     let strategy = scaling::strategy_for(choice);
     let done = scaling::compute_scaling(
@@ -81,5 +81,5 @@ pub extern "C" fn suontarvi_scaling(
         distances,
         factor_work,
     );
-    scaling::put_info(done, info)
+    refusal::answer(scaling::put_info(done, info))
 }

@@ -1,11 +1,12 @@
 // Sheet files over the C interface. u, v and cmax are taken by their bits, which a host passes as doubles.
+ghost use Rattle.std.specs.Prelude.{◌≡◌, length};
+ghost use Rattle.refusal.specs.Number.{number_of, numbered};
 ghost use Rattle.slices.specs.Outcome.{outcome_is};
 ghost use Rattle.matching.specs.Match.{match_of};
 ghost use Rattle.suontarvi.specs.Sheets.{write_lent, WritePromises};
-ghost use Rattle.suontarvi.specs.Sheets.{read_lent, ReadPromises, CanonicalPromises};
+ghost use Rattle.suontarvi.specs.Sheets.{read_lent, values_left, ReadPromises, CanonicalPromises};
 
-use sheet_reader::Reading;
-use sheet_writer::Written;
+use refusal::Refusal;
 
 // The match as a sheet file at the front of `sheet`. Answers 0, and `used` has the file's length, or the number of the
 // refusal.
@@ -25,15 +26,30 @@ pub extern "C" fn suontarvi_write_sheet(
         WritePromises n matched m sheet.old used.old left }
 {
     if used.len() != 1 {
-        return sparse::layout::size_fault(n, 0, 0, false);
+        return u32::from(sparse::layout::length_fault(n, 0, 0));
     }
-    let answer = sheet_writer::write_sheet(n, matched, perm, u, v, cmax, sheet);
-    match answer {
-        Written::Used(count) => {
+    match sheet_writer::write_sheet(n, matched, perm, u, v, cmax, sheet) {
+        Ok(count) => {
             used[0] = count;
             refusal::ACCEPTED
         }
-        Written::Refused(number) => number,
+        Err(refusal) => u32::from(refusal),
+    }
+}
+
+// What a reader answers over C: n and the matched count of an accepted file are left in `answer`.
+fn leave(read: Result<(u32, u32), Refusal>, answer: &mut [u32]) -> u32
+    requires { length answer.old ≡ 2 }
+    ensures number { result ≡ number_of read }
+    ensures values { answer.new ≡ values_left (numbered read) answer.old }
+{
+    match read {
+        Ok((n, matched)) => {
+            answer[0] = n;
+            answer[1] = matched;
+            refusal::ACCEPTED
+        }
+        Err(refusal) => u32::from(refusal),
     }
 }
 
@@ -54,17 +70,9 @@ pub extern "C" fn suontarvi_read_sheet(
         ReadPromises sheet.now before answer.old left }
 {
     if answer.len() != 2 {
-        return sheet_reader::length_fault(sheet);
+        return u32::from(sheet_reader::length_fault(sheet));
     }
-    let outcome = sheet_reader::read_sheet(sheet, perm, u, v, cmax);
-    match outcome {
-        Reading::Read(n, matched) => {
-            answer[0] = n;
-            answer[1] = matched;
-            refusal::ACCEPTED
-        }
-        Reading::Refused(number) => number,
-    }
+    leave(sheet_reader::read_sheet(sheet, perm, u, v, cmax), answer)
 }
 
 // The same for a canonical file.
@@ -83,15 +91,10 @@ pub extern "C" fn suontarvi_read_canonical_sheet(
         CanonicalPromises sheet.now before answer.old left }
 {
     if answer.len() != 2 {
-        return sheet_reader::length_fault(sheet);
+        return u32::from(sheet_reader::length_fault(sheet));
     }
-    let outcome = sheet_reader::read_canonical_sheet(sheet, perm, u, v, cmax);
-    match outcome {
-        Reading::Read(n, matched) => {
-            answer[0] = n;
-            answer[1] = matched;
-            refusal::ACCEPTED
-        }
-        Reading::Refused(number) => number,
-    }
+    leave(
+        sheet_reader::read_canonical_sheet(sheet, perm, u, v, cmax),
+        answer,
+    )
 }
