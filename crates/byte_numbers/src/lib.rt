@@ -1,14 +1,14 @@
 // Wide numbers as bytes, low byte first, and the square root in this form.
 #![tactic(auto)]
 
-ghost use Rattle.std.specs.Prelude.{◌≡◌, [], ◌∷◌, ◌+◌, ◌*◌, ◌≤◌, length};
+ghost use Rattle.std.specs.Prelude.{◌≡◌, ℕ, ◌+◌, ◌*◌, ◌≤◌, map, length};
 ghost use Rattle.std.proofs.lemmas.List.Edits.{sets};
 ghost use Rattle.std.specs.Float.{binary64};
 ghost use Rattle.std.specs.Float.Ieee.{of_bits, to_bits};
 ghost use Rattle.refusal.specs.Listed.{OneOf, root_byte_numbers};
 ghost use Rattle.refusal.specs.Number.{number_of};
 ghost use Rattle.byte_numbers.specs.Root.{root_number, root_bytes, RootPromised};
-ghost use Rattle.byte_numbers.specs.Bytes.{bytes_of, number_at, words, doubles, all_bytes, word_bytes, double_bytes};
+ghost use Rattle.byte_numbers.specs.Bytes.{bytes_of, number_at, list_of, all_bytes};
 
 use refusal::Refusal;
 
@@ -96,77 +96,93 @@ pub fn put_double(out: &mut [u8], at: usize, x: f64)
     put_u64(out, at, bits_of(x));
 }
 
-// Every word of the bytes.
-pub fn read_words(bytes: &[u8], out: &mut [u32])
-    requires { length bytes.now ≡ 4 * length out.old }
-    ensures { out.new ≡ words bytes.now (length out.old) }
-{
-    let mut i = 0;
-    while i < out.len() {
-        out[i] = get_u32(bytes, 4 * i);
-        i += 1;
+// A value that stands in bytes as a number, low byte first.
+pub trait Wide: Copy {
+    // How many bytes it takes.
+    const WIDTH: usize;
+    ghost WIDTH: { ℕ };
+
+    // The value that a number stands for, and the number of a value.
+    ghost of_number: { ℕ → Self };
+    ghost number: { Self → ℕ };
+
+    // The value whose bytes stand from `at` on.
+    fn get(bytes: &[u8], at: usize) -> Self
+        requires { at + WIDTH ≤ length bytes.now }
+        ensures { result ≡ of_number (number_at WIDTH bytes.now at) };
+
+    // The bytes of the value, from `at` on.
+    fn put(self, out: &mut [u8], at: usize)
+        requires { at + WIDTH ≤ length out.old }
+        ensures { out.new ≡ sets out.old at (bytes_of WIDTH (number self)) };
+}
+
+impl Wide for u32 {
+    const WIDTH: usize = 4;
+    ghost WIDTH = { 4 };
+
+    ghost of_number = { λ word. word };
+    ghost number = { λ word. word };
+
+    fn get(bytes: &[u8], at: usize) -> u32 {
+        get_u32(bytes, at)
+    }
+
+    fn put(self, out: &mut [u8], at: usize) {
+        put_u32(out, at, self);
     }
 }
 
-// Every double of the bytes.
-pub fn read_doubles(bytes: &[u8], out: &mut [f64])
-    requires { length bytes.now ≡ 8 * length out.old }
-    ensures { out.new ≡ doubles bytes.now (length out.old) }
-{
-    let mut i = 0;
-    while i < out.len() {
-        out[i] = get_double(bytes, 8 * i);
-        i += 1;
+impl Wide for u64 {
+    const WIDTH: usize = 8;
+    ghost WIDTH = { 8 };
+
+    ghost of_number = { λ value. value };
+    ghost number = { λ value. value };
+
+    fn get(bytes: &[u8], at: usize) -> u64 {
+        get_u64(bytes, at)
+    }
+
+    fn put(self, out: &mut [u8], at: usize) {
+        put_u64(out, at, self);
     }
 }
 
-// The bytes of a list of words, four each.
-pub fn put_words(values: &[u32], out: &mut [u8])
-    requires { length out.old ≡ 4 * length values.now }
-    ensures { out.new ≡ word_bytes values.now }
-{
-    let mut i = 0;
-    while i < values.len() {
-        put_u32(out, 4 * i, values[i]);
-        i += 1;
+impl Wide for f64 {
+    const WIDTH: usize = 8;
+    ghost WIDTH = { 8 };
+
+    ghost of_number = { of_bits binary64 };
+    ghost number = { to_bits binary64 };
+
+    fn get(bytes: &[u8], at: usize) -> f64 {
+        get_double(bytes, at)
+    }
+
+    fn put(self, out: &mut [u8], at: usize) {
+        put_double(out, at, self);
     }
 }
 
-// The bytes of a list of doubles, eight each.
-pub fn put_doubles(values: &[f64], out: &mut [u8])
-    requires { length out.old ≡ 8 * length values.now }
-    ensures { out.new ≡ double_bytes values.now }
+// Every value of the bytes.
+pub fn read_all<T: Wide>(bytes: &[u8], out: &mut [T])
+    requires { length bytes.now ≡ T.WIDTH * length out.old }
+    ensures { out.new ≡ list_of (length out.old) (λ (i : ℕ). T.of_number (number_at T.WIDTH bytes.now (T.WIDTH * i))) }
 {
-    let mut i = 0;
-    while i < values.len() {
-        put_double(out, 8 * i, values[i]);
-        i += 1;
+    for i in 0..out.len() {
+        out[i] = T::get(bytes, T::WIDTH * i);
     }
 }
 
-// Eight numbers, the whole of 64 bytes.
-pub fn put_counts(
-    out: &mut [u8],
-    n0: u64,
-    n1: u64,
-    n2: u64,
-    n3: u64,
-    n4: u64,
-    n5: u64,
-    n6: u64,
-    n7: u64,
-)
-    requires { length out.old ≡ 64 }
-    ensures { out.new ≡ all_bytes 8 (n0 ∷ n1 ∷ n2 ∷ n3 ∷ n4 ∷ n5 ∷ n6 ∷ n7 ∷ []) }
+// The bytes of a list of values, one after the other.
+pub fn put_all<T: Wide>(values: &[T], out: &mut [u8])
+    requires { length out.old ≡ T.WIDTH * length values.now }
+    ensures { out.new ≡ all_bytes T.WIDTH (map T.number values.now) }
 {
-    put_u64(out, 0, n0);
-    put_u64(out, 8, n1);
-    put_u64(out, 16, n2);
-    put_u64(out, 24, n3);
-    put_u64(out, 32, n4);
-    put_u64(out, 40, n5);
-    put_u64(out, 48, n6);
-    put_u64(out, 56, n7);
+    for (i, value) in values.iter().enumerate() {
+        value.put(out, T::WIDTH * i);
+    }
 }
 
 // The square root of x into 8 bytes. A refused call leaves the bytes as they are.
