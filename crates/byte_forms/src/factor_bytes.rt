@@ -110,7 +110,7 @@ pub fn read_factors(
 {
     let size = n as usize;
     let mut rows_of = [0u32; COLUMNS];
-    byte_numbers::read_words(perm, &mut rows_of[..size]);
+    byte_numbers::read_all(perm, &mut rows_of[..size]);
     factors_mc64::matching_fault(n, matched, &rows_of[..size])?;
     let mut marks = [0u32; COLUMNS];
     factors_mc64::mark_rows(size, &rows_of[..size], &mut marks[..size]);

@@ -93,11 +93,10 @@ fn put_match(
         after ≡ match_laid (match_after found pairs) }
 {
     let stats = found.stats;
-    byte_numbers::put_words(rows_of, perm);
-    byte_numbers::put_doubles(row_duals, u);
-    byte_numbers::put_doubles(col_duals, v);
-    byte_numbers::put_counts(
-        answer,
+    byte_numbers::put_all(rows_of, perm);
+    byte_numbers::put_all(row_duals, u);
+    byte_numbers::put_all(col_duals, v);
+    let counts = [
         found.matched as u64,
         stats.heap_init_slots,
         stats.augment_searches,
@@ -106,7 +105,8 @@ fn put_match(
         stats.main_loop_edge_scans,
         stats.popped_total,
         stats.largest_heap,
-    );
+    ];
+    byte_numbers::put_all(&counts, answer);
 }
 
 // Writes the match of a graph as bytes; slices for the work and the match are lent.
@@ -204,9 +204,9 @@ pub fn read_and_match(
     let mut starts = [0u32; POINTERS];
     let mut entries = [0u32; MAX_ENTRIES];
     let mut costs = [0.0f64; MAX_ENTRIES];
-    byte_numbers::read_words(col_ptr, &mut starts[..pointers]);
-    byte_numbers::read_words(row_idx, &mut entries[..count]);
-    byte_numbers::read_doubles(cost, &mut costs[..count]);
+    byte_numbers::read_all(col_ptr, &mut starts[..pointers]);
+    byte_numbers::read_all(row_idx, &mut entries[..count]);
+    byte_numbers::read_all(cost, &mut costs[..count]);
     match_small(
         n,
         &starts[..pointers],
