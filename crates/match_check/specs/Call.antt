@@ -2,6 +2,7 @@
 -- matching of least total, and exactly the pairings with duals that show it are accepted.
 use Rattle.std.specs.Prelude.{◌≡◌, ◌↔◌, Bool, List, ℕ, zero, suc, ◌^◌, ◌≤◌, ◌<◌, T, nat_abs, ◌+ℤ◌, ◌≤ℤ◌, length, get_or, Float}
 use Rattle.refusal.specs.Refusal.{accepted}
+use Rattle.refusal.specs.Number.{fault_of}
 use Rattle.refusal.specs.Listed.{OneOf, check_numbers}
 use Rattle.float64.specs.Number.{whole_of, IsWhole}
 use Rattle.matching.specs.Matching.{Complete, LeastTotal}
@@ -10,24 +11,8 @@ use Rattle.sparse.specs.Pattern.{Pattern, bipartite, row_of, column_of, entries}
 use Rattle.hungarian.specs.Graph.{CostGraph, cost_of}
 use Rattle.hungarian.specs.Accepted.{Accepted}
 use Rattle.hungarian.specs.Optimal.{WholeCosts, amount}
-use Rattle.hungarian_match.specs.Call.{Slices, counts_left, match_outcome, number_of as match_number}
+use Rattle.hungarian_match.specs.Call.{Slices, counts_left, match_outcome}
 use Rattle.match_check.specs.Check.{Claim, claim, row_for, row_dual, column_dual, check_fault}
-use Rattle.match_check.specs.declared.Verdict.{Verdict}
-
--- ---- the number of each case of the answer: 0, or the refusal
-abbrev pub number_of : Verdict → ℕ
-number_of Verdict.Accepted = accepted
-number_of (Verdict.Refused number) = number
-
--- the answer of a number
-unfoldable pub verdict_of : ℕ → Verdict
-verdict_of zero = Verdict.Accepted
-verdict_of (suc fault) = Verdict.Refused (suc fault)
-
--- what `check_match` answers
-unfoldable pub checked : CostGraph → Claim → Verdict
-unfolding verdict_of check_fault
-checked g s = verdict_of (check_fault g s)
 
 -- ---- what an accepted claim is
 -- the pairs (perm j, j) as a set of entries
@@ -76,22 +61,22 @@ pub record Ours (g : CostGraph) (s : Claim) : Type 0 where
   pub costs : WholeCosts g
   pub before : Slices
   pub counts : List ℕ
-  pub number : match_number (match_outcome g before).answer ≡ accepted
+  pub number : fault_of (match_outcome g before).answer ≡ accepted
   pub matched : get_or (counts_left (match_outcome g before).answer counts) 0 0 ≡ g.pattern.n
   pub left : s ≡ claim_left (match_outcome g before).after
 
 abbrev pub OursAccepted : CostGraph → Claim → ℕ → Type 0
 OursAccepted g s number = Ours g s → number ≡ accepted
 
--- ---- all that `check_match` promises, of the graph, the claim and its answer r
-pub record Promises (g : CostGraph) (s : Claim) (r : Verdict) : Type 0 where
-  -- the answer is the definition's
-  pub answer : r ≡ checked g s
-  -- the number is one of the call's list
-  pub number : OneOf check_numbers (number_of r)
+-- ---- all that `check_match` promises, of the graph, the claim and the number that it answers: 0, or the refusal
+pub record Promises (g : CostGraph) (s : Claim) (r : ℕ) : Type 0 where
+  -- the number is that of the definition
+  pub answer : r ≡ check_fault g s
+  -- it is one of the call's list
+  pub number : OneOf check_numbers r
   -- accepted are exactly the certified claims
-  pub exactly : Exactly g s (number_of r)
+  pub exactly : Exactly g s r
   -- no complete matching costs less than an accepted one
-  pub least : Least g s (number_of r)
+  pub least : Least g s r
   -- our own complete matches of whole costs are accepted
-  pub ours : OursAccepted g s (number_of r)
+  pub ours : OursAccepted g s r

@@ -2,26 +2,21 @@
 // the tests have no early exit.
 #![tactic(auto)]
 
-ghost use Rattle.std.specs.Prelude.{◌≡◌, not, ◌||◌, ◌+◌, ◌-◌, ◌^◌, ◌≤◌, ◌<◌, T, eqb, length, get_or, replicate};
+ghost use Rattle.std.specs.Prelude.{◌≡◌, Bool, ◌+◌, ◌-◌, ◌^◌, ◌≤◌, ◌<◌, T, eqb, length, get_or, replicate, Float};
 ghost use Rattle.std.specs.Float.{nan, binary64};
-ghost use Rattle.std.specs.Float.Ieee.{add, le};
+ghost use Rattle.std.specs.Float.Ieee.{add};
+ghost use Rattle.refusal.specs.Number.{number_of};
 ghost use Rattle.limits.specs.Limits.{max_columns};
 ghost use Rattle.sparse.specs.Pattern.{pattern};
 ghost use Rattle.hungarian.specs.Graph.{graph_of};
 ghost use Rattle.match_check.specs.Check.{every_of, has_row, rows_below, rows_once, pairs_stand, pairing_fits};
-ghost use Rattle.match_check.specs.Check.{small_whole, small_wholes, duals_hold, sums_below, sums_reached, claim};
+ghost use Rattle.match_check.specs.Check.{small_whole, small_wholes, duals_hold, claim};
 ghost use Rattle.match_check.specs.Check.{check_lengths, claim_fault};
 ghost use Rattle.match_check.specs.Call.{Promises};
-ghost use Rattle.match_check.specs.inner.Steps.{AcceptedPattern, Stretch, Checkable};
+ghost use Rattle.match_check.specs.inner.Steps.{AcceptedPattern, Stretch, Checkable, sums_hold};
 
 use hungarian_match::graph_test;
-
-// What `check_match` answers: accepted, or the refusal.
-#[derive(Clone, Copy)]
-pub enum Verdict {
-    Accepted,
-    Refused(u32),
-}
+use refusal::Refusal;
 
 // 2^50, the largest size of a dual.
 const DUAL_LIMIT: f64 = 1125899906842624.0;
@@ -60,8 +55,8 @@ fn small_wholes(list: &[f64]) -> bool
     ensures { result ≡ small_wholes list.now }
 {
     let mut fine = true;
-    for i in 0..list.len() {
-        fine = fine & small_whole(list[i]);
+    for &x in list {
+        fine &= small_whole(x);
     }
     fine
 }
@@ -72,8 +67,8 @@ fn rows_below(n: u32, perm: &[u32]) -> bool
     ensures { result ≡ rows_below n perm.now }
 {
     let mut fine = true;
-    for j in 0..perm.len() {
-        fine = fine & (perm[j] < n);
+    for &row in perm {
+        fine &= row < n;
     }
     fine
 }
@@ -85,10 +80,9 @@ fn rows_once(perm: &[u32], seen: &mut [u8]) -> bool
     ensures { result ≡ rows_once (length perm.now) perm.now }
 {
     let mut fine = true;
-    for j in 0..perm.len() {
-        let row = perm[j] as usize;
-        fine = fine & (seen[row] == 0);
-        seen[row] = 1;
+    for &row in perm {
+        fine &= seen[row as usize] == 0;
+        seen[row as usize] = 1;
     }
     fine
 }
@@ -99,8 +93,8 @@ pub fn has_row(row: u32, row_idx: &[u32], from: usize, to: usize) -> bool
     ensures { result ≡ has_row row_idx.now row from to }
 {
     let mut found = false;
-    for k in from..to {
-        found = found | (row_idx[k] == row);
+    for &entry in &row_idx[from..to] {
+        found |= entry == row;
     }
     found
 }
@@ -114,13 +108,12 @@ fn pairs_stand(n: usize, col_ptr: &[u32], row_idx: &[u32], perm: &[u32]) -> bool
 {
     let mut fine = true;
     for j in 0..n {
-        fine = fine
-            & has_row(
-                perm[j],
-                row_idx,
-                col_ptr[j] as usize,
-                col_ptr[j + 1] as usize,
-            );
+        fine &= has_row(
+            perm[j],
+            row_idx,
+            col_ptr[j] as usize,
+            col_ptr[j + 1] as usize,
+        );
     }
     fine
 }
@@ -142,45 +135,36 @@ pub fn pairing_fits(n: u32, col_ptr: &[u32], row_idx: &[u32], perm: &[u32]) -> b
     pairs_stand(n as usize, col_ptr, row_idx, perm)
 }
 
-// The entries of one column: whether each sum with the column's dual is at most the cost.
-fn column_below(row_idx: &[u32], cost: &[f64], u: &[f64], dual: f64, from: usize, to: usize) -> bool
-    requires { Stretch from to row_idx.now cost.now u.now }
-    ensures { result ≡ every_of (to - from)
-        (λ k. le (add binary64 (get_or u.now (get_or row_idx.now k 0) nan) dual)
-        (get_or cost.now k nan)) from }
-{
-    let mut fine = true;
-    for k in from..to {
-        fine = fine & (u[row_idx[k] as usize] + dual <= cost[k]);
-    }
-    fine
-}
-
-// The entries of one column: whether the sum of its pair is at least the cost.
-fn column_reached(
-    row: u32,
+// Whether a test holds of each entry of a column: of whether it is the column's pair, the sum of its duals, and its cost.
+fn column_holds<F: Fn(bool, f64, f64) -> bool>(
+    pair: u32,
     row_idx: &[u32],
     cost: &[f64],
     u: &[f64],
     dual: f64,
     from: usize,
     to: usize,
+    test: &F,
 ) -> bool
-    requires { Stretch from to row_idx.now cost.now u.now }
+    ghost holds: { Bool → Float → Float → Bool }
+    requires stretch { Stretch from to row_idx.now cost.now u.now }
+    requires callable { F.IsAlwaysCallable test.now }
+    requires gives { (paired : Bool) (sum entry : Float) (r : Bool) → F.post test.now paired sum entry r
+        → r ≡ holds paired sum entry }
     ensures { result ≡ every_of (to - from)
-        (λ k. not (eqb (get_or row_idx.now k 0) row)
-        || le (get_or cost.now k nan)
-        (add binary64 (get_or u.now (get_or row_idx.now k 0) nan) dual)) from }
+        (λ k. holds (eqb (get_or row_idx.now k 0) pair) (add binary64 (get_or u.now (get_or row_idx.now k 0) nan) dual)
+        (get_or cost.now k nan)) from }
 {
     let mut fine = true;
     for k in from..to {
-        fine = fine & ((row_idx[k] != row) | (u[row_idx[k] as usize] + dual >= cost[k]));
+        let row = row_idx[k];
+        fine &= test(row == pair, u[row as usize] + dual, cost[k]);
     }
     fine
 }
 
-// Whether no sum is above a cost.
-fn sums_below(
+// Whether it holds of each entry of the graph.
+fn sums_hold<F: Fn(bool, f64, f64) -> bool>(
     n: usize,
     col_ptr: &[u32],
     row_idx: &[u32],
@@ -188,44 +172,29 @@ fn sums_below(
     perm: &[u32],
     u: &[f64],
     v: &[f64],
+    test: F,
 ) -> bool
-    requires { Checkable n col_ptr.now row_idx.now cost.now (claim perm.now u.now v.now) }
+    ghost holds: { Bool → Float → Float → Bool }
+    requires lists { Checkable n col_ptr.now row_idx.now cost.now (claim perm.now u.now v.now) }
+    requires callable { F.IsAlwaysCallable test }
+    requires gives { (paired : Bool) (sum entry : Float) (r : Bool) → F.post test paired sum entry r
+        → r ≡ holds paired sum entry }
     ensures { let g = graph_of n col_ptr.now row_idx.now cost.now in
-        result ≡ sums_below g (claim perm.now u.now v.now) }
-{
-    let mut fine = true;
-    for j in 0..n {
-        fine = fine
-            & column_below(
-                row_idx,
-                cost,
-                u,
-                v[j],
-                col_ptr[j] as usize,
-                col_ptr[j + 1] as usize,
-            );
-    }
-    fine
-}
-
-// Whether the sum of each pair reaches its cost.
-fn sums_reached(
-    n: usize,
-    col_ptr: &[u32],
-    row_idx: &[u32],
-    cost: &[f64],
-    perm: &[u32],
-    u: &[f64],
-    v: &[f64],
-) -> bool
-    requires { Checkable n col_ptr.now row_idx.now cost.now (claim perm.now u.now v.now) }
-    ensures { let g = graph_of n col_ptr.now row_idx.now cost.now in
-        result ≡ sums_reached g (claim perm.now u.now v.now) }
+        result ≡ sums_hold holds g (claim perm.now u.now v.now) }
 {
     let mut fine = true;
     for j in 0..n {
         let end = col_ptr[j + 1] as usize;
-        fine = fine & column_reached(perm[j], row_idx, cost, u, v[j], col_ptr[j] as usize, end);
+        fine &= column_holds(
+            perm[j],
+            row_idx,
+            cost,
+            u,
+            v[j],
+            col_ptr[j] as usize,
+            end,
+            &test,
+        );
     }
     fine
 }
@@ -246,10 +215,20 @@ fn duals_hold(
 {
     let rows = small_wholes(u);
     let columns = small_wholes(v);
-    rows & (columns & sums_below(n, col_ptr, row_idx, cost, perm, u, v))
+    let sums = sums_hold(
+        n,
+        col_ptr,
+        row_idx,
+        cost,
+        perm,
+        u,
+        v,
+        |_, sum, entry| sum <= entry,
+    );
+    rows & (columns & sums)
 }
 
-// 30, 31, 32 or 0: the first fault of a claim on an accepted graph.
+// 30, 31 or 32: the first fault of a claim on an accepted graph.
 fn claim_fault(
     n: u32,
     col_ptr: &[u32],
@@ -258,23 +237,23 @@ fn claim_fault(
     perm: &[u32],
     u: &[f64],
     v: &[f64],
-) -> u32
+) -> Result<(), Refusal>
     requires { Checkable n col_ptr.now row_idx.now cost.now (claim perm.now u.now v.now) }
     ensures { let g = graph_of n col_ptr.now row_idx.now cost.now in
-        result ≡ claim_fault g (claim perm.now u.now v.now) }
+        number_of result ≡ claim_fault g (claim perm.now u.now v.now) }
 {
     let size = n as usize;
     if !pairing_fits(n, col_ptr, row_idx, perm) {
-        return refusal::INCOMPLETE_MATCHING;
+        return Err(Refusal::IncompleteMatching);
     }
     if !duals_hold(size, col_ptr, row_idx, cost, perm, u, v) {
-        return refusal::INFEASIBLE_DUALS;
+        return Err(Refusal::InfeasibleDuals);
     }
-    if sums_reached(size, col_ptr, row_idx, cost, perm, u, v) {
-        refusal::ACCEPTED
-    } else {
-        refusal::LOOSE_PAIR
+    let reached = |paired, sum, entry| !paired | (sum >= entry);
+    if !sums_hold(size, col_ptr, row_idx, cost, perm, u, v, reached) {
+        return Err(Refusal::LoosePair);
     }
+    Ok(())
 }
 
 // Checks a pairing with duals of rows and columns, whoever made them, against a cost graph by columns: whether it is a
@@ -287,22 +266,15 @@ pub fn check_match(
     perm: &[u32],
     u: &[f64],
     v: &[f64],
-) -> Verdict
+) -> Result<(), Refusal>
     ensures { let g = graph_of n col_ptr.now row_idx.now cost.now in
         let s = claim perm.now u.now v.now in
-        Promises g s result }
+        Promises g s (number_of result) }
 {
     let lengths = lengths_fit(n as usize, col_ptr, row_idx, cost, perm, u, v);
-    let graph = graph_test::graph_fault(n, col_ptr, row_idx, cost, lengths);
-    if graph != refusal::ACCEPTED {
-        return Verdict::Refused(graph);
-    }
+    graph_test::graph_fault(n, col_ptr, row_idx, cost, lengths)?;
     if !small_wholes(cost) {
-        return Verdict::Refused(refusal::COST_RANGE);
+        return Err(Refusal::CostRange);
     }
-    let fault = claim_fault(n, col_ptr, row_idx, cost, perm, u, v);
-    if fault != refusal::ACCEPTED {
-        return Verdict::Refused(fault);
-    }
-    Verdict::Accepted
+    claim_fault(n, col_ptr, row_idx, cost, perm, u, v)
 }

@@ -3,7 +3,7 @@
 use Rattle.std.specs.Prelude.{◌≡◌, Bool, List, [], ◌∷◌, ℕ, ◌+◌, ◌*◌, ◌≤◌, get_or}
 use Rattle.refusal.specs.Refusal.{accepted}
 use Rattle.refusal.specs.Listed.{OneOf, gap_numbers}
-use Rattle.slices.specs.Outcome.{Outcome, outcome_is, refusing}
+use Rattle.slices.specs.Outcome.{Outcome, outcome_is, refusing, as_number}
 use Rattle.float64.specs.Number.{magnitude}
 use Rattle.matching.specs.Matching.{Complete, total}
 use Rattle.sparse.specs.Pattern.{bipartite}
@@ -12,19 +12,12 @@ use Rattle.match_check.specs.Check.{Claim, check_fault}
 use Rattle.match_check.specs.Call.{pairs}
 use Rattle.match_gap.specs.Rounding.{step}
 use Rattle.match_gap.specs.Gap.{gap_of, gap_fault}
-use Rattle.match_gap.specs.declared.Gap.{Gap}
-use Rattle.match_gap.specs.declared.Gap.TheVariants.{Found, Refused}
 
--- ---- SPECIFICATION's number of each case of the answer: 0, or the refusal
-abbrev pub number_of : Gap → ℕ
-number_of Found = accepted
-number_of (Refused number) = number
-
--- what `match_gap` does: the answer, and what the slice then holds
-unfoldable pub gap_outcome : ℕ → CostGraph → Claim → List ℕ → Outcome Gap (List ℕ)
+-- what `match_gap` does: the number that it answers, 0 or the refusal, and what the slice then holds
+unfoldable pub gap_outcome : ℕ → CostGraph → Claim → List ℕ → Outcome ℕ (List ℕ)
 unfolding gap_of gap_fault
 gap_outcome digits g c gap =
-    refusing Refused (gap_fault digits g c gap) (outcome_is Found (gap_of (step digits) g c ∷ [])) gap
+    refusing as_number (gap_fault digits g c gap) (outcome_is accepted (gap_of (step digits) g c ∷ [])) gap
 
 -- ---- what an accepted call says
 -- the exact sum of the costs of a set of entries, in units of 2 ^ -1074
@@ -46,13 +39,13 @@ Near digits g c number gap = number ≡ accepted → NearLeast digits (get_or ga
 abbrev pub NoGap : CostGraph → Claim → ℕ → List ℕ → Type 0
 NoGap g c number gap = number ≡ accepted → check_fault g c ≡ accepted → get_or gap 0 0 ≡ 0
 
--- ---- all that `match_gap` promises, of the graph, the claim, the slice lent, its answer r and the slice left
-pub record Promises (digits : ℕ) (g : CostGraph) (c : Claim) (before : List ℕ) (r : Gap) (after : List ℕ) : Type 0 where
-  -- the answer and the slice left are the definition's
+-- ---- all that `match_gap` promises, of the graph, the claim, the slice lent, its number and the slice left
+pub record Promises (digits : ℕ) (g : CostGraph) (c : Claim) (before : List ℕ) (r : ℕ) (after : List ℕ) : Type 0 where
+  -- the number and the slice left are the definition's
   pub outcome : outcome_is r after ≡ gap_outcome digits g c before
   -- the number is one of the call's list
-  pub number : OneOf gap_numbers (number_of r)
+  pub number : OneOf gap_numbers r
   -- the total of the pairs is at most that of every complete matching plus the gap
-  pub near : Near digits g c (number_of r) after
+  pub near : Near digits g c r after
   -- what `check_match` accepts has no gap
-  pub none : NoGap g c (number_of r) after
+  pub none : NoGap g c r after

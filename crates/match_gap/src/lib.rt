@@ -5,6 +5,7 @@
 ghost use Rattle.std.specs.Prelude.{◌≡◌, cond, ◌+◌, ◌-◌, ◌*◌, ◌^◌, ◌≤◌, ◌<◌, eqb, length, get_or};
 ghost use Rattle.std.specs.Float.{nan, binary64};
 ghost use Rattle.std.specs.Float.Ieee.{of_bits};
+ghost use Rattle.refusal.specs.Number.{number_of};
 ghost use Rattle.float64.specs.Number.{magnitude};
 ghost use Rattle.sparse.specs.Pattern.{pattern};
 ghost use Rattle.hungarian.specs.Graph.{graph_of};
@@ -18,13 +19,7 @@ ghost use Rattle.match_gap.specs.inner.Scans.{Scannable, Scanned, Measurable};
 
 use hungarian_match::graph_test;
 use match_check::{lengths_fit, pairing_fits};
-
-// What `match_gap` answers: the slice has the gap, or the refusal.
-#[derive(Clone, Copy)]
-pub enum Gap {
-    Found,
-    Refused(u32),
-}
+use refusal::Refusal;
 
 // The excess and the lack of a column, each 0 or above.
 #[derive(Clone, Copy)]
@@ -66,8 +61,7 @@ fn shift_of(bits: u64, unit: u64) -> u64
     requires { Measured bits unit }
     ensures { Shifted bits unit result }
 {
-    let shift = unit - scale_of(bits);
-    if shift < 60 { shift } else { 60 }
+    (unit - scale_of(bits)).min(60)
 }
 
 // A size in whole steps, rounded down.
@@ -108,46 +102,20 @@ fn upper_place(x: f64, unit: u64) -> u64
     requires fact_2 { unit ≤ 1074 }
     ensures { (result ≡ upper (2 ^ unit) x) × (result ≤ 2 ^ 50) }
 {
-    let bits = f64::to_bits(x);
-    if bits < SIGN {
-        ORIGIN + ceiling_steps(bits, unit)
-    } else {
-        ORIGIN - floor_steps(bits - SIGN, unit)
-    }
+    2 * ORIGIN - lower_place(-x, unit)
 }
 
-// How far a is above b; 0 if it is not.
-fn above(a: u64, b: u64) -> u64
-    ensures { result ≡ a - b }
+// How far the sum of a, rounded up, and what has the place p is above that of b, rounded down, and what has the place q.
+fn above(a: f64, p: u64, b: f64, q: u64, unit: u64) -> u64
+    requires in_steps { (InSteps unit a) × (InSteps unit b) }
+    requires unit_bound { (unit ≤ 1074) × ((p ≤ 2 ^ 50) × (q ≤ 2 ^ 50)) }
+    ensures { (result ≡ upper (2 ^ unit) a + p - (lower (2 ^ unit) b + q)) × (result ≤ 2 ^ 50 + p) }
 {
-    if a > b { a - b } else { 0 }
+    (upper_place(a, unit) + p).saturating_sub(lower_place(b, unit) + q)
 }
 
-// How far the sum of the duals of an entry exceeds its cost; `high` is the place of the column's dual, rounded up.
-fn excess_of(dual: f64, cost: f64, high: u64, unit: u64) -> u64
-    requires in_steps { (InSteps unit dual) × (InSteps unit cost) }
-    requires unit_bound { (unit ≤ 1074) × (high ≤ 2 ^ 50) }
-    ensures { (result ≡ upper (2 ^ unit) dual + high - (lower (2 ^ unit) cost + zero_step)) × (result ≤ 2 ^ 51) }
-{
-    above(
-        upper_place(dual, unit) + high,
-        lower_place(cost, unit) + ORIGIN,
-    )
-}
-
-// How far it is below the cost; `low` is the place of the column's dual, rounded down.
-fn lack_of(dual: f64, cost: f64, low: u64, unit: u64) -> u64
-    requires in_steps { (InSteps unit dual) × (InSteps unit cost) }
-    requires unit_bound { (unit ≤ 1074) × (low ≤ 2 ^ 50) }
-    ensures { (result ≡ upper (2 ^ unit) cost + zero_step - (lower (2 ^ unit) dual + low)) × (result ≤ 3 * 2 ^ 49) }
-{
-    above(
-        upper_place(cost, unit) + ORIGIN,
-        lower_place(dual, unit) + low,
-    )
-}
-
-// The same for an entry that is its column's pair, 0 for any other.
+// How far the sum of the duals of an entry is below its cost, if it is its column's pair; `low` is the place of the
+// column's dual, rounded down.
 fn pair_lack(paired: bool, dual: f64, cost: f64, low: u64, unit: u64) -> u64
     requires in_steps_1 { InSteps unit dual }
     requires in_steps_2 { InSteps unit cost }
@@ -156,7 +124,7 @@ fn pair_lack(paired: bool, dual: f64, cost: f64, low: u64, unit: u64) -> u64
         (upper (2 ^ unit) cost + zero_step - (lower (2 ^ unit) dual + low)) 0) × (result ≤ 3 * 2 ^ 49) }
 {
     if paired {
-        lack_of(dual, cost, low, unit)
+        above(cost, ORIGIN, dual, low, unit)
     } else {
         0
     }
@@ -183,7 +151,7 @@ fn scan_column(
     let mut lack: u64 = 0;
     for k in from..to {
         let i = row_idx[k] as usize;
-        excess = excess.max(excess_of(u[i], cost[k], high, unit));
+        excess = excess.max(above(u[i], high, cost[k], ORIGIN, unit));
         lack = lack.max(pair_lack(row_idx[k] == row, u[i], cost[k], low, unit));
     }
     Column { excess, lack }
@@ -217,7 +185,7 @@ fn sum_columns(
             col_ptr[j] as usize,
             to,
         );
-        gap = gap + (column.excess + column.lack);
+        gap += column.excess + column.lack;
     }
     gap
 }
@@ -236,13 +204,13 @@ fn all_in_steps(list: &[f64], limit: f64, digits: u32) -> bool
     ensures { result ≡ all_in_steps (step digits) list.now }
 {
     let mut fine = true;
-    for i in 0..list.len() {
-        fine = fine & ((list[i] >= -limit) & (list[i] <= limit));
+    for &x in list {
+        fine &= (x >= -limit) & (x <= limit);
     }
     fine
 }
 
-// 30, 31 or 0: the first fault of a pairing and its duals on an accepted graph.
+// 30 or 31: the first fault of a pairing and its duals on an accepted graph.
 fn pairs_fault(
     n: u32,
     col_ptr: &[u32],
@@ -252,25 +220,25 @@ fn pairs_fault(
     v: &[f64],
     limit: f64,
     digits: u32,
-) -> u32
+) -> Result<(), Refusal>
     requires accepted_pattern_1 { AcceptedPattern n col_ptr.now row_idx.now }
     requires accepted_pattern_2 { length perm.now ≡ n }
     requires step_limit { StepLimit digits limit }
     ensures { let p = pattern n col_ptr.now row_idx.now in
-        result ≡ pairs_fault (step digits) p (claim perm.now u.now v.now) }
+        number_of result ≡ pairs_fault (step digits) p (claim perm.now u.now v.now) }
 {
     if !pairing_fits(n, col_ptr, row_idx, perm) {
-        return refusal::INCOMPLETE_MATCHING;
+        return Err(Refusal::IncompleteMatching);
     }
     let rows = all_in_steps(u, limit, digits);
-    if rows & all_in_steps(v, limit, digits) {
-        refusal::ACCEPTED
-    } else {
-        refusal::INFEASIBLE_DUALS
+    let columns = all_in_steps(v, limit, digits);
+    if !(rows & columns) {
+        return Err(Refusal::InfeasibleDuals);
     }
+    Ok(())
 }
 
-// The first fault of the call, or 0.
+// The first fault of the call.
 fn gap_fault(
     n: u32,
     digits: u32,
@@ -281,22 +249,19 @@ fn gap_fault(
     u: &[f64],
     v: &[f64],
     gap: &[u64],
-) -> u32
+) -> Result<(), Refusal>
     ensures { let g = graph_of n col_ptr.now row_idx.now cost.now in
         let c = claim perm.now u.now v.now in
-        result ≡ gap_fault digits g c gap.now }
+        number_of result ≡ gap_fault digits g c gap.now }
 {
     if digits > 50 {
-        return refusal::INDEX_RANGE;
+        return Err(Refusal::IndexRange);
     }
     let lengths = lengths_fit(n as usize, col_ptr, row_idx, cost, perm, u, v) & (gap.len() == 1);
-    let graph = graph_test::graph_fault(n, col_ptr, row_idx, cost, lengths);
-    if graph != refusal::ACCEPTED {
-        return graph;
-    }
+    graph_test::graph_fault(n, col_ptr, row_idx, cost, lengths)?;
     let limit = step_limit(digits);
     if !all_in_steps(cost, limit, digits) {
-        return refusal::COST_RANGE;
+        return Err(Refusal::CostRange);
     }
     pairs_fault(n, col_ptr, row_idx, perm, u, v, limit, digits)
 }
@@ -313,16 +278,13 @@ pub fn match_gap(
     u: &[f64],
     v: &[f64],
     gap: &mut [u64],
-) -> Gap
+) -> Result<(), Refusal>
     ensures { let g = graph_of n col_ptr.now row_idx.now cost.now in
         let c = claim perm.now u.now v.now in
-        Promises digits g c gap.old result gap.new }
+        Promises digits g c gap.old (number_of result) gap.new }
 {
-    let fault = gap_fault(n, digits, col_ptr, row_idx, cost, perm, u, v, gap);
-    if fault != refusal::ACCEPTED {
-        return Gap::Refused(fault);
-    }
+    gap_fault(n, digits, col_ptr, row_idx, cost, perm, u, v, gap)?;
     let unit = (1074 - digits) as u64;
     gap[0] = sum_columns(n as usize, col_ptr, row_idx, cost, perm, u, v, unit);
-    Gap::Found
+    Ok(())
 }

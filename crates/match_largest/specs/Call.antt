@@ -3,7 +3,7 @@
 use Rattle.std.specs.Prelude.{◌≡◌, ◌↔◌, ◌≢◌, Bool, ◌&&◌, List, [], ◌∷◌, ℕ, ◌+◌, ◌≤◌, ◌<◌, eqb, length, get_or, Float}
 use Rattle.limits.specs.Limits.{none, max_columns, max_general}
 use Rattle.refusal.specs.Refusal.{accepted}
-use Rattle.slices.specs.Outcome.{Outcome, outcome_is, refusing}
+use Rattle.slices.specs.Outcome.{Outcome, outcome_is, refusing, as_number}
 use Rattle.sparse.specs.Fault.{or_else}
 use Rattle.sparse.specs.Validate.{pattern_fault}
 use Rattle.sparse.specs.Columns.{Columns}
@@ -14,16 +14,10 @@ use Rattle.sparse.specs.Pattern.{Pattern, bipartite, row_of, column_of, entries}
 use Rattle.hungarian.specs.Graph.{with_costs}
 use Rattle.hungarian.specs.Accepted.{Doubles}
 use Rattle.hungarian.specs.Optimal.{IsEntry}
-use Rattle.hungarian_match.specs.Call.{Slices as MatchSlices, match_outcome, number_of as match_number}
+use Rattle.hungarian_match.specs.Call.{Slices as MatchSlices, match_outcome}
+use Rattle.refusal.specs.Number.{fault_of}
 use Rattle.refusal.specs.Listed.{OneOf, largest_numbers}
 use Rattle.match_largest.specs.Marks.{row_at, marked_columns, marked_rows, pairing_fault}
-use Rattle.match_largest.specs.declared.Verdict.{Verdict}
-use Rattle.match_largest.specs.declared.Verdict.TheVariants.{Accepted, Refused}
-
--- ---- SPECIFICATION's number of each case of the answer: 0, or the refusal
-abbrev pub number_of : Verdict → ℕ
-number_of Accepted = accepted
-number_of (Refused number) = number
 
 -- ---- what the call does
 -- what is lent for the marks and the count
@@ -58,9 +52,9 @@ unfolding marked_columns marked_rows matched_count
 marks_of g perm = slices (marked_columns g perm) (marked_rows g perm) (pair_count g perm ∷ [])
 
 -- what `check_largest` does: a refused call leaves everything as it is
-unfoldable pub largest_outcome : Pattern → List ℕ → Slices → Outcome Verdict Slices
+unfoldable pub largest_outcome : Pattern → List ℕ → Slices → Outcome ℕ Slices
 unfolding largest_fault marks_of
-largest_outcome g perm s = refusing Refused (largest_fault g perm s) (outcome_is Accepted (marks_of g perm)) s
+largest_outcome g perm s = refusing as_number (largest_fault g perm s) (outcome_is accepted (marks_of g perm)) s
 
 -- ---- what is accepted
 -- the pairs (perm j, j) as a set of entries
@@ -142,21 +136,21 @@ pub record Ours (g : Pattern) (perm : List ℕ) : Type 0 where
   pub cost : List Float
   pub doubles : Doubles (with_costs g cost)
   pub before : MatchSlices
-  pub number : match_number (match_outcome (with_costs g cost) before).answer ≡ accepted
+  pub number : fault_of (match_outcome (with_costs g cost) before).answer ≡ accepted
   pub left : perm ≡ (match_outcome (with_costs g cost) before).after.perm
 
 abbrev pub OursAccepted : Pattern → List ℕ → Slices → ℕ → Type 0
 OursAccepted g perm s number = Ours g perm → Room g s → number ≡ accepted
 
--- ---- all that `check_largest` promises, of the pattern, perm, the slices lent, its answer r and the slices left
-pub record Promises (g : Pattern) (perm : List ℕ) (before : Slices) (r : Verdict) (after : Slices) : Type 0 where
-  -- the answer and the slices left are the definition's
+-- ---- all that `check_largest` promises, of the pattern, perm, the slices lent, its number and the slices left
+pub record Promises (g : Pattern) (perm : List ℕ) (before : Slices) (r : ℕ) (after : Slices) : Type 0 where
+  -- the number and the slices left are the definition's
   pub outcome : outcome_is r after ≡ largest_outcome g perm before
   -- the number is one of the call's list
-  pub number : OneOf largest_numbers (number_of r)
+  pub number : OneOf largest_numbers r
   -- 0 exactly for the largest matchings
-  pub exactly : Exactly g perm before (number_of r)
+  pub exactly : Exactly g perm before r
   -- the marks show why no matching has more pairs
-  pub shows : Shows g perm (number_of r) after
+  pub shows : Shows g perm r after
   -- our own matches are accepted
-  pub ours : OursAccepted g perm before (number_of r)
+  pub ours : OursAccepted g perm before r

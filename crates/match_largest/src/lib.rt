@@ -5,6 +5,7 @@
 ghost use Rattle.std.specs.Prelude.{◌≡◌, true, not, cond, ◌||◌, ◌≢◌, ℕ, ◌+◌, ◌^◌, ◌≤◌, ◌<◌, eqb, ltb, length, get_or, replicate};
 ghost use Rattle.limits.specs.Limits.{none, max_columns};
 ghost use Rattle.slices.specs.Lists.{tabulate};
+ghost use Rattle.refusal.specs.Number.{number_of};
 ghost use Rattle.matching.specs.Pairing.{matched_count};
 ghost use Rattle.match_check.specs.Check.{every_of};
 ghost use Rattle.match_check.specs.inner.Steps.{AcceptedPattern};
@@ -15,13 +16,7 @@ ghost use Rattle.match_largest.specs.inner.Sweeps.{Entered, Queued, Sweeping, Sw
 
 use limits::NONE;
 use match_check::has_row;
-
-// What `check_largest` answers: the pairing is a largest matching, or the refusal.
-#[derive(Clone, Copy)]
-pub enum Verdict {
-    Accepted,
-    Refused(u32),
-}
+use refusal::Refusal;
 
 // No column: larger than the number of any column.
 const FREE: u16 = 4096;
@@ -96,7 +91,7 @@ fn enter_pairs(
 {
     let mut fine = true;
     for j in 0..n {
-        fine = fine & enter_pair(j, n, col_ptr, row_idx, perm, inverse);
+        fine &= enter_pair(j, n, col_ptr, row_idx, perm, inverse);
     }
     fine
 }
@@ -107,9 +102,9 @@ fn queue_free(perm: &[u32], queue: &mut [u16]) -> usize
     ensures { Queued perm.now (length perm.now) queue.new result }
 {
     let mut free: usize = 0;
-    for j in 0..perm.len() {
+    for (j, &row) in perm.iter().enumerate() {
         queue[free] = j as u16;
-        free = free + (perm[j] == NONE) as usize;
+        free += usize::from(row == NONE);
     }
     free
 }
@@ -139,7 +134,7 @@ fn scan(
         let row = row_idx[k] as usize;
         let column = inverse[row];
         queue[last] = column;
-        last = last + ((met[row] == 0) & ((column as usize) < n)) as usize;
+        last += usize::from((met[row] == 0) & ((column as usize) < n));
         met[row] = 1;
     }
     last
@@ -193,31 +188,36 @@ fn all_held(n: usize, inverse: &[u16], met: &[u8]) -> bool
 {
     let mut fine = true;
     for i in 0..n {
-        fine = fine & ((met[i] != 1) | ((inverse[i] as usize) < n));
+        fine &= (met[i] != 1) | ((inverse[i] as usize) < n);
     }
     fine
 }
 
-// 30, 33 or 0: the first fault of a pairing on an accepted pattern. `met` gets the marks of the rows.
-fn pairing_fault(n: usize, col_ptr: &[u32], row_idx: &[u32], perm: &[u32], met: &mut [u8]) -> u32
+// 30 or 33: the first fault of a pairing on an accepted pattern. `met` gets the marks of the rows.
+fn pairing_fault(
+    n: usize,
+    col_ptr: &[u32],
+    row_idx: &[u32],
+    perm: &[u32],
+    met: &mut [u8],
+) -> Result<(), Refusal>
     requires accepted_pattern_1 { AcceptedPattern n col_ptr.now row_idx.now }
     requires accepted_pattern_2 { length perm.now ≡ n }
     requires met_value { met.old ≡ replicate max_columns 0 }
     ensures result_value { let g = pattern n col_ptr.now row_idx.now in
-        result ≡ pairing_fault g perm.now }
+        number_of result ≡ pairing_fault g perm.now }
     ensures fact { let g = pattern n col_ptr.now row_idx.now in
-        (result ≡ 0 → Searched g perm.now met.new) }
+        (number_of result ≡ 0 → Searched g perm.now met.new) }
 {
     let mut inverse = [FREE; 4096];
     if !enter_pairs(n, col_ptr, row_idx, perm, &mut inverse) {
-        return refusal::INCOMPLETE_MATCHING;
+        return Err(Refusal::IncompleteMatching);
     }
     search(n, col_ptr, row_idx, perm, &inverse, met);
-    if all_held(n, &inverse, met) {
-        refusal::ACCEPTED
-    } else {
-        refusal::NOT_LARGEST
+    if !all_held(n, &inverse, met) {
+        return Err(Refusal::NotLargest);
     }
+    Ok(())
 }
 
 // The mark of a column: 1 if it has no row, else that of its row.
@@ -228,7 +228,7 @@ fn column_mark(row: u32, met: &[u8]) -> u32
     if row == NONE {
         1
     } else {
-        met[row as usize] as u32
+        u32::from(met[row as usize])
     }
 }
 
@@ -240,8 +240,8 @@ fn write_columns(perm: &[u32], met: &[u8], columns: &mut [u32])
         columns.new ≡ tabulate (length perm.now)
         (λ j. cond (eqb (row j) none) 1 (get_or met.now (row j) 0)) }
 {
-    for j in 0..columns.len() {
-        columns[j] = column_mark(perm[j], met);
+    for (mark, &row) in columns.iter_mut().zip(perm) {
+        *mark = column_mark(row, met);
     }
 }
 
@@ -250,8 +250,8 @@ fn write_rows(met: &[u8], rows: &mut [u32])
     requires { (length rows.old ≤ max_columns) × (length met.now ≡ max_columns) }
     ensures { rows.new ≡ tabulate (length rows.old) (λ i. get_or met.now i 0) }
 {
-    for i in 0..rows.len() {
-        rows[i] = met[i] as u32;
+    for (mark, &seen) in rows.iter_mut().zip(met) {
+        *mark = u32::from(seen);
     }
 }
 
@@ -261,8 +261,8 @@ fn count_pairs(perm: &[u32]) -> u32
     ensures { result ≡ matched_count none (length perm.now) (row_at perm.now) }
 {
     let mut count: u32 = 0;
-    for j in 0..perm.len() {
-        count = count + (perm[j] != NONE) as u32;
+    for &row in perm {
+        count += u32::from(row != NONE);
     }
     count
 }
@@ -278,25 +278,19 @@ pub fn check_largest(
     columns: &mut [u32],
     rows: &mut [u32],
     matched: &mut [u32],
-) -> Verdict
+) -> Result<(), Refusal>
     ensures { let g = pattern n col_ptr.now row_idx.now in
         let before = slices columns.old rows.old matched.old in
         let after = slices columns.new rows.new matched.new in
-        Promises g perm.now before result after }
+        Promises g perm.now before (number_of result) after }
 {
     let size = n as usize;
     let lengths = lengths_fit(size, col_ptr, perm, columns, rows, matched);
-    let shape = sparse::general::pattern_fault(n, col_ptr, row_idx, lengths);
-    if shape != refusal::ACCEPTED {
-        return Verdict::Refused(shape);
-    }
+    sparse::general::pattern_fault(n, col_ptr, row_idx, lengths)?;
     let mut met = [0u8; 4096];
-    let fault = pairing_fault(size, col_ptr, row_idx, perm, &mut met);
-    if fault != refusal::ACCEPTED {
-        return Verdict::Refused(fault);
-    }
+    pairing_fault(size, col_ptr, row_idx, perm, &mut met)?;
     write_columns(perm, &met, columns);
     write_rows(&met, rows);
     matched[0] = count_pairs(perm);
-    Verdict::Accepted
+    Ok(())
 }

@@ -1,10 +1,8 @@
 -- SPECIFICATION 5.16: The canonical file: patches rise, and every record has the map that the writer makes.
-use Rattle.std.specs.Prelude.{◌≡◌, ◌&&◌, List, [], ◌∷◌, ℕ, suc, eqb, leb, ltb, drop}
+use Rattle.std.specs.Prelude.{◌≡◌, ◌&&◌, List, [], ◌∷◌, ℕ, suc, eqb, leb, ltb, drop, Option, Some, None}
 use Rattle.refusal.specs.Refusal.{accepted, sheet_cut, patch_order, needless_field}
 use Rattle.sparse.specs.Fault.{unless, or_else}
 use Rattle.sheet.specs.declared.Record.{Record}
-use Rattle.sheet.specs.declared.Found.{Found}
-use Rattle.sheet.specs.declared.Found.TheVariants.{Is, Cut}
 use Rattle.sheet.specs.Format.{bits_of}
 use Rattle.sheet.specs.Reading.{records_of, index_fault, order_of, head_fault}
 
@@ -17,10 +15,10 @@ unfoldable pub rising_fault : ℕ → Record → ℕ
 rising_fault next r = unless (leb next r.patch) patch_order
 
 -- the first fault of the records after the patches below `next`
-unfoldable pub canonical_fault : ℕ → ℕ → List Found → ℕ
+unfoldable pub canonical_fault : ℕ → ℕ → List (Option Record) → ℕ
 canonical_fault n next [] = accepted
-canonical_fault n next (Cut ∷ rest) = sheet_cut
-canonical_fault n next (Is r ∷ rest) =
+canonical_fault n next (None ∷ rest) = sheet_cut
+canonical_fault n next (Some r ∷ rest) =
     or_else (index_fault n r)
     (or_else (needless_fault r) (or_else (rising_fault next r) (canonical_fault n (suc r.patch) rest)))
 

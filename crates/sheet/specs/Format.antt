@@ -1,12 +1,10 @@
 -- SPECIFICATION 5.16: The sheet file: n in two bytes, then records, each of a patch number, a map of bits and the
 -- fields whose bits are set. All numbers are low byte first. u, v and cmax are the bits of doubles.
-use Rattle.std.specs.Prelude.{Bool, true, cond, ◌&&◌, ◌||◌, List, [], ◌∷◌, ◌++◌, ℕ, zero, suc, ◌+◌, ◌*◌, ◌/◌, ◌%◌, eqb, leb, ltb, length, get_or}
+use Rattle.std.specs.Prelude.{Bool, true, cond, ◌&&◌, ◌||◌, List, [], ◌∷◌, ◌++◌, ℕ, zero, suc, ◌+◌, ◌*◌, ◌/◌, ◌%◌, eqb, leb, ltb, length, get_or, Option, Some, None}
 use Rattle.limits.specs.Limits.{none}
 use Rattle.matching.specs.Match.{Match}
 use Rattle.byte_numbers.specs.Bytes.{bytes_of, number_at}
 use Rattle.sheet.specs.declared.Record.{Record}
-use Rattle.sheet.specs.declared.Found.{Found}
-use Rattle.sheet.specs.declared.Found.TheVariants.{Is, Cut}
 
 -- ---- the map of bits
 abbrev pub row_bit : ℕ → ℕ
@@ -54,9 +52,9 @@ record_with bits bytes = record {
 
 -- the record at the front, or cut: one of its first three bytes, or bytes of its known bits, are missing (a map that
 -- is missing reads as 0, whose record has three bytes)
-unfoldable pub first_record : List ℕ → Found
+unfoldable pub first_record : List ℕ → Option Record
 first_record bytes =
-    cond (leb (record_size (get_or bytes 2 0)) (length bytes)) (Is (record_with (get_or bytes 2 0) bytes)) Cut
+    cond (leb (record_size (get_or bytes 2 0)) (length bytes)) (Some (record_with (get_or bytes 2 0) bytes)) None
 
 -- ---- a record written
 -- a field if its bit is set, else nothing

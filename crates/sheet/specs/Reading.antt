@@ -1,35 +1,33 @@
 -- SPECIFICATION 5.16: What a sheet file means, and the refusal of a bad file: at the first record at fault.
-use Rattle.std.specs.Prelude.{◌≡◌, ◌&&◌, List, [], ◌∷◌, ℕ, zero, suc, eqb, leb, ltb, length, get_or, set, drop, replicate}
+use Rattle.std.specs.Prelude.{◌≡◌, ◌&&◌, List, [], ◌∷◌, ℕ, zero, suc, eqb, leb, ltb, length, get_or, set, drop, replicate, Option, Some, None}
 use Rattle.limits.specs.Limits.{none, max_columns}
 use Rattle.refusal.specs.Refusal.{accepted, sheet_cut, sheet_index, patch_twice}
 use Rattle.sparse.specs.Fault.{unless, or_else}
 use Rattle.matching.specs.Match.{Match, match_of}
 use Rattle.byte_numbers.specs.Bytes.{number_at}
 use Rattle.sheet.specs.declared.Record.{Record}
-use Rattle.sheet.specs.declared.Found.{Found}
-use Rattle.sheet.specs.declared.Found.TheVariants.{Is, Cut}
 use Rattle.sheet.specs.Format.{record_size, first_record, row_or_none}
 
 -- ---- the records of the bytes after n
 -- a record and those after it; nothing is read after a cut
-abbrev pub follow : Found → List Found → List Found
-follow (Is r) behind = Is r ∷ behind
-follow Cut behind = Cut ∷ []
+abbrev pub follow : Option Record → List (Option Record) → List (Option Record)
+follow (Some r) behind = Some r ∷ behind
+follow None behind = None ∷ []
 
 -- the bytes after a record
-abbrev pub behind : Found → List ℕ → List ℕ
-behind (Is r) bytes = drop (record_size r.bits) bytes
-behind Cut bytes = []
+abbrev pub behind : Option Record → List ℕ → List ℕ
+behind (Some r) bytes = drop (record_size r.bits) bytes
+behind None bytes = []
 
 -- at most `fuel` records
-unfoldable pub records : ℕ → List ℕ → List Found
+unfoldable pub records : ℕ → List ℕ → List (Option Record)
 records zero bytes = []
 records (suc fuel) [] = []
 records (suc fuel) (byte ∷ bytes) =
     follow (first_record (byte ∷ bytes)) (records fuel (behind (first_record (byte ∷ bytes)) (byte ∷ bytes)))
 
 -- all of them: there are fewer records than bytes
-unfoldable pub records_of : List ℕ → List Found
+unfoldable pub records_of : List ℕ → List (Option Record)
 records_of bytes = records (length bytes) bytes
 
 -- ---- the first record at fault
@@ -42,10 +40,10 @@ unfoldable pub repeat_fault : ℕ → ℕ
 repeat_fault mark = unless (eqb mark 0) patch_twice
 
 -- the first fault of the records after those that left the marks
-unfoldable pub records_fault : ℕ → List ℕ → List Found → ℕ
+unfoldable pub records_fault : ℕ → List ℕ → List (Option Record) → ℕ
 records_fault n marks [] = accepted
-records_fault n marks (Cut ∷ rest) = sheet_cut
-records_fault n marks (Is r ∷ rest) =
+records_fault n marks (None ∷ rest) = sheet_cut
+records_fault n marks (Some r ∷ rest) =
     or_else (index_fault n r)
     (or_else (repeat_fault (get_or marks r.patch 0)) (records_fault n (set marks r.patch 1) rest))
 
@@ -60,10 +58,10 @@ store r m =
     match_of (set m.perm r.patch r.row) (set m.u r.patch r.u) (set m.v r.patch r.v)
     (set m.cmax r.patch r.cmax)
 
-unfoldable pub stored : List Found → Match ℕ → Match ℕ
+unfoldable pub stored : List (Option Record) → Match ℕ → Match ℕ
 stored [] m = m
-stored (Cut ∷ rest) m = m
-stored (Is r ∷ rest) m = stored rest (store r m)
+stored (None ∷ rest) m = m
+stored (Some r ∷ rest) m = stored rest (store r m)
 
 -- ---- a file
 -- n is at most 4,096, which is the number of marks

@@ -5,8 +5,8 @@ ghost use Rattle.std.specs.Prelude.{◌≡◌, ◌+◌, ◌≤◌, length};
 ghost use Rattle.limits.specs.Limits.{none, max_columns};
 ghost use Rattle.byte_numbers.specs.Bytes.{number_at};
 ghost use Rattle.sheet.specs.Format.{record_size, first_record};
-ghost use Rattle.sheet.specs.inner.Steps.{taken_row, taken_number};
-ghost use Rattle.sheet.specs.Format.{stands, bits_of, rows_present};
+ghost use Rattle.sheet.specs.inner.Steps.{taken};
+ghost use Rattle.sheet.specs.Format.{bits_of, rows_present};
 
 use limits::NONE;
 
@@ -20,13 +20,6 @@ pub struct Record {
     pub v: u64,
     pub cmax: u64,
     pub size: usize, // bytes of the record
-}
-
-// What the bytes begin with: a record, or one that is cut.
-#[derive(Clone, Copy)]
-pub enum Found {
-    Is(Record),
-    Cut,
 }
 
 // The number of the two bytes from `at` on.
@@ -50,71 +43,50 @@ pub fn record_size(bits: u32) -> usize
     3 + row + u + v + cmax
 }
 
-// A row, or NONE, and the place after it; or cut.
-#[derive(Clone, Copy)]
-enum TakenRow {
-    Row(u32, usize),
-    RowCut,
-}
-
-// A number, or 0, and the place after it; or cut.
-#[derive(Clone, Copy)]
-enum TakenNumber {
-    Number(u64, usize),
-    NumberCut,
-}
-
-// The branch of each field says where the next one begins: the processor need not wait for the map.
-fn take_row(bit: u32, bytes: &[u8]) -> TakenRow
+// A row, or NONE, and the place after it; none if it is cut. The branch of each field says where the next one begins:
+// the processor need not wait for the map.
+fn take_row(bit: u32, bytes: &[u8]) -> Option<(u32, usize)>
     requires bit_bound { bit ≤ 1 }
     requires in_bounds { 3 ≤ length bytes.now }
-    ensures { result ≡ taken_row bit bytes.now }
+    ensures { result ≡ taken none 2 bit bytes.now 3 }
 {
     if bit == 0 {
-        return TakenRow::Row(NONE, 3);
+        return Some((NONE, 3));
     }
     if bytes.len() < 5 {
-        return TakenRow::RowCut;
+        return None;
     }
-    TakenRow::Row(get_two(bytes, 3), 5)
+    Some((get_two(bytes, 3), 5))
 }
 
-// The bits of a number and the place after it: 0 if its bit is not set, cut if bytes are missing.
-fn take_number(bit: u32, bytes: &[u8], at: usize) -> TakenNumber
+// The bits of a number and the place after it: 0 if its bit is not set, none if bytes are missing.
+fn take_number(bit: u32, bytes: &[u8], at: usize) -> Option<(u64, usize)>
     requires bit_bound { bit ≤ 1 }
     requires at_in_bounds { at ≤ length bytes.now }
-    ensures { result ≡ taken_number bit bytes.now at }
+    ensures { result ≡ taken 0 8 bit bytes.now at }
 {
     if bit == 0 {
-        return TakenNumber::Number(0, at);
+        return Some((0, at));
     }
     if bytes.len() < at + 8 {
-        return TakenNumber::NumberCut;
+        return None;
     }
-    TakenNumber::Number(byte_numbers::get_u64(bytes, at), at + 8)
+    Some((byte_numbers::get_u64(bytes, at), at + 8))
 }
 
-// The record at the front of the bytes.
-pub fn first_record(bytes: &[u8]) -> Found
+// The record at the front of the bytes; none if it is cut.
+pub fn first_record(bytes: &[u8]) -> Option<Record>
     ensures { result ≡ first_record bytes.now }
 {
     if bytes.len() < 3 {
-        return Found::Cut;
+        return None;
     }
     let bits = bytes[2] as u32;
-    let TakenRow::Row(row, u_at) = take_row(bits % 2, bytes) else {
-        return Found::Cut;
-    };
-    let TakenNumber::Number(u, v_at) = take_number(bits / 2 % 2, bytes, u_at) else {
-        return Found::Cut;
-    };
-    let TakenNumber::Number(v, cmax_at) = take_number(bits / 4 % 2, bytes, v_at) else {
-        return Found::Cut;
-    };
-    let TakenNumber::Number(cmax, size) = take_number(bits / 8 % 2, bytes, cmax_at) else {
-        return Found::Cut;
-    };
-    Found::Is(Record {
+    let (row, u_at) = take_row(bits % 2, bytes)?;
+    let (u, v_at) = take_number(bits / 2 % 2, bytes, u_at)?;
+    let (v, cmax_at) = take_number(bits / 4 % 2, bytes, v_at)?;
+    let (cmax, size) = take_number(bits / 8 % 2, bytes, cmax_at)?;
+    Some(Record {
         patch: get_two(bytes, 0),
         bits,
         row,
@@ -125,31 +97,12 @@ pub fn first_record(bytes: &[u8]) -> Found
     })
 }
 
-// 1 if a column has a row.
-pub fn row_stands(row: u32) -> u32
-    ensures { result ≡ stands none row }
-{
-    if row == NONE {
-        return 0;
-    }
-    1
-}
-
-// 1 if the bits of a number are not those of +0.0.
-fn number_stands(bits: u64) -> u32
-    ensures { result ≡ stands 0 bits }
-{
-    if bits == 0 {
-        return 0;
-    }
-    1
-}
-
-// The map with a bit for each field that differs from what its absence means.
+// The map with a bit for each field that differs from what its absence means: no row, or the bits of +0.0.
 pub fn bits_of(row: u32, u: u64, v: u64, cmax: u64) -> u32
     ensures { result ≡ bits_of row u v cmax }
 {
-    row_stands(row) + 2 * number_stands(u) + 4 * number_stands(v) + 8 * number_stands(cmax)
+    let low = u32::from(row != NONE) + 2 * u32::from(u != 0);
+    low + 4 * u32::from(v != 0) + 8 * u32::from(cmax != 0)
 }
 
 // The matched count.
@@ -158,10 +111,8 @@ pub fn rows_present(perm: &[u32]) -> u32
     ensures { result ≡ rows_present perm.now }
 {
     let mut count: u32 = 0;
-    let mut k = 0;
-    while k < perm.len() {
-        count = count + row_stands(perm[k]);
-        k += 1;
+    for &row in perm {
+        count += u32::from(row != NONE);
     }
     count
 }

@@ -1,7 +1,8 @@
 -- SPECIFICATION 5.16: What the readers answer and leave: 40 for n, then 3, then the first record at fault, or the match
 -- that a file means.
-use Rattle.std.specs.Prelude.{◌≡◌, Bool, true, false, ◌&&◌, List, ℕ, eqb, length}
+use Rattle.std.specs.Prelude.{◌≡◌, Bool, ◌&&◌, List, ℕ, eqb, length, Result, Ok, Err}
 use Rattle.refusal.specs.Refusal.{accepted, slice_length}
+use Rattle.refusal.specs.Number.{fault_of}
 use Rattle.refusal.specs.Listed.{OneOf, read_sheet_numbers, canonical_sheet_numbers}
 use Rattle.slices.specs.Outcome.{Outcome, outcome_is, refusing}
 use Rattle.sparse.specs.Fault.{unless, or_else}
@@ -9,21 +10,15 @@ use Rattle.matching.specs.Match.{Match}
 use Rattle.sheet.specs.Format.{sheet_bytes, rows_present}
 use Rattle.sheet.specs.Reading.{order_of, head_fault, body_fault, sheet_match, Means}
 use Rattle.sheet.specs.Canonical.{canonical_body, Canonical}
-use Rattle.sheet_reader.specs.declared.Reading.{Reading}
-use Rattle.sheet_reader.specs.declared.Reading.TheVariants.{Read, Refused}
 
--- the number of an answer, and its values: n and the matched count
-abbrev pub number_of : Reading → ℕ
-number_of (Read n matched) = accepted
-number_of (Refused number) = number
+-- what an answer has: n and the matched count, or the number of the refusal
+abbrev pub order_read : Result (ℕ × ℕ) ℕ → ℕ
+order_read (Ok (n, matched)) = n
+order_read (Err number) = 0
 
-abbrev pub order_read : Reading → ℕ
-order_read (Read n matched) = n
-order_read (Refused number) = 0
-
-abbrev pub matched_read : Reading → ℕ
-matched_read (Read n matched) = matched
-matched_read (Refused number) = 0
+abbrev pub matched_read : Result (ℕ × ℕ) ℕ → ℕ
+matched_read (Ok (n, matched)) = matched
+matched_read (Err number) = 0
 
 unfoldable pub lengths : ℕ → Match ℕ → Bool
 lengths n m =
@@ -34,32 +29,28 @@ abbrev pub sizes : List ℕ → Bool → ℕ
 sizes sheet fit = or_else (head_fault sheet) (unless fit slice_length)
 
 -- an accepted call: the match of the file
-abbrev pub read_all : List ℕ → Outcome Reading (Match ℕ)
-read_all sheet = outcome_is (Read (order_of sheet) (rows_present (sheet_match sheet).perm)) (sheet_match sheet)
+abbrev pub read_all : List ℕ → Outcome (Result (ℕ × ℕ) ℕ) (Match ℕ)
+read_all sheet = outcome_is (Ok (order_of sheet, rows_present (sheet_match sheet).perm)) (sheet_match sheet)
 
 -- by the fault of the call
-abbrev pub outcome : ℕ → List ℕ → Match ℕ → Outcome Reading (Match ℕ)
-outcome fault sheet before = refusing Refused fault (read_all sheet) before
+abbrev pub outcome : ℕ → List ℕ → Match ℕ → Outcome (Result (ℕ × ℕ) ℕ) (Match ℕ)
+outcome fault sheet before = refusing Err fault (read_all sheet) before
 
 -- the first thing wrong, or 0, by the fault of the records
 abbrev pub fault_by : ℕ → List ℕ → Match ℕ → ℕ
 fault_by body sheet before = or_else (sizes sheet (lengths (order_of sheet) before)) body
 
 -- what a reader does by the fault of the records
-unfoldable pub outcome_by : ℕ → List ℕ → Match ℕ → Outcome Reading (Match ℕ)
+unfoldable pub outcome_by : ℕ → List ℕ → Match ℕ → Outcome (Result (ℕ × ℕ) ℕ) (Match ℕ)
 outcome_by body sheet before = outcome (fault_by body sheet before) sheet before
 
-abbrev pub body_of : Bool → List ℕ → ℕ
-body_of true sheet = canonical_body sheet
-body_of false sheet = body_fault sheet
-
 -- what `read_sheet` does
-abbrev pub read_outcome : List ℕ → Match ℕ → Outcome Reading (Match ℕ)
-read_outcome sheet before = outcome_by (body_of false sheet) sheet before
+abbrev pub read_outcome : List ℕ → Match ℕ → Outcome (Result (ℕ × ℕ) ℕ) (Match ℕ)
+read_outcome sheet before = outcome_by (body_fault sheet) sheet before
 
 -- what `read_canonical_sheet` does
-abbrev pub canonical_outcome : List ℕ → Match ℕ → Outcome Reading (Match ℕ)
-canonical_outcome sheet before = outcome_by (body_of true sheet) sheet before
+abbrev pub canonical_outcome : List ℕ → Match ℕ → Outcome (Result (ℕ × ℕ) ℕ) (Match ℕ)
+canonical_outcome sheet before = outcome_by (canonical_body sheet) sheet before
 
 -- ---- of an accepted call
 -- `read_sheet` takes the file, which means the match that the slices then hold, and counts its rows
@@ -84,23 +75,23 @@ WrittenAgain sheet number n after = number ≡ accepted → sheet_bytes n after 
 
 -- ---- all that the readers promise, of the file, what was lent, its answer r and what is left
 -- `read_sheet`
-pub record ReadPromises (sheet : List ℕ) (before : Match ℕ) (r : Reading) (after : Match ℕ) : Type 0 where
+pub record ReadPromises (sheet : List ℕ) (before : Match ℕ) (r : Result (ℕ × ℕ) ℕ) (after : Match ℕ) : Type 0 where
   -- the answer and every slice left are the definition's
   pub outcome : outcome_is r after ≡ read_outcome sheet before
   -- the number is one of the call's list
-  pub number : OneOf read_sheet_numbers (number_of r)
+  pub number : OneOf read_sheet_numbers (fault_of r)
   -- an accepted file means the match that is left
-  pub holds : Holding sheet (number_of r) (order_read r) (matched_read r) after
+  pub holds : Holding sheet (fault_of r) (order_read r) (matched_read r) after
   -- that match, written, is canonical and means the same
-  pub rewritten : Rewriting (number_of r) (order_read r) after
+  pub rewritten : Rewriting (fault_of r) (order_read r) after
 
 -- `read_canonical_sheet`
-pub record CanonicalPromises (sheet : List ℕ) (before : Match ℕ) (r : Reading) (after : Match ℕ) : Type 0 where
+pub record CanonicalPromises (sheet : List ℕ) (before : Match ℕ) (r : Result (ℕ × ℕ) ℕ) (after : Match ℕ) : Type 0 where
   -- the answer and every slice left are the definition's
   pub outcome : outcome_is r after ≡ canonical_outcome sheet before
   -- the number is one of the call's list
-  pub number : OneOf canonical_sheet_numbers (number_of r)
+  pub number : OneOf canonical_sheet_numbers (fault_of r)
   -- an accepted file means the match that is left
-  pub holds : Holding sheet (number_of r) (order_read r) (matched_read r) after
+  pub holds : Holding sheet (fault_of r) (order_read r) (matched_read r) after
   -- that match, written, is the file again
-  pub again : WrittenAgain sheet (number_of r) (order_read r) after
+  pub again : WrittenAgain sheet (fault_of r) (order_read r) after

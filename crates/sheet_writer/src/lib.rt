@@ -4,20 +4,16 @@
 ghost use Rattle.std.specs.Prelude.{◌≡◌, ◌+◌, ◌*◌, ◌^◌, ◌≤◌, ◌<◌, true, length};
 ghost use Rattle.std.proofs.lemmas.List.Edits.{sets};
 ghost use Rattle.limits.specs.Limits.{max_columns};
+ghost use Rattle.refusal.specs.Number.{number_of, numbered};
 ghost use Rattle.matching.specs.Match.{match_of};
 ghost use Rattle.byte_numbers.specs.Bytes.{bytes_of};
 ghost use Rattle.text_report.specs.inner.Steps.{Wrote};
 ghost use Rattle.sheet.specs.Format.{part, record_bytes, patch_bytes, sheet_bytes, row_or_none, rows_fit};
 ghost use Rattle.sheet_writer.specs.Call.{lengths, match_fault, Promises};
 
+use refusal::Refusal;
 use sheet::Record;
-
-// What `write_sheet` answers: how many bytes it used, or the refusal.
-#[derive(Clone, Copy)]
-pub enum Written {
-    Used(u32),
-    Refused(u32),
-}
+use sparse::layout;
 
 // The two bytes of a number, low byte first, from `at` on.
 fn put_two(out: &mut [u8], at: usize, value: u32) -> usize
@@ -77,12 +73,12 @@ fn put_patch(out: &mut [u8], at: usize, patch: u32, row: u32, u: u64, v: u64, cm
         return at;
     }
     let r = Record {
-        patch: patch,
-        bits: bits,
-        row: row,
-        u: u,
-        v: v,
-        cmax: cmax,
+        patch,
+        bits,
+        row,
+        u,
+        v,
+        cmax,
         size: sheet::record_size(bits),
     };
     put_record(out, at, r)
@@ -96,11 +92,9 @@ fn put_sheet(n: u32, perm: &[u32], u: &[u64], v: &[u64], cmax: &[u64], out: &mut
         Wrote out.old 0 (sheet_bytes n m) out.new result }
 {
     let mut at = put_two(out, 0, n);
-    let mut k = 0;
-    while k < n {
+    for k in 0..n {
         let i = k as usize;
         at = put_patch(out, at, k, perm[i], u[i], v[i], cmax[i]);
-        k += 1;
     }
     at
 }
@@ -117,25 +111,23 @@ fn rows_fit(n: u32, perm: &[u32]) -> bool
     ensures { result ≡ rows_fit n perm.now }
 {
     let mut fit = true;
-    let mut k = 0;
-    while k < perm.len() {
-        fit = fit & row_or_none(n, perm[k]);
-        k += 1;
+    for &row in perm {
+        fit &= row_or_none(n, row);
     }
     fit
 }
 
-// Refusal 10, or 0.
-fn match_fault(n: u32, matched: u32, perm: &[u32]) -> u32
+// Refusal 10, or none.
+fn match_fault(n: u32, matched: u32, perm: &[u32]) -> Result<(), Refusal>
     requires { length perm.now ≤ max_columns }
-    ensures { result ≡ match_fault n matched perm.now }
+    ensures { number_of result ≡ match_fault n matched perm.now }
 {
     let fit = rows_fit(n, perm);
     let count = sheet::rows_present(perm);
     if fit & (count == matched) {
-        return refusal::ACCEPTED;
+        return Ok(());
     }
-    refusal::MATCHING_RANGE
+    Err(Refusal::MatchingRange)
 }
 
 // Whether every slice has its length for n columns.
@@ -148,8 +140,8 @@ fn lengths_fit(n: usize, perm: &[u32], u: &[u64], v: &[u64], cmax: &[u64], sheet
     (perm.len() == n) & ((u.len() == n) & ((v.len() == n) & ((cmax.len() == n) & room)))
 }
 
-// Writes the match of n columns as a sheet file at the front of 2 + 29 n bytes, whose rest stays. u, v and cmax are the
-// bits of doubles.
+// Writes the match of n columns as a sheet file at the front of 2 + 29 n bytes, whose rest stays, and answers how many
+// bytes it used. u, v and cmax are the bits of doubles.
 pub fn write_sheet(
     n: u32,
     matched: u32,
@@ -158,19 +150,12 @@ pub fn write_sheet(
     v: &[u64],
     cmax: &[u64],
     sheet: &mut [u8],
-) -> Written
+) -> Result<u32, Refusal>
     ensures { let m = match_of perm.now u.now v.now cmax.now in
-        Promises n matched m sheet.old result sheet.new }
+        Promises n matched m sheet.old (numbered result) sheet.new }
 {
     let fit = lengths_fit(n as usize, perm, u, v, cmax, sheet);
-    let sizes = sparse::layout::size_fault(n, 0, 0, fit);
-    if sizes != refusal::ACCEPTED {
-        return Written::Refused(sizes);
-    }
-    let fault = match_fault(n, matched, perm);
-    if fault != refusal::ACCEPTED {
-        return Written::Refused(fault);
-    }
-    let used = put_sheet(n, perm, u, v, cmax, sheet);
-    Written::Used(used as u32)
+    layout::size_fault(n, 0, 0, fit)?;
+    match_fault(n, matched, perm)?;
+    Ok(put_sheet(n, perm, u, v, cmax, sheet) as u32)
 }
