@@ -249,7 +249,7 @@ fn claim_fault(
     if !duals_hold(size, col_ptr, row_idx, cost, perm, u, v) {
         return Err(Refusal::InfeasibleDuals);
     }
-    let reached = |paired, sum, entry| !paired | (sum >= entry);
+    let reached = |paired: bool, sum: f64, entry: f64| !paired | (sum >= entry);
     if !sums_hold(size, col_ptr, row_idx, cost, perm, u, v, reached) {
         return Err(Refusal::LoosePair);
     }
