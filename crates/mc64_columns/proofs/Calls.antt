@@ -9,39 +9,39 @@ use borrow.Author.Tests.{eqb-true}
 use lib.Dec.{eqb}
 use lib.Ieee.{Float}
 use lib.ListN.{length, drop, replicate}
+use Rattle.std.specs.Prelude.{Result, Ok, Err}
 use Rattle.refusal.specs.Listed.{OneOf}
+use Rattle.refusal.specs.Number.{fault_of}
 use Rattle.slices.specs.Outcome.{outcome_is}
 use Rattle.sparse.specs.Matrix.{Matrix}
 use Rattle.slices.proofs.Bools.{both}
 use Rattle.sparse.proofs.Listed.{Listed}
-use Rattle.mc64_columns.specs.Graphs.{Slices, slices_fit, AnswersBy, number_of, GraphColumns, logs_of, kept_before, graph_pointers, graph_rows}
+use Rattle.mc64_columns.specs.Graphs.{Slices, slices_fit, AnswersBy, GraphColumns, logs_of, kept_before, graph_pointers, graph_rows}
 use Rattle.mc64_columns.specs.Graphs.{costs_of, joined, built, outcome}
 use Rattle.mc64_columns.specs.inner.Steps.{GraphBuilt}
-use Rattle.mc64_columns.specs.declared.Built.{Built}
-use Rattle.mc64_columns.specs.declared.Built.TheVariants.{Kept, Refused}
 
 -- ---- the number
 -- of an answer by its fault the number is one of the list, where the fault is
-pub in_list : {numbers : List ℕ} {fault kept : ℕ} {answer : Built} → Listed numbers fault → AnswersBy fault kept answer → OneOf numbers (number_of answer)
+pub in_list : {numbers : List ℕ} {fault kept : ℕ} {answer : Result ℕ ℕ} → Listed numbers fault → AnswersBy fault kept answer → OneOf numbers (fault_of answer)
 in_list {numbers} l a = subst (OneOf numbers) (sym a.number) l.is
 
 -- ---- outcomes
 module _ (n : ℕ) (g : GraphColumns) (logs : List Float) (s : Slices) where
   -- what the call promises of its answer and the slices left
-  abbrev Promised : Built → Slices → ℕ → Type 0
+  abbrev Promised : Result ℕ ℕ → Slices → ℕ → Type 0
   Promised a after fault = (outcome_is a after ≡ outcome fault n g logs s) × AnswersBy fault (kept_before g n) a
 
-  pub refused : (x fault : ℕ) → x ≡ fault → x ≢ 0 → Promised (Refused x) s fault
+  pub refused : (x fault : ℕ) → x ≡ fault → x ≢ 0 → Promised (Err x) s fault
   refused zero fault e h = absurd (h refl)
   refused (suc x) fault e h = (ap (λ (f : ℕ). outcome f n g logs s) e, record { number = e; count = λ z. absurd (h z) })
 
-  pub accepted : (after : Slices) (kept fault : ℕ) → 0 ≡ fault → GraphBuilt n g logs s after kept → Promised (Kept kept) after fault
+  pub accepted : (after : Slices) (kept fault : ℕ) → 0 ≡ fault → GraphBuilt n g logs s after kept → Promised (Ok kept) after fault
   accepted after kept fault e b =
-      let o : outcome_is (Kept kept) after ≡ outcome 0 n g logs s = λ i. record { answer = Kept (b.count i); after = b.slices i } in
+      let o : outcome_is (Ok kept) after ≡ outcome 0 n g logs s = λ i. record { answer = Ok (b.count i); after = b.slices i } in
       (o ∙ ap (λ (f : ℕ). outcome f n g logs s) e, record { number = e; count = λ z. b.count })
 
   -- the number is the fault
-  pub outcome_listed : {numbers : List ℕ} (fault : ℕ) → Listed numbers fault → Listed numbers (number_of (outcome fault n g logs s).answer)
+  pub outcome_listed : {numbers : List ℕ} (fault : ℕ) → Listed numbers fault → Listed numbers (fault_of (outcome fault n g logs s).answer)
   outcome_listed zero p = p
   outcome_listed (suc fault) p = p
 
