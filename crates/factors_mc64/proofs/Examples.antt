@@ -10,7 +10,8 @@ use Rattle.float64.specs.Functions.{clamp_log}
 use Rattle.sparse.specs.Fault.{first_of}
 use Rattle.sparse.specs.Validate.{size_fault}
 use Rattle.matching.specs.Match.{Match, match_of}
-use Rattle.factors_mc64.specs.declared.Scaled.TheVariants.{Applied, PartialSingular, Refused}
+use Rattle.std.specs.Prelude.{Ok, Err}
+use Rattle.factors_mc64.specs.declared.Scaled.TheVariants.{Applied, PartialSingular}
 use Rattle.factors_mc64.specs.Factors.{doubles_of, is_matched_row, log_factor, held}
 use Rattle.factors_mc64.specs.Calls.{slices, lengths, matching_fault, symmetric_outcome, sides, side_lengths, unsymmetric_outcome}
 
@@ -19,7 +20,7 @@ abbrev alone : Float → Match Float
 alone x = match_of (0 ∷ []) (fzero ∷ []) (fzero ∷ []) (x ∷ [])
 
 -- log 3 gives -1.5
-log_3 : symmetric_outcome 1 1 (alone (of_bits binary64 0x4008_0000_0000_0000)) (slices (one ∷ []) (7 ∷ [])) ≡ outcome_is Applied
+log_3 : symmetric_outcome 1 1 (alone (of_bits binary64 0x4008_0000_0000_0000)) (slices (one ∷ []) (7 ∷ [])) ≡ outcome_is (Ok Applied)
     (slices (of_bits binary64 0xBFF8_0000_0000_0000 ∷ []) (0 ∷ []))
 unfolding symmetric_outcome lengths matching_fault size_fault first_of doubles_of is_matched_row log_factor clamp_log of_bits add sub div neg lt
 log_3 = refl
@@ -36,12 +37,12 @@ log_1420 = refl
 
 -- column 0 has row 1: row 0 is free, and so is column 1
 free_row : symmetric_outcome 2 1 (match_of (1 ∷ none ∷ []) (one ∷ one ∷ []) (one ∷ one ∷ []) (one ∷ one ∷ [])) (slices (one ∷ one ∷ []) (7 ∷ 7 ∷ []))
-    ≡ outcome_is (PartialSingular 1) (slices (fzero ∷ fzero ∷ []) (0 ∷ 0 ∷ []))
+    ≡ outcome_is (Ok (PartialSingular 1)) (slices (fzero ∷ fzero ∷ []) (0 ∷ 0 ∷ []))
 unfolding symmetric_outcome lengths matching_fault size_fault first_of doubles_of is_matched_row log_factor clamp_log of_bits add sub div neg lt
 free_row = refl
 
 -- row 1 of one
-refused : symmetric_outcome 1 1 (match_of (1 ∷ []) (one ∷ []) (one ∷ []) (one ∷ [])) (slices (one ∷ []) (7 ∷ [])) ≡ outcome_is (Refused 10)
+refused : symmetric_outcome 1 1 (match_of (1 ∷ []) (one ∷ []) (one ∷ []) (one ∷ [])) (slices (one ∷ []) (7 ∷ [])) ≡ outcome_is (Err 10)
     (slices (one ∷ []) (7 ∷ []))
 unfolding symmetric_outcome lengths matching_fault size_fault first_of
 refused = refl

@@ -11,6 +11,8 @@ use lib.ListN.{length, get_or, take, set, replicate, length-set, length-replicat
 use lib.Seq.{take_all, take-suc-set, get_or-set_same, get_or-set_other}
 use lib.Ieee.{Float}
 use Rattle.limits.specs.Limits.{none}
+use Rattle.refusal.specs.Refusal.{matching_range}
+use Rattle.sparse.specs.Fault.{unless}
 use Rattle.factors_mc64.specs.Factors.{doubles_of, is_matched_row}
 use Rattle.factors_mc64.specs.Calls.{row_or_none}
 use Rattle.factors_mc64.specs.inner.Steps.{bit, Marked}
@@ -23,6 +25,11 @@ fill_goes_on f l i x h e t = rw (add-one i, take-suc-set l i x h, t, e) refl
 
 pub fill_ends : (f : ℕ → Float) (l : List Float) (n i : ℕ) → i ≡ n → length l ≡ n → take i l ≡ doubles_of f i → l ≡ doubles_of f n
 fill_ends f l n i e h t = sym (take_all i l (omega arith)) ∙ t ∙ ap (doubles_of f) e
+
+-- ---- the rows of a matching
+-- refusal 10 of place k
+abbrev pub row_fault : ℕ → List ℕ → ℕ → ℕ
+row_fault n perm k = unless (row_or_none n (get_or perm k 0)) matching_range
 
 -- ---- the marks
 pub row_inside : (n row : ℕ) → row_or_none n row ≡ true → (row ≡ none → ⊥) → row < n

@@ -9,7 +9,9 @@ use borrow.Author.Tests.{eqb-true, leb-true}
 use lib.Dec.{eqb, leb}
 use lib.ListN.{length, get_or, replicate}
 use lib.Ieee.{Float}
+use Rattle.std.specs.Prelude.{Result, Ok, Err}
 use Rattle.refusal.specs.Refusal.{matching_range}
+use Rattle.refusal.specs.Number.{fault_of}
 use Rattle.slices.specs.Outcome.{outcome_is, as_number}
 use Rattle.slices.proofs.Refusing.{refused_is}
 use Rattle.sparse.specs.Fault.{unless, or_else, first_of}
@@ -18,9 +20,9 @@ use Rattle.slices.proofs.Bools.{both}
 use Rattle.sparse.proofs.Accepted.{sizes_accepted}
 use Rattle.matching.specs.Match.{Match}
 use Rattle.factors_mc64.specs.declared.Scaled.{Scaled}
-use Rattle.factors_mc64.specs.declared.Scaled.TheVariants.{Applied, PartialSingular, Refused}
+use Rattle.factors_mc64.specs.declared.Scaled.TheVariants.{Applied, PartialSingular}
 use Rattle.factors_mc64.specs.Factors.{symmetric_factors, row_factors, column_factors}
-use Rattle.factors_mc64.specs.Calls.{Slices, slices, sizes, lengths, row_or_none, matching_fault, log_factors_fault, number_of, unmatched_of, AnswersBy}
+use Rattle.factors_mc64.specs.Calls.{Slices, slices, sizes, lengths, row_or_none, matching_fault, log_factors_fault, unmatched_of, AnswersBy}
 use Rattle.factors_mc64.specs.Calls.{applied_or_partial, symmetric_outcome, sides, side_lengths, unsymmetric_outcome, scaled, sides_scaled}
 use Rattle.factors_mc64.specs.inner.Steps.{Accepted, SideRoom}
 
@@ -29,20 +31,19 @@ next : {a n : ℕ} {rest : Bool} → (eqb a n && rest) ≡ true → (a ≡ n) ×
 next {a} {n} {rest} t = let b = both (eqb a n) rest t in (eqb-true a n b.0, b.1)
 
 -- ---- the number and the count of an answer
-pub scaled_values_lem : (n matched : ℕ) → (number_of (applied_or_partial n matched) ≡ 0) × (unmatched_of (applied_or_partial n matched) ≡ n - matched)
-scaled_values_lem n matched = go (eqb matched n) refl
+unmatched_is : (n matched : ℕ) → unmatched_of (Ok (applied_or_partial n matched)) ≡ n - matched
+unmatched_is n matched = go (eqb matched n) refl
   where
-    go : (t : Bool) → eqb matched n ≡ t → (number_of (cond t Applied (PartialSingular (n - matched))) ≡ 0)
-        × (unmatched_of (cond t Applied (PartialSingular (n - matched))) ≡ n - matched)
-    go true e = let q : matched ≡ n = eqb-true matched n e in (refl, omega arith)
-    go false e = (refl, refl)
+    go : (t : Bool) → eqb matched n ≡ t → unmatched_of (Ok (cond t Applied (PartialSingular (n - matched)))) ≡ n - matched
+    go true e = let q : matched ≡ n = eqb-true matched n e in omega arith
+    go false e = refl
 
-pub answered_scaled : (n matched : ℕ) {fault : ℕ} {answer : Scaled} → answer ≡ applied_or_partial n matched → fault ≡ 0 → AnswersBy fault (n - matched) answer
+pub answered_scaled : (n matched : ℕ) {fault : ℕ} {answer : Result Scaled ℕ} → answer ≡ Ok (applied_or_partial n matched)
+    → fault ≡ 0 → AnswersBy fault (n - matched) answer
 answered_scaled n matched e z =
-    let v = scaled_values_lem n matched in
-    record { number = ap number_of e ∙ v.0 ∙ sym z; count = λ i. ap unmatched_of e ∙ v.1 }
+    record { number = ap fault_of e ∙ sym z; count = λ i. ap unmatched_of e ∙ unmatched_is n matched }
 
-answered_refused : {found fault : ℕ} (unmatched : ℕ) → found ≡ fault → found ≢ 0 → AnswersBy fault unmatched (Refused found)
+answered_refused : {found fault : ℕ} (unmatched : ℕ) → found ≡ fault → found ≢ 0 → AnswersBy fault unmatched (Err found)
 answered_refused unmatched e h = record { number = e; count = λ z. absurd (h z) }
 
 -- ---- symmetric
@@ -51,15 +52,15 @@ module _ (n matched : ℕ) (c : Match Float) (s : Slices) where
   fault = log_factors_fault n matched c s
 
   -- what the call promises of its answer and the slices left
-  abbrev Promised : Scaled → Slices → Type 0
+  abbrev Promised : Result Scaled ℕ → Slices → Type 0
   Promised answer after = (outcome_is answer after ≡ symmetric_outcome n matched c s) × AnswersBy fault (n - matched) answer
 
   pub fault_is : {found : ℕ} {fit : Bool} → found ≡ or_else (sizes n fit) (matching_fault n matched c.perm) → fit ≡ lengths n c s → found ≡ fault
   fault_is e f = e ∙ ap (λ (b : Bool). or_else (sizes n b) (matching_fault n matched c.perm)) f
 
-  pub refuses : {found : ℕ} → found ≡ fault → found ≢ 0 → Promised (Refused found) s
+  pub refuses : {found : ℕ} → found ≡ fault → found ≢ 0 → Promised (Err found) s
   unfolding symmetric_outcome
-  refuses e z = (refused_is Refused (scaled n matched c) s e z, answered_refused (n - matched) e z)
+  refuses e z = (refused_is Err (scaled n matched c) s e z, answered_refused (n - matched) e z)
 
   module _ (e : fault ≡ 0) where
     none_wrong : (matched ≤ n) × (first_of (length c.perm) (λ k. unless (row_or_none n (get_or c.perm k 0)) matching_range) 0 ≡ 0)
@@ -93,9 +94,9 @@ module _ (n matched : ℕ) (c : Match Float) (s : Slices) where
         }
 
     pub applies : {answer : Scaled} {after : Slices} → answer ≡ applied_or_partial n matched → after ≡ slices (symmetric_factors n c) (replicate n 0)
-        → Promised answer after
+        → Promised (Ok answer) after
     unfolding symmetric_outcome
-    applies a f = (rw (a, f, e) refl, answered_scaled n matched a e)
+    applies a f = (rw (a, f, e) refl, answered_scaled n matched (ap Ok a) e)
 
 -- ---- unsymmetric
 module _ (n : ℕ) (u v cmax rows columns : List Float) where

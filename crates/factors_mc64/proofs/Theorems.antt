@@ -7,6 +7,8 @@ use lib.Dec.{leb}
 use lib.Ieee.{Float}
 use lib.ListN.{length, get_or}
 use Rattle.limits.specs.Limits.{max_columns}
+use Rattle.std.specs.Prelude.{Result, Err}
+use Rattle.refusal.specs.Number.{fault_of}
 use Rattle.refusal.specs.Refusal.{too_many_columns, slice_length, matching_range}
 use Rattle.refusal.specs.Listed.{listed, OneOf, log_factor_numbers, unsymmetric_numbers}
 use Rattle.slices.specs.Outcome.{Outcome, outcome_is, as_number, refusing}
@@ -14,10 +16,8 @@ use Rattle.sparse.specs.Validate.{size_fault}
 use Rattle.sparse.proofs.Listed.{Listed, test, or_listed, first_listed, within, part}
 use Rattle.matching.specs.Match.{Match}
 use Rattle.factors_mc64.specs.declared.Scaled.{Scaled}
-use Rattle.factors_mc64.specs.Calls.{Slices, sizes, lengths, row_or_none, matching_fault, log_factors_fault, number_of, AnswersBy, symmetric_outcome}
+use Rattle.factors_mc64.specs.Calls.{Slices, sizes, lengths, row_or_none, matching_fault, log_factors_fault, AnswersBy, symmetric_outcome}
 use Rattle.factors_mc64.specs.Calls.{Sides, sides, side_lengths, unsymmetric_outcome, scaled, sides_scaled, SymmetricPromises, UnsymmetricPromises}
-use Rattle.factors_mc64.proofs.Outcomes.{scaled_values_lem}
-use Rattle.factors_mc64.specs.declared.Scaled.TheVariants.{Refused}
 
 pub sizes_listed : (n : ℕ) (fit : Bool) → Listed unsymmetric_numbers (sizes n fit)
 unfolding listed size_fault
@@ -34,7 +34,7 @@ unfolding listed within
 fault_listed n matched c s = or_listed (part unsymmetric_numbers (sizes_listed n (lengths n c s)) refl) (matching_listed n matched c.perm)
 
 -- what the symmetric call promises, with its number
-pub with_number : (n matched : ℕ) (c : Match Float) (s : Slices) {answer : Scaled} {after : Slices}
+pub with_number : (n matched : ℕ) (c : Match Float) (s : Slices) {answer : Result Scaled ℕ} {after : Slices}
     → (outcome_is answer after ≡ symmetric_outcome n matched c s) × AnswersBy (log_factors_fault n matched c s) (n - matched) answer
     → SymmetricPromises n matched c s answer after
 with_number n matched c s p =
@@ -44,12 +44,12 @@ with_number n matched c s p =
       number = subst (OneOf log_factor_numbers) (sym p.1.number) (fault_listed n matched c s).is;
     }
 
-pub log_factors_listed : (n matched : ℕ) (c : Match Float) (s : Slices) → Listed log_factor_numbers (number_of (symmetric_outcome n matched c s).answer)
+pub log_factors_listed : (n matched : ℕ) (c : Match Float) (s : Slices) → Listed log_factor_numbers (fault_of (symmetric_outcome n matched c s).answer)
 unfolding symmetric_outcome
 log_factors_listed n matched c s = go (log_factors_fault n matched c s) (fault_listed n matched c s)
   where
-    go : (fault : ℕ) → Listed log_factor_numbers fault → Listed log_factor_numbers (number_of (refusing Refused fault (scaled n matched c) s).answer)
-    go zero p = subst (Listed log_factor_numbers) (sym (scaled_values_lem n matched).0) p
+    go : (fault : ℕ) → Listed log_factor_numbers fault → Listed log_factor_numbers (fault_of (refusing Err fault (scaled n matched c) s).answer)
+    go zero p = p
     go (suc fault) p = p
 
 pub unsymmetric_listed : (n : ℕ) (u v cmax rows columns : List Float) → Listed unsymmetric_numbers (unsymmetric_outcome n u v cmax rows columns).answer

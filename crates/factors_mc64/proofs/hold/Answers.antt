@@ -1,12 +1,10 @@
--- `hold` meets its contract: only a NaN differs from itself.
-use Rattle.std.proofs.Common.{rules}
+-- `hold`: only a NaN differs from itself.
 use mathlib.Core.Path.{◌≡◌, refl}
 use mathlib.Core.Bool.{true, false, true≢false}
 use lib.Ieee.{Float, nan, inf, fin, is_nan, ne}
 use lib.Ieee.Compare.{differs_from_itself}
 use Rattle.factors_mc64.specs.Factors.{held}
-use Rattle.factors_mc64.proofs.hold.Statement.{statement}
-use Rattle.factors_mc64.proofs.hold.Tie as tie
+use Rattle.factors_mc64.proofs.hold.Goals as goal
 
 nan-only : (x : Float) → ne x x ≡ true → is_nan x ≡ true
 unfolding is_nan
@@ -18,21 +16,10 @@ no_nan nan e = absurd (true≢false e)
 no_nan (inf s) e = refl
 no_nan (fin s m k) e = refl
 
-returns-then-x : tie.Need-returns-then-x
+pub returns-then-x : goal.returns-then-x
 unfolding held
 returns-then-x c = rw (nan-only c.args.x c.if-x.true) refl
 
-clamp_log-requires : tie.Need-clamp_log-requires
-clamp_log-requires c κs = search rules
-
-returns : tie.Need-returns
+pub returns : goal.returns
 unfolding held
 returns c = rw (c.clamp_log.ensures, no_nan c.args.x c.if-x.false) refl
-
-pub hold_spec : {M : Type 1} → statement M
-hold_spec =
-    tie.close
-    (tie.spec
-    returns-then-x
-    clamp_log-requires
-    returns)
