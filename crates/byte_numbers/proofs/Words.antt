@@ -191,6 +191,24 @@ module _ (w : ℕ) (vs d : List ℕ) where
   lay_all e =
       ap₂ (λ (x y : List ℕ). all_bytes w x ++ y) (take-length vs) (drop_of_length-le d {i = w * length vs} (le_of_eq e)) ∙ append-nil (all_bytes w vs)
 
+-- the same of values that stand for numbers
+module _ {A : Type 0} (w : ℕ) (number : A → ℕ) (values : List A) (d : List ℕ) where
+  pub put_none : d ≡ laid w (map number values) d 0
+  put_none = lay_none w (map number values) d
+
+  -- x is value i; l is so far laid down, and r with the bytes of x too
+  pub put_more : (i : ℕ) (x : A) (l r : List ℕ) → i < length values → length d ≡ w * length values → length l ≡ length d
+      → x ≡ get_or values i x → l ≡ laid w (map number values) d i → r ≡ sets l (w * i) (bytes_of w (number x))
+      → r ≡ laid w (map number values) d (i + 1)
+  put_more i x l r k fits same here e laid_l =
+      let count = length-map values number in
+      let vs = map number values in
+      let at : get_or vs i (number x) ≡ number x = get_or-map number values i x ∙ ap number (sym here) in
+      rw (laid_l, ← at) (lay_on w vs d i (number x) l (omega arith) (rw count (same ∙ fits)) e).1
+
+  pub put_done : length d ≡ w * length values → laid w (map number values) d (length values) ≡ all_bytes w (map number values)
+  put_done fits = rw (← (length-map values number)) (lay_all w (map number values) d (rw length-map fits))
+
 abbrev pub bits_of : List Float → List ℕ
 bits_of values = map (to_bits binary64) values
 

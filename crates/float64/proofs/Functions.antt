@@ -1,45 +1,39 @@
--- What the proofs of the small functions cite: how a double compares with 0.0, and that x - x is 0.0 exactly if x is finite. By
--- cases on the double; a product that is 0 has a factor 0.
+-- What the proofs of the small functions cite: the library's words for a double without its sign and for a finite one are the definitions here; and
+-- how a double compares with 0.0. By cases on the double; a product that is 0 has a factor 0.
 use mathlib.Core.Path.{◌≡◌, refl, sym, ap, ap₂, ◌∙◌, subst}
-use mathlib.Core.Bool.{Bool, true, false, not, cond, ◌&&◌, true≢false, false≢true}
+use mathlib.Core.Bool.{Bool, true, false, cond, ◌&&◌, true≢false, false≢true}
 use Prim.Native.Nat.{ℕ, zero, suc, ◌+◌, ◌*◌, ◌^◌, ◌<◌}
-use native.Mathlib.Nat.{lt_irrefl, mul-pos, mul-one, one-mul, zero-mul, sub_self, zero-lt-suc, pow-succ', lt_of_lt_of_le, le_trans, le-add_right}
+use native.Mathlib.Nat.{lt_irrefl, mul-pos, mul-one, one-mul, zero-mul, zero-lt-suc, pow-succ', lt_of_lt_of_le, le_trans, le-add_right}
 use native.Mathlib.Omega.{arith}
-use borrow.Author.Tests.{ltb-true, ltb-false, eqb-true, le-ltb}
+use borrow.Author.Tests.{ltb-true, ltb-false, eqb-true}
 use lib.Dec.{T, eqb, eqb→eq}
 use lib.IntN.{ℤ, pos, negsuc}
 use lib.Pow.{pow_pos}
-use lib.Ieee.{Float, nan, inf, fin, binary64, up, down, round, sum, add, sub, neg, lt, eq, ne, fits, of_bits}
-use lib.Ieee.Compare.{differs_from_itself}
-use lib.Ieee.Fits.{up_pos, down_pos}
-use lib.Ieee.Scale.{finite, round_same}
+use lib.Ieee.{Float, nan, inf, fin, binary64, up, down, neg, lt, eq, fits, is_nan, of_bits}
+use lib.Ieee.Fits.{up_pos}
+use lib.Ieee.Scale.{finite}
+use Rattle.std.specs.Float.{float_with_sign, float_is_finite}
 use Rattle.float64.specs.Constants as Constants
 use Rattle.float64.specs.Functions.{absolute, size_of}
 
-quiet : Constants.quiet_nan ≡ nan
-unfolding of_bits
-quiet = refl
+pub size_same : (x : Float) → float_with_sign false x ≡ absolute x
+unfolding float_with_sign absolute
+size_same nan = refl
+size_same (inf s) = refl
+size_same (fin s m e) = refl
 
--- ---- canonical: only a NaN differs from itself
-pub nan_is_quiet : (x : Float) → ne x x ≡ true → Constants.quiet_nan ≡ x
-nan_is_quiet x e = quiet ∙ sym (differs_from_itself x (subst (λ (b : Bool). T b) (sym e) tt))
+pub finite_same : (x : Float) → float_is_finite x ≡ finite x
+unfolding float_is_finite
+finite_same nan = refl
+finite_same (inf s) = refl
+finite_same (fin s m e) = refl
 
--- ---- x - x
-nothing : (c : ℕ) → 0 < c → round binary64 false 0 c ≡ Constants.zero
-unfolding round of_bits
-nothing c C = round_same binary64 false 0 c 0 1 C (pow_pos 0) (sym (zero-mul c))
-
-itself : (s : Bool) (a c : ℕ) → 0 < c → sum binary64 s a (not s) a c ≡ Constants.zero
-unfolding sum
-itself true a c C = rw (le-ltb a a (omega arith), sub_self a) (nothing c C)
-itself false a c C = rw (le-ltb a a (omega arith), sub_self a) (nothing c C)
-
-pub self_difference : (x : Float) → eq (sub binary64 x x) Constants.zero ≡ finite x
-unfolding eq sub add neg
-self_difference nan = refl
-self_difference (inf true) = refl
-self_difference (inf false) = refl
-self_difference (fin s m e) = rw (itself s (m * up e * down e) (down e * down e) (mul-pos (down_pos e) (down_pos e))) (unfold of_bits in refl)
+-- only a NaN is a NaN, and the logic has one
+pub nan_is_quiet : (x : Float) → is_nan x ≡ true → Constants.quiet_nan ≡ x
+unfolding is_nan of_bits
+nan_is_quiet nan e = refl
+nan_is_quiet (inf s) e = absurd (false≢true e)
+nan_is_quiet (fin s m k) e = absurd (false≢true e)
 
 -- ---- comparisons with 0.0
 -- no size is below nothing, and none but a zero's is nothing

@@ -13,58 +13,57 @@ ghost use Rattle.float64.specs.Functions.{absolute, size_of, clamp_log};
 // The Rust's bound on a log factor.
 pub const LOG_HUGE: f64 = 709.0;
 
-// A division, since infinities have no literal.
+// The library's infinity below zero.
 pub fn minus_infinity() -> f64
     ensures { result ≡ minus_infinity }
 {
-    -1.0 / 0.0
+    f64::NEG_INFINITY
 }
 
 // The NaN to store. As a constant it is compiled to 0x7FF8000000000000.
 pub fn quiet_nan() -> f64
     ensures { result ≡ quiet_nan }
 {
-    0.0 / 0.0
+    f64::NAN
 }
 
 // x, with the one NaN that is stored in place of any other.
+#[tactic(auto, using(crate::proofs::Functions::nan_is_quiet))]
 pub fn canonical(x: f64) -> f64
     ensures { result ≡ x }
 {
-    if x != x { quiet_nan() } else { x }
+    if x.is_nan() { quiet_nan() } else { x }
 }
 
 // x or -x, whichever is not below 0.0. A zero keeps its sign, which saves a test.
+#[tactic(auto, unfolding(crate::specs::Functions::size_of))]
 pub fn size_of(x: f64) -> f64
     ensures { result ≡ size_of x }
 {
     if x < 0.0 { -x } else { x }
 }
 
-// The Rust's `abs`. Zeros need a case of their own: -0.0 is not below 0.0. Two choices in a row compile without a
-// branch.
+// The library's `abs`, by the definition of the specs.
+#[tactic(auto, using(crate::proofs::Functions::size_same))]
 pub fn abs(x: f64) -> f64
     ensures { result ≡ absolute x }
 {
-    let size = size_of(x);
-    if size == 0.0 { 0.0 } else { size }
+    x.abs()
 }
 
-// Neither a NaN nor an infinity: only then is x - x zero.
+// Neither a NaN nor an infinity: the library's test, by the definition of the specs.
+#[tactic(auto, using(crate::proofs::Functions::finite_same))]
 pub fn is_finite(x: f64) -> bool
     ensures { result ≡ finite x }
 {
-    x - x == 0.0
+    x.is_finite()
 }
 
 // x held to -709..709, as the Rust's `clamp` does; a NaN stays.
 pub fn clamp_log(x: f64) -> f64
     ensures { result ≡ clamp_log x }
 {
-    if x < -LOG_HUGE {
-        return -LOG_HUGE;
-    }
-    if x > LOG_HUGE { LOG_HUGE } else { x }
+    x.clamp(-LOG_HUGE, LOG_HUGE)
 }
 
 // A double above zero as two integers, the first of 53 digits.
