@@ -1,6 +1,6 @@
 -- Sorted triplets: none of the first k is in a later column than triplet k or in a later row of its column, and one of them has its
 -- position exactly if the last one has. By comparing the numbers of positions.
-use mathlib.Core.Path.{◌≡◌, refl, sym, subst}
+use mathlib.Core.Path.{◌≡◌, refl, subst}
 use mathlib.Core.Bool.{true, false, ◌||◌}
 use mathlib.Core.List.{List}
 use Prim.Native.Nat.{ℕ, zero, suc, ◌+◌, ◌-◌, ◌≤◌, ◌<◌}
@@ -60,22 +60,3 @@ module _ (rows cols : List ℕ) where
         let row : get_or rows k 0 ≡ get_or rows (k - 1) 0 = omega (arith, r.1, ready.rows_in k h, ready.rows_in (k - 1) before) in
         let col : get_or cols k 0 ≡ get_or cols (k - 1) 0 = omega (arith, r.1, ready.rows_in k h, ready.rows_in (k - 1) before) in
         rw (row, col) (subst (λ (x : ℕ). filled rows cols (get_or rows (k - 1) 0) (get_or cols (k - 1) 0) x ≡ true) next (present rows cols (k - 1)))
-
-  -- ---- the test, one triplet further
-  pub sorted_next : (k : ℕ) → 0 < k → ((x : ℕ) → suc x < k → position rows cols x ≤ position rows cols (suc x))
-      → position rows cols (k - 1) ≤ position rows cols k → (x : ℕ) → suc x < k + 1 → position rows cols x ≤ position rows cols (suc x)
-  sorted_next k some f h x l = go (ℕ_discrete (suc x) k)
-    where
-      go : Dec (suc x ≡ k) → position rows cols x ≤ position rows cols (suc x)
-      go (yes e) =
-          let p : k - 1 ≡ x = omega arith in
-          subst (λ (y : ℕ). position rows cols x ≤ position rows cols y) (sym e)
-          (subst (λ (y : ℕ). position rows cols y ≤ position rows cols k) p h)
-      go (no e) = f x (omega arith)
-
-  pub unsorted : (k : ℕ) → 0 < k → k < length rows → position rows cols k < position rows cols (k - 1) → Sorted rows cols → ⊥
-  unsorted k some h l s =
-      let next : suc (k - 1) ≡ k = omega arith in
-      let u : position rows cols (k - 1) ≤ position rows cols k =
-      subst (λ (y : ℕ). position rows cols (k - 1) ≤ position rows cols y) next (s (k - 1) (omega arith)) in
-      omega (arith, l, u)

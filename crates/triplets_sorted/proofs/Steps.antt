@@ -15,7 +15,6 @@ use Rattle.limits.specs.Limits.{max_columns}
 use Rattle.float64.specs.Constants as Constants
 use Rattle.slices.proofs.Lists.{length_more}
 use Rattle.triplets.specs.Built.{Triplets, filled, sum_at}
-use Rattle.triplets.specs.inner.Steps.{Sized}
 use Rattle.triplets_sorted.specs.inner.Steps.{column_to, rows_to, Ready, Sorted, Repeat, Taken, Rest}
 use Rattle.triplets_sorted.proofs.Order.{none_later, none_above, fresh, repeated}
 use Rattle.triplets_sorted.proofs.Prefix.{rows_none, empty_column, column_few, other, own_again, own_new, rows_again, rows_new}
@@ -132,24 +131,7 @@ module _ (t : Triplets) (ready : Ready t.rows t.cols) (sorted : Sorted t.rows t.
             ∙ p.counts c l
             ∙ ap length (sym (other t.rows t.cols k c max_columns e))
 
-    pub rest_new : (x : Float) → Rest kept (kept + 1) row_idx values (set row_idx kept (get_or t.rows k 0)) (set values kept x)
-    rest_new x =
-        record {
-          grown = omega arith;
-          rows_rest = drop-set-lt (kept + 1) row_idx kept _ (omega arith);
-          values_rest = drop-set-lt (kept + 1) values kept x (omega arith);
-        }
-
 -- ---- the start
-pub ready_of : {n : ℕ} {rows cols col_ptr work : List ℕ} → Sized n rows cols col_ptr work → Ready rows cols
-ready_of s =
-    record {
-      entries = s.entries;
-      pairs = s.pairs;
-      rows_in = λ k h. omega (arith, s.rows_in k h, s.columns);
-      cols_in = λ k h. omega (arith, s.cols_in k h, s.columns);
-    }
-
 pub taken_start : (t : Triplets) (col_ptr row_idx : List ℕ) (values : List Float) → ((c : ℕ) → get_or col_ptr c 0 ≡ 0) → Taken t 0 0 col_ptr row_idx values
 unfolding filled
 taken_start t col_ptr row_idx values z =
@@ -160,9 +142,6 @@ taken_start t col_ptr row_idx values z =
       values_front = sym (values_none t max_columns max_columns);
       counts = λ c l. z c ∙ sym (ap length (empty_column t.rows t.cols 0 c max_columns (λ i. refl)));
     }
-
-pub rest_start : (row_idx : List ℕ) (values : List Float) → Rest 0 0 row_idx values row_idx values
-rest_start row_idx values = record { grown = le_refl 0; rows_rest = refl; values_rest = refl }
 
 -- ---- two runs
 drop_more : {A : Type 0} (x y : ℕ) (l m : List A) → x ≤ y → drop x l ≡ drop x m → drop y l ≡ drop y m
