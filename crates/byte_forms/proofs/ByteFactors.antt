@@ -9,7 +9,7 @@ use borrow.Author.Tests.{eqb-true, leb-true}
 use lib.Dec.{eqb, leb}
 use lib.ListN.{length, get_or, take, replicate, get_or-replicate}
 use lib.Seq.{sets, get_or-take}
-use lib.Ieee.{Float, nan, binary64, to_bits}
+use lib.Ieee.{Float, nan, binary64, sub, to_bits}
 use Rattle.limits.specs.Limits.{none}
 use Rattle.refusal.specs.Refusal.{too_many_columns, slice_length, matching_range}
 use Rattle.slices.specs.Outcome.{outcome_is, Outcome, refusing, as_number}
@@ -17,7 +17,7 @@ use Rattle.sparse.specs.Fault.{unless}
 use Rattle.sparse.proofs.First.{or-none, or-zero, unless_holds, all_zero, answer_first}
 use Rattle.slices.proofs.Bools.{both}
 use Rattle.matching.specs.Match.{match_of}
-use Rattle.factors_mc64.specs.Factors.{doubles_of, is_matched_row, log_factor, factor_at, symmetric_factors}
+use Rattle.factors_mc64.specs.Factors.{doubles_of, is_matched_row, log_factor, factor_at, held, symmetric_factors}
 use Rattle.factors_mc64.specs.Calls.{row_or_none, matching_fault}
 use Rattle.factors_mc64.specs.inner.Steps.{Rows, Marked}
 use Rattle.hungarian_match.proofs.LocalArrays.{part_length}
@@ -85,6 +85,13 @@ module _ (f : ℕ → Float) (n : ℕ) (d : List ℕ) where
       ∙ double_bytes_are (doubles_of f n)
 
 -- ---- unsymmetric
+-- the factors of row and column j
+abbrev pub row_at : ℕ → List ℕ → ℕ → Float
+row_at n u j = held (get_or (doubles u n) j nan)
+
+abbrev pub column_at : ℕ → List ℕ → List ℕ → ℕ → Float
+column_at n v cmax j = held (sub binary64 (get_or (doubles v n) j nan) (get_or (doubles cmax n) j nan))
+
 module _ (n : ℕ) (u v cmax rows columns : List ℕ) {found : ℕ}
     (e : found ≡ factor_sizes n (length u) (length v) (length cmax) (length rows) (eqb (length columns) (8 * n))) where
   pub sides_refused : found ≢ 0 → outcome_is found (factor_bytes rows columns) ≡ unsymmetric_bytes n u v cmax rows columns

@@ -2,6 +2,7 @@
 use mathlib.Core.Path.{◌≡◌, refl, sym, ap, ◌∙◌, subst}
 use mathlib.Core.Logic.{◌≢◌}
 use mathlib.Core.Bool.{true}
+use Rattle.std.proofs.Common.{Result, Ok, Err}
 use mathlib.Core.List.{List}
 use Prim.Native.Nat.{ℕ, zero, suc, ◌+◌, ◌*◌, ◌≤◌}
 use native.Mathlib.Omega.{arith}
@@ -10,6 +11,7 @@ use lib.Dec.{eqb, leb}
 use lib.ListN.{length}
 use lib.Ieee.{Float}
 use Rattle.refusal.specs.Refusal.{too_many_columns, too_many_entries, slice_length}
+use Rattle.refusal.specs.Number.{fault_of}
 use Rattle.slices.specs.Outcome.{outcome_is, Outcome, refusing}
 use Rattle.sparse.specs.Fault.{unless, or_else}
 use Rattle.sparse.proofs.First.{or-none, or_some, or-zero, unless_holds}
@@ -22,10 +24,7 @@ use Rattle.hungarian.specs.Optimal.{LargestMatch, Optimal}
 use Rattle.hungarian.specs.Work.{Work}
 use Rattle.hungarian.proofs.Theorems.{match_largest, match_optimal, match_work}
 use Rattle.hungarian.specs.declared.Counts.{Counts}
-use Rattle.hungarian_match.specs.declared.Answer.{Answer}
-use Rattle.hungarian_match.specs.declared.Answer.TheVariants.{Matched, Refused}
-use Rattle.hungarian_match.specs.Call.{Slices, number_of, match_outcome, match_lengths, finished, match_after}
-use Rattle.hungarian_match.proofs.Outcomes.{not_matched, same}
+use Rattle.hungarian_match.specs.Call.{Slices, match_outcome, match_lengths, finished, match_after}
 use Rattle.byte_numbers.specs.Bytes.{list_of, words, doubles}
 use Rattle.byte_forms.specs.MatchBytes.{byte_columns, byte_entries, word_count, byte_lengths, byte_sizes, GraphBytes, graph_read, MatchBytes}
 use Rattle.byte_forms.specs.MatchBytes.{match_laid, result_by, bytes_fault, match_read, match_bytes_result, BytesMatch, BytesPromised}
@@ -34,38 +33,49 @@ use Rattle.byte_forms.specs.inner.Steps.{graph_result, Laying, Roomy, Fitting, S
 use Rattle.byte_forms.proofs.ReadMatch.{match_reads_back, read_doubles}
 
 -- ---- the cases of the answer
+abbrev Answered : Type 0
+Answered = Outcome (Result Counts ℕ) Slices
+
+-- a refusal is no match
+not_matched : {k : ℕ} {m : Counts} → Err k ≡ Ok m → ⊥
+not_matched e = let z : ◌≡◌ {A = ℕ} 0 1 = cc in omega arith
+
+same : {m m' : Counts} → Ok {B = ℕ} m ≡ Ok m' → m ≡ m'
+same q = cc
+
 module _ (g : CostGraph) (s after : Slices) (old : MatchBytes) where
-  refused_by : (f k : ℕ) → outcome_is (Refused k) after ≡ refusing Refused f (finished g s) s → outcome_is k old ≡ result_by f g old
+  refused_by : (f k : ℕ) → outcome_is (Err k) after ≡ refusing Err f (finished g s) s → outcome_is k old ≡ result_by f g old
   unfolding finished result_by
-  refused_by zero k e = absurd (not_matched (ap (λ (o : Outcome Answer Slices). o.answer) e))
-  refused_by (suc f) k e = rw (ap (λ (o : Outcome Answer Slices). number_of o.answer) e) refl
+  refused_by zero k e = absurd (not_matched (ap (λ (o : Answered). o.answer) e))
+  refused_by (suc f) k e = rw (ap (λ (o : Answered). fault_of o.answer) e) refl
 
-  leaves : {m : Counts} → outcome_is (Matched m) after ≡ finished g s → match_after m after ≡ hungarian_match g
+  leaves : {m : Counts} → outcome_is (Ok m) after ≡ finished g s → match_after m after ≡ hungarian_match g
   unfolding finished
-  leaves e = rw (same (ap (λ (o : Outcome Answer Slices). o.answer) e), ap (λ (o : Outcome Answer Slices). o.after) e) refl
+  leaves e = rw (same (ap (λ (o : Answered). o.answer) e), ap (λ (o : Answered). o.after) e) refl
 
-  matched_by_lem : (f : ℕ) (m : Counts) {bytes : MatchBytes} → outcome_is (Matched m) after ≡ refusing Refused f (finished g s) s
+  matched_by_lem : (f : ℕ) (m : Counts) {bytes : MatchBytes} → outcome_is (Ok m) after ≡ refusing Err f (finished g s) s
       → bytes ≡ match_laid (match_after m after) → outcome_is 0 bytes ≡ result_by f g old
   unfolding result_by
   matched_by_lem zero m e b = ap (outcome_is 0) (b ∙ ap match_laid (leaves e))
-  matched_by_lem (suc f) m e b = absurd (not_matched (sym (ap (λ (o : Outcome Answer Slices). o.answer) e)))
+  matched_by_lem (suc f) m e b = absurd (not_matched (sym (ap (λ (o : Answered). o.answer) e)))
 
 fits : {g : CostGraph} {s : Slices} → Fitting g s → match_lengths g s ≡ true
 unfolding match_lengths
 fits f = rw (f.graph, eq-eqb _ _ f.perm, eq-eqb _ _ f.u, eq-eqb _ _ f.v, eq-eqb _ _ f.work, eq-eqb _ _ f.fwork) refl
 
-module _ {g : CostGraph} {s after : Slices} {a : Answer} (f : Fitting g s) (old : MatchBytes) (e : outcome_is a after ≡ match_outcome g s) where
-  tested : match_outcome g s ≡ refusing Refused (graph_fault g true) (finished g s) s
+module _ {g : CostGraph} {s after : Slices} (f : Fitting g s) (old : MatchBytes) where
+  tested : match_outcome g s ≡ refusing Err (graph_fault g true) (finished g s) s
   unfolding match_outcome
   tested = rw (fits f) refl
 
-  pub refused_bytes : {k : ℕ} → a ≡ Refused k → outcome_is k old ≡ graph_result g old
+  pub refused_bytes : {k : ℕ} → outcome_is (Err k) after ≡ match_outcome g s → outcome_is k old ≡ graph_result g old
   unfolding graph_result
-  refused_bytes {k} q = refused_by g s after old (graph_fault g true) k (sym (ap (λ (x : Answer). outcome_is x after) q) ∙ e ∙ tested)
+  refused_bytes {k} e = refused_by g s after old (graph_fault g true) k (e ∙ tested)
 
-  pub matched_bytes : {m : Counts} {bytes : MatchBytes} → a ≡ Matched m → bytes ≡ match_laid (match_after m after) → outcome_is 0 bytes ≡ graph_result g old
+  pub matched_bytes : {m : Counts} {bytes : MatchBytes} → outcome_is (Ok m) after ≡ match_outcome g s → bytes ≡ match_laid (match_after m after)
+      → outcome_is 0 bytes ≡ graph_result g old
   unfolding graph_result
-  matched_bytes {m} q b = matched_by_lem g s after old (graph_fault g true) m (sym (ap (λ (x : Answer). outcome_is x after) q) ∙ e ∙ tested) b
+  matched_bytes {m} e b = matched_by_lem g s after old (graph_fault g true) m (e ∙ tested) b
 
 -- room for a match of n columns is room for lists of n
 pub laying : {n : ℕ} {rows_of : List ℕ} {row_duals col_duals : List Float} {s : MatchBytes} → Roomy n s → length rows_of ≡ n → length row_duals ≡ n

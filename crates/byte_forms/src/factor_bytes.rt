@@ -16,6 +16,7 @@ use limits::NONE;
 use refusal::Refusal;
 
 // Refusals 1 and 3. `others` says whether the other slices have their lengths; all but it and n are lengths.
+#[tactic(auto, unfolding(crate::specs::FactorBytes::factor_sizes))]
 pub fn size_fault(
     n: u32,
     u: usize,

@@ -30,6 +30,7 @@ const MATCH_DOUBLES: usize = 2 * COLUMNS;
 const ANSWER_BYTES: usize = 8 * hungarian_match::ANSWER_LENGTH;
 
 // Whether every byte slice has its length. Numbers are lengths.
+#[tactic(auto, unfolding(crate::specs::MatchBytes::byte_lengths))]
 fn lengths_fit(
     n: usize,
     col_ptr: usize,
@@ -50,6 +51,7 @@ fn lengths_fit(
 }
 
 // Refusals 1, 2 and 3. All but n are lengths.
+#[tactic(auto, unfolding(crate::specs::MatchBytes::byte_sizes))]
 pub fn size_fault(
     n: u32,
     col_ptr: usize,
@@ -76,6 +78,7 @@ pub fn size_fault(
 }
 
 // Writes a match as bytes.
+#[tactic(auto, unfolding(crate::specs::MatchBytes::match_laid))]
 fn put_match(
     rows_of: &[u32],
     row_duals: &[f64],
