@@ -37,10 +37,10 @@ abbrev Answered : Type 0
 Answered = Outcome (Result Counts ℕ) Slices
 
 -- a refusal is no match
-not_matched : {k : ℕ} {m : Counts} → Err k ≡ Ok m → ⊥
+not_matched : {k : ℕ} {m : Counts} → ◌≡◌ {A = Result Counts ℕ} (Err k) (Ok m) → ⊥
 not_matched e = let z : ◌≡◌ {A = ℕ} 0 1 = cc in omega arith
 
-same : {m m' : Counts} → Ok {B = ℕ} m ≡ Ok m' → m ≡ m'
+same : {m m' : Counts} → ◌≡◌ {A = Result Counts ℕ} (Ok m) (Ok m') → m ≡ m'
 same q = cc
 
 module _ (g : CostGraph) (s after : Slices) (old : MatchBytes) where
@@ -63,19 +63,19 @@ fits : {g : CostGraph} {s : Slices} → Fitting g s → match_lengths g s ≡ tr
 unfolding match_lengths
 fits f = rw (f.graph, eq-eqb _ _ f.perm, eq-eqb _ _ f.u, eq-eqb _ _ f.v, eq-eqb _ _ f.work, eq-eqb _ _ f.fwork) refl
 
-module _ {g : CostGraph} {s after : Slices} (f : Fitting g s) (old : MatchBytes) where
+module _ {g : CostGraph} {s : Slices} (f : Fitting g s) (old : MatchBytes) where
   tested : match_outcome g s ≡ refusing Err (graph_fault g true) (finished g s) s
   unfolding match_outcome
   tested = rw (fits f) refl
 
-  pub refused_bytes : {k : ℕ} → outcome_is (Err k) after ≡ match_outcome g s → outcome_is k old ≡ graph_result g old
+  pub refused_bytes : {k : ℕ} {after : Slices} → outcome_is (Err k) after ≡ match_outcome g s → outcome_is k old ≡ graph_result g old
   unfolding graph_result
-  refused_bytes {k} e = refused_by g s after old (graph_fault g true) k (e ∙ tested)
+  refused_bytes {k} {after} e = refused_by g s after old (graph_fault g true) k (e ∙ tested)
 
-  pub matched_bytes : {m : Counts} {bytes : MatchBytes} → outcome_is (Ok m) after ≡ match_outcome g s → bytes ≡ match_laid (match_after m after)
+  pub matched_bytes : {m : Counts} {after : Slices} {bytes : MatchBytes} → outcome_is (Ok m) after ≡ match_outcome g s → bytes ≡ match_laid (match_after m after)
       → outcome_is 0 bytes ≡ graph_result g old
   unfolding graph_result
-  matched_bytes {m} e b = matched_by_lem g s after old (graph_fault g true) m (e ∙ tested) b
+  matched_bytes {m} {after} e b = matched_by_lem g s after old (graph_fault g true) m (e ∙ tested) b
 
 -- room for a match of n columns is room for lists of n
 pub laying : {n : ℕ} {rows_of : List ℕ} {row_duals col_duals : List Float} {s : MatchBytes} → Roomy n s → length rows_of ≡ n → length row_duals ≡ n
