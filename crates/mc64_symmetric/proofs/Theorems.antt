@@ -25,6 +25,8 @@ use Rattle.slices.proofs.Bools.{both}
 use Rattle.sparse.proofs.Listed.{Listed, test, or_listed, first_listed, within, part}
 use Rattle.sparse.proofs.Theorems.{size_numbers, sizes_listed, symmetric_listed}
 use Rattle.refusal.specs.Refusal.{cost_range, value_not_finite}
+use Rattle.std.specs.Prelude.{Result}
+use Rattle.refusal.specs.Number.{fault_of}
 use Rattle.refusal.specs.Listed.{listed, symmetric_numbers, symmetric_graph_numbers}
 use Rattle.slices.specs.Outcome.{outcome_is}
 use Rattle.hungarian.specs.Accepted.{Accepted}
@@ -33,8 +35,7 @@ use Rattle.cost_limit.specs.Range.{in_log_range}
 use Rattle.sparse.specs.Matrix.{Matrix, matrix}
 use Rattle.sparse.specs.Pattern.{row_of, column_of, InColumn}
 use Rattle.sparse.proofs.Columns.{pointers_rise, in_column_lem, rows_apart}
-use Rattle.mc64_columns.specs.Graphs.{Slices, slices_fit, number_of, AnswersBy, outcome, rows_of, logs_at, kept_before, graph_pointers, graph_rows, graph_costs}
-use Rattle.mc64_columns.specs.declared.Built.{Built}
+use Rattle.mc64_columns.specs.Graphs.{Slices, slices_fit, AnswersBy, outcome, rows_of, logs_at, kept_before, graph_pointers, graph_rows, graph_costs}
 use Rattle.mc64_columns.proofs.Kept.{keep_all, keep_rises, keep_alike}
 use Rattle.mc64_columns.proofs.Graphs.{row_at, columns_rise, columns_accepted, columns_match}
 use Rattle.mc64_columns.proofs.Calls.{in_list, outcome_listed, outcome_alike}
@@ -204,7 +205,7 @@ module _ (m : Matrix) (logs : List Float) (s : Slices) (fine : input_fault m log
       let z = or-zero (size_fault m.pattern.n max_symmetric (length m.pattern.row_idx) (lengths_fit m logs s)) _ fine in
       let o = or-zero (symmetric_fault m) _ z.1 in
       let places = (all_zero (place_fault m.pattern.n m.values logs) (length m.values)).0 o.1 in
-      go (eq (get_or m.values k nan) Constants.zero) (or-zero (value_fault m.values k) _ (places k (omega (arith, (ready m logs s fine).0.stored)))).1 e
+      go (eq (get_or m.values k nan) Constants.zero) (or-zero (value_fault (get_or m.values k nan)) _ (places k (omega (arith, (ready m logs s fine).0.stored)))).1 e
     where
       go : (b : Bool) → unless (b || in_log_range m.pattern.n (get_or logs k nan)) cost_range ≡ 0 → not b ≡ true
           → in_log_range m.pattern.n (get_or logs k nan) ≡ true
@@ -235,14 +236,14 @@ pub fault_listed : (m : Matrix) (logs : List Float) (s : Slices) → Listed symm
 fault_listed m logs s = input_listed m logs (lengths_fit m logs s)
 
 -- all that the call promises, from an outcome by its fault
-pub promised : (m : Matrix) (logs : List Float) (s : Slices) {r : Built} {after : Slices}
+pub promised : (m : Matrix) (logs : List Float) (s : Slices) {r : Result ℕ ℕ} {after : Slices}
     → (outcome_is r after ≡ outcome (cost_graph_fault m logs s) m.pattern.n (mirrored_columns m) logs s)
     × AnswersBy (cost_graph_fault m logs s) (kept_before (mirrored_columns m) m.pattern.n) r
     → Promises m logs s r after
 unfolding cost_graph
 promised m logs s p = record { outcome = p.0; answered = p.1; number = in_list (fault_listed m logs s) p.1 }
 
-pub graph_listed : (m : Matrix) (logs : List Float) (s : Slices) → Listed symmetric_graph_numbers (number_of (cost_graph m logs s).answer)
+pub graph_listed : (m : Matrix) (logs : List Float) (s : Slices) → Listed symmetric_graph_numbers (fault_of (cost_graph m logs s).answer)
 unfolding cost_graph
 graph_listed m logs s = outcome_listed m.pattern.n (mirrored_columns m) logs s (cost_graph_fault m logs s) (fault_listed m logs s)
 
@@ -258,7 +259,7 @@ module _ (m : Matrix) (logs other : List Float) (s : Slices) (agree : Agree (kep
       ap (λ (fault : ℕ → ℕ). first_of (length m.values) fault 0)
       (fun_ext
       (λ k.
-      ap (λ (fine : Bool). or_else (value_fault m.values k) (unless fine cost_range))
+      ap (λ (fine : Bool). or_else (value_fault (get_or m.values k nan)) (unless fine cost_range))
       (fits_alike m.pattern.n (eq (get_or m.values k nan) Constants.zero) (get_or logs k nan) (get_or other k nan) (agree_at (kept m) logs other agree k))))
 
   places_alike : (c k : ℕ) → logs_at logs (places_to m c k) ≡ logs_at other (places_to m c k)
