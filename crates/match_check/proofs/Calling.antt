@@ -30,10 +30,9 @@ use Rattle.hungarian.specs.Optimal.{WholeCosts}
 use Rattle.hungarian.specs.inner.Setting.{Setting}
 use Rattle.hungarian.proofs.Accepts.{near_setting}
 use Rattle.hungarian_match.proofs.Tests.{match_listed}
-use Rattle.match_check.specs.declared.Verdict.{Verdict}
 use Rattle.match_check.specs.Check.{Claim, check_lengths, is_whole, whole_costs, small_whole, small_wholes, duals_hold, pairing_fits, sums_reached}
 use Rattle.match_check.specs.Check.{claim_fault, check_fault}
-use Rattle.match_check.specs.Call.{number_of, verdict_of, checked, Certified, Exactly, Promises}
+use Rattle.match_check.specs.Call.{Certified, Promises}
 use Rattle.match_check.specs.inner.Steps.{Checkable}
 use Rattle.match_check.proofs.Every.{every_first, first_every, every_same}
 use Rattle.match_check.proofs.Wholes.{whole_is, is_whole_lem}
@@ -176,44 +175,23 @@ module _ (g : CostGraph) (s : Claim) (d : Doubles g) (b : Doubled s) where
   ) refl
 
   -- ---- what follows of any answer
-  number_is : (f : ℕ) → number_of (verdict_of f) ≡ f
-  unfolding verdict_of
-  number_is zero = refl
-  number_is (suc f) = refl
-
-  pub promises : {r : Verdict} → r ≡ checked g s → Promises g s r
-  unfolding checked
-  promises {r} e =
-      let n : number_of r ≡ check_fault g s = ap number_of e ∙ number_is (check_fault g s) in
-      let numbered : OneOf check_numbers (number_of r) = subst (OneOf check_numbers) (sym n) (check_listed g s).is in
-      let exactly : Exactly g s (number_of r) = (λ z. accepted_certified (sym n ∙ z), λ c. n ∙ certified_accepted c) in
-      record {
-        answer = e;
-        number = numbered;
-        exactly = exactly;
-        least = λ z. certified_least g s (accepted_certified (sym n ∙ z));
-        ours = λ o. n ∙ certified_accepted (left_certified g s o);
-      }
+  pub promises : {r : ℕ} → r ≡ check_fault g s → Promises g s r
+  promises n = record {
+    answer = n;
+    number = subst (OneOf check_numbers) (sym n) (check_listed g s).is;
+    exactly = (λ z. accepted_certified (sym n ∙ z), λ c. n ∙ certified_accepted c);
+    least = λ z. certified_least g s (accepted_certified (sym n ∙ z));
+    ours = λ o. n ∙ certified_accepted (left_certified g s o);
+  }
 
 -- ---- the answers of the call
-refused_is : (g : CostGraph) (s : Claim) {f : ℕ} → f ≢ 0 → f ≡ check_fault g s → Verdict.Refused f ≡ checked g s
-unfolding checked verdict_of
-refused_is g s {f} z e = go f z ∙ ap verdict_of e
-  where
-    go : (f : ℕ) → f ≢ 0 → Verdict.Refused f ≡ verdict_of f
-    go zero z = absurd (z refl)
-    go (suc f) z = refl
-
-pub eight : cost_range ≢ 0
-eight e = let z : ⊥ = omega arith in absurd z
-
 module _ (g : CostGraph) (s : Claim) {graph : ℕ} {lengths : Bool} (f : graph ≡ graph_fault g lengths) (l : lengths ≡ check_lengths g s) where
   tested : graph ≡ graph_fault g (check_lengths g s)
   tested = f ∙ ap (graph_fault g) l
 
-  pub by_graph : graph ≢ 0 → Verdict.Refused graph ≡ checked g s
+  pub by_graph : graph ≢ 0 → graph ≡ check_fault g s
   unfolding check_fault
-  by_graph z = refused_is g s z (answer_first _ tested z)
+  by_graph z = answer_first _ tested z
 
   module _ (z : graph ≡ 0) where
     pub passed_graph : graph_fault g (check_lengths g s) ≡ 0
@@ -223,21 +201,13 @@ module _ (g : CostGraph) (s : Claim) {graph : ℕ} {lengths : Bool} (f : graph �
       costs_are : whole ≡ whole_costs g.cost
       costs_are = w ∙ costs_same g (graph_accepted g s passed_graph) d
 
-      pub by_cost : whole ≡ false → Verdict.Refused cost_range ≡ checked g s
+      pub by_cost : whole ≡ false → cost_range ≡ check_fault g s
       unfolding check_fault
-      by_cost t = refused_is g s eight
-          (answer_second tested z (answer_first {a = unless (whole_costs g.cost) cost_range} _ (let q : whole_costs g.cost ≡ false =
-          sym costs_are ∙ t in rw q refl) eight))
+      by_cost t =
+          answer_second tested z (answer_first {a = unless (whole_costs g.cost) cost_range} _ (let q : whole_costs g.cost ≡ false =
+          sym costs_are ∙ t in rw q refl) (λ e. omega arith))
 
-      module _ (t : whole ≡ true) {fault : ℕ} (c : fault ≡ claim_fault g s) where
-        last : fault ≡ check_fault g s
-        unfolding check_fault
-        last = answer_second tested z
-            (answer_second {w = 0} {a = unless (whole_costs g.cost) cost_range} (let q : whole_costs g.cost ≡ true = sym costs_are ∙ t in rw q refl) refl c)
-
-        pub by_claim : fault ≢ 0 → Verdict.Refused fault ≡ checked g s
-        by_claim n = refused_is g s n last
-
-        pub by_none : fault ≡ 0 → Verdict.Accepted ≡ checked g s
-        unfolding checked verdict_of
-        by_none n = let q : check_fault g s ≡ 0 = sym last ∙ n in rw q refl
+      pub by_claim : whole ≡ true → {fault : ℕ} → fault ≡ claim_fault g s → fault ≡ check_fault g s
+      unfolding check_fault
+      by_claim t c = answer_second tested z
+          (answer_second {w = 0} {a = unless (whole_costs g.cost) cost_range} (let q : whole_costs g.cost ≡ true = sym costs_are ∙ t in rw q refl) refl c)

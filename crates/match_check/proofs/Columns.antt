@@ -1,4 +1,6 @@
 -- The loops over columns: where a column's entries are, and how the column's own test counts among all.
+use Rattle.std.proofs.Common.{take, drop}
+use Rattle.std.proofs.lemmas.List.{get_or-take, get_or-drop, length-take-le, length-drop}
 use mathlib.Core.Path.{◌≡◌, sym, ap, ◌∙◌}
 use mathlib.Core.Bool.{Bool}
 use mathlib.Core.List.{List}
@@ -28,6 +30,14 @@ stretch c j h = record {
   costs = c.costs;
   rows = λ k l. let b = c.pattern.columns.inside k l in omega (arith, c.row_duals);
 }
+
+-- the entries of a column as a list of their own
+module _ {A : Type 0} (list : List A) (from to : ℕ) (l : from ≤ to) (h : to ≤ length list) where
+  pub part_length : length (take (to - from) (drop from list)) ≡ to - from
+  part_length = length-take-le (to - from) (drop from list) (omega (arith, length-drop from list))
+
+  pub part_at : (i : ℕ) (d : A) → i < to - from → get_or (take (to - from) (drop from list)) i d ≡ get_or list (from + i) d
+  part_at i d b = get_or-take (to - from) (drop from list) i d b ∙ get_or-drop from list i d
 
 -- the code's next column is the definition's
 pub every_column : (col_ptr : List ℕ) (f : ℕ → Bool) (j : ℕ) {r : Bool} → r ≡ every_of (get_or col_ptr (j + 1) 0 - get_or col_ptr j 0) f (get_or col_ptr j 0)

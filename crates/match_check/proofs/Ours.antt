@@ -7,6 +7,8 @@ use native.Mathlib.Nat.{le_refl}
 use native.Mathlib.Omega.{arith}
 use lib.Dec.{eqb}
 use lib.ListN.{length, get_or}
+use Rattle.std.proofs.Common.{Err}
+use Rattle.refusal.specs.Number.{fault_of}
 use Rattle.slices.specs.Outcome.{refusing}
 use Rattle.float64.specs.Number.{Number, units_per_one}
 use Rattle.cost_limit.specs.Range.{cost_limit}
@@ -22,8 +24,7 @@ use Rattle.hungarian.proofs.Theorems.{turns, exact_start, match_optimal, match_s
 use Rattle.hungarian_match.specs.inner.Last.{last_pairs, last_duals}
 use Rattle.hungarian_match.proofs.Calls.{accepted_lengths, last_matched, last_finishes}
 use Rattle.hungarian_match.proofs.Finishing.{duals_length, rows_length}
-use Rattle.hungarian_match.specs.Call.{match_fault, number_of, counts_left, finished, match_outcome}
-use Rattle.hungarian_match.specs.declared.Answer.TheVariants.{Refused}
+use Rattle.hungarian_match.specs.Call.{match_fault, counts_left, finished, match_outcome}
 use Rattle.match_check.specs.Check.{Claim, claim}
 use Rattle.match_check.specs.Call.{Certified, Ours, claim_left}
 
@@ -83,8 +84,8 @@ pub left_certified : (g : CostGraph) (s : Claim) → Ours g s → Certified g s
 unfolding match_outcome finished
 left_certified g s o = go (match_fault g o.before) refl o.number o.matched o.left
   where
-    go : (fault : ℕ) → match_fault g o.before ≡ fault → number_of (refusing Refused fault (finished g o.before) o.before).answer ≡ 0
-        → get_or (counts_left (refusing Refused fault (finished g o.before) o.before).answer o.counts) 0 0 ≡ g.pattern.n
-        → s ≡ claim_left (refusing Refused fault (finished g o.before) o.before).after → Certified g s
+    go : (fault : ℕ) → match_fault g o.before ≡ fault → fault_of (refusing Err fault (finished g o.before) o.before).answer ≡ 0
+        → get_or (counts_left (refusing Err fault (finished g o.before) o.before).answer o.counts) 0 0 ≡ g.pattern.n
+        → s ≡ claim_left (refusing Err fault (finished g o.before) o.before).after → Certified g s
     go zero e z full left = ours_certified g s (record { graph = (accepted_lengths g o.before e).accepted; costs = o.costs; left = left; full = full })
     go (suc fault) e z full left = let w : ⊥ = omega arith in absurd w

@@ -135,7 +135,7 @@ pub fn pairing_fits(n: u32, col_ptr: &[u32], row_idx: &[u32], perm: &[u32]) -> b
     pairs_stand(n as usize, col_ptr, row_idx, perm)
 }
 
-// Whether a test holds of each entry of a column: of whether it is the column's pair, the sum of its duals, and its cost.
+// Whether a test holds of each entry of a column: of whether it is the column's pair, its sum of duals, and its cost.
 fn column_holds<F: Fn(bool, f64, f64) -> bool>(
     pair: u32,
     row_idx: &[u32],

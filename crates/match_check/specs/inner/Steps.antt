@@ -36,7 +36,9 @@ sum_holds holds g s j k =
     holds (eqb (row_of g.pattern k) (row_for s j)) (add binary64 (row_dual s (row_of g.pattern k)) (column_dual s j))
     (cost_of g k)
 
+abbrev pub column_sums_hold : (Bool → Float → Float → Bool) → CostGraph → Claim → ℕ → Bool
+column_sums_hold holds g s j =
+    every_of (end g.pattern j - start g.pattern j) (sum_holds holds g s j) (start g.pattern j)
+
 unfoldable pub sums_hold : (Bool → Float → Float → Bool) → CostGraph → Claim → Bool
-sums_hold holds g s =
-    every_of g.pattern.n
-    (λ j. every_of (end g.pattern j - start g.pattern j) (sum_holds holds g s j) (start g.pattern j)) 0
+sums_hold holds g s = every_of g.pattern.n (column_sums_hold holds g s) 0
