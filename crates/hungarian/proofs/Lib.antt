@@ -21,6 +21,7 @@ pub mod InitSwaps
 pub mod InitSeeks
 pub mod InitImproved
 pub mod Initial
+pub mod Larger
 pub mod Run
 pub mod DualBound
 pub mod Finish

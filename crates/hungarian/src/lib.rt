@@ -53,6 +53,7 @@ pub struct Counts {
 
 impl HungarianStats {
     // The heap is made, with a slot for each of n rows.
+    #[tactic(auto, unfolding(crate::specs::Counts::heap_made))]
     pub fn heap_made(mut self, n: u64) -> Self
         requires { self.heap_init_slots + n < 2 ^ 64 }
         ensures { result ≡ heap_made n self }
@@ -62,6 +63,7 @@ impl HungarianStats {
     }
 
     // One more search.
+    #[tactic(auto, unfolding(crate::specs::Counts::search_begun))]
     pub fn search_begun(mut self) -> Self
         requires { self.augment_searches + 1 < 2 ^ 64 }
         ensures { result ≡ search_begun self }
@@ -71,6 +73,7 @@ impl HungarianStats {
     }
 
     // A search that touched t rows ends; each row gives its slot back.
+    #[tactic(auto, unfolding(crate::specs::Counts::search_ended))]
     pub fn search_ended(mut self, t: u64) -> Self
         requires { (self.heap_init_slots + t < 2 ^ 64) × (self.touched_total + t < 2 ^ 64) }
         ensures { result ≡ search_ended t self }
@@ -81,6 +84,7 @@ impl HungarianStats {
     }
 
     // One more inner step of phase 3 (SPECIFICATION 5.6).
+    #[tactic(auto, unfolding(crate::specs::Counts::inner_step))]
     pub fn inner_step(mut self) -> Self
         requires { self.phase3_inner_iters + 1 < 2 ^ 64 }
         ensures { result ≡ inner_step self }
@@ -90,6 +94,7 @@ impl HungarianStats {
     }
 
     // A column of m entries is scanned.
+    #[tactic(auto, unfolding(crate::specs::Counts::column_scanned))]
     pub fn column_scanned(mut self, m: u64) -> Self
         requires { self.main_loop_edge_scans + m < 2 ^ 64 }
         ensures { result ≡ column_scanned m self }
@@ -99,6 +104,7 @@ impl HungarianStats {
     }
 
     // A search popped p rows.
+    #[tactic(auto, unfolding(crate::specs::Counts::rows_popped))]
     pub fn rows_popped(mut self, p: u64) -> Self
         requires { self.popped_total + p < 2 ^ 64 }
         ensures { result ≡ rows_popped p self }
@@ -108,6 +114,7 @@ impl HungarianStats {
     }
 
     // A search's heap held up to h rows.
+    #[tactic(auto, using(crate::proofs::Larger::larger_max), unfolding(crate::specs::Counts::heap_seen))]
     pub fn heap_seen(mut self, h: u64) -> Self
         ensures { result ≡ heap_seen h self }
     {
