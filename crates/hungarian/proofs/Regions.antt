@@ -1,12 +1,15 @@
 -- Regions of a slice: a store inside one is a store in its list, a store elsewhere leaves it, and a word of it is the slice's word.
 use mathlib.Core.Path.{◌≡◌, refl, sym, ap, ◌∙◌, subst}
 use mathlib.Core.Logic.{◌⊎◌, inl, inr}
-use mathlib.Core.List.{List, [], ◌∷◌}
+use mathlib.Core.List.{List, [], ◌∷◌, ◌++◌}
 use Prim.Native.Nat.{ℕ, zero, suc, ◌+◌, ◌-◌, ◌*◌, ◌≤◌, ◌<◌}
 use native.Mathlib.Nat.{mul-le-mul_right, suc-mul}
 use native.Mathlib.Omega.{arith}
-use lib.ListN.{length, get_or, take, drop, set, length-drop}
+use lib.ListN.{length, get_or, take, drop, set, replicate, length-drop, length-replicate}
 use lib.Seq.{length-take-le, take-take, get_or-take, get_or-drop, take-set-lt, take-set-le, drop-set-lt, drop-set-add}
+use lib.Seq.{drop-append_seam, drop-append-add}
+use Rattle.std.proofs.lemmas.List.{drop-append-le, drop-replicate, take-append-le, take-replicate, take_at}
+use Rattle.std.proofs.lemmas.Slice.{drop-append-drop}
 use Rattle.hungarian.specs.inner.Layout.{region}
 
 -- a region below another ends where the other begins, or before
@@ -50,3 +53,31 @@ part_front (suc m) n (suc b) (x ∷ w) h = part_front m n b w (omega arith)
 pub region_front : {A : Type 0} (r n b : ℕ) (w w' : List A) → r * n + n ≤ b → take b w' ≡ take b w → region r n w' ≡ region r n w
 unfolding region
 region_front {A} r n b w w' h e = sym (part_front (r * n) n b w' h) ∙ ap (λ (l : List A). take n (drop (r * n) l)) e ∙ part_front (r * n) n b w h
+
+-- ---- a slice after a write to part of it: what was before the part, the part, what is behind it
+module _ {A : Type 0} (r n : ℕ) where
+  pub region_before : (a : ℕ) (w y : List A) → r * n + n ≤ a → a ≤ length w → region r n (take a w ++ y) ≡ region r n w
+  region_before a w y h l = region_front r n a w (take a w ++ y) h (take_at (take a w) y a (length-take-le a w l))
+
+  pub region_behind : (b : ℕ) (w y : List A) → b ≤ r * n → length y ≡ b → region r n (y ++ drop b w) ≡ region r n w
+  unfolding region
+  region_behind b w y h e = ap (take n) (drop-append-drop b w y (r * n) h e)
+
+  -- the part is the region
+  pub region_written : (p x y : List A) → length p ≡ r * n → length x ≡ n → region r n (p ++ (x ++ y)) ≡ x
+  unfolding region
+  region_written p x y a b = rw (← a, drop-append_seam p (x ++ y)) (take_at x y n b)
+
+  -- the part has one value, and the region is within it
+  pub region_filled : (p y : List A) (m : ℕ) (v : A) → length p ≤ r * n → r * n + n ≤ length p + m → region r n (p ++ (replicate m v ++ y)) ≡ replicate n v
+  unfolding region
+  region_filled p y m v a b =
+      let k : ℕ = r * n - length p in
+      let e : length p + k ≡ r * n = omega arith in
+      rw (
+        ← e,
+        drop-append-add p (replicate m v ++ y) k,
+        drop-append-le k (replicate m v) y (rw length-replicate (omega arith)),
+        drop-replicate k m v,
+        take-append-le n (replicate (m - k) v) y (rw length-replicate (omega arith)),
+      ) (take-replicate n (m - k) v (omega arith))

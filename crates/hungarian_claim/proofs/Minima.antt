@@ -2,12 +2,12 @@
 use mathlib.Core.Path.{◌≡◌, refl, sym, ◌∙◌}
 use mathlib.Core.Logic.{inl, inr}
 use mathlib.Core.Bool.{Bool, true, false, cond, ◌&&◌, ◌||◌, false≢true}
-use mathlib.Core.List.{List}
+use mathlib.Core.List.{List, [], ◌++◌}
 use Prim.Native.Nat.{ℕ, ◌+◌, ◌*◌, ◌≤◌, ◌<◌}
 use native.Mathlib.Omega.{arith}
 use lib.Dec.{T, eqb, eqb_refl}
-use lib.ListN.{length, get_or, take, set, replicate, length-set, length-replicate, get_or-replicate}
-use lib.Seq.{set-get_or}
+use lib.ListN.{length, get_or, take, drop, set, replicate, length-set}
+use lib.Seq.{set-get_or, length-take-le}
 use lib.Ieee.{Float, nan, inf, fin, le, lt, eq, level, below, up, down}
 use Rattle.limits.specs.Limits.{none}
 use Rattle.float64.specs.Constants.{rinf}
@@ -16,80 +16,24 @@ use Rattle.sparse.specs.Pattern.{row_of, start, end}
 use Rattle.hungarian.specs.Graph.{CostGraph, cost_of}
 use Rattle.hungarian.specs.Init.{lower, phase1}
 use Rattle.hungarian.specs.inner.Layout.{region, iperm_at, jperm_at, least_at}
-use Rattle.hungarian.proofs.Regions.{region_length}
+use Rattle.hungarian.proofs.Regions.{region_filled}
 use Rattle.hungarian_claim.specs.inner.Memory.{minima_of, Ready}
 use Rattle.hungarian_claim.specs.inner.Steps.{Cleared, Lowered, Minimal}
-use Rattle.slices.proofs.Lists.{copied, whole}
 use Rattle.hungarian_claim.proofs.Words.{each_more, each_none, stop, stop_is, entry_in, store, apart}
 
--- ---- the first i rows and columns are cleared
-pub record Clearing (n : ℕ) (u : List Float) (w : List ℕ) (i : ℕ) : Type 0 where
-  pub within : i ≤ n
-  pub dual_count : length u ≡ n
-  pub words : length w ≡ 12 * n + 1
-  pub duals : take i u ≡ take i (replicate n rinf)
-  pub rows : take i (region iperm_at n w) ≡ take i (replicate n none)
-  pub entries : take i (region jperm_at n w) ≡ take i (replicate n none)
-  pub least : take i (region least_at n w) ≡ take i (replicate n none)
+-- ---- the first three regions are one part of the slice, with one value
+pub cleared : (n : ℕ) (u u' : List Float) (w x : List ℕ) → length u ≡ n → length w ≡ 12 * n + 1 → u' ≡ replicate (length u) rinf
+    → x ≡ replicate (length (take (3 * n) w)) none → Cleared n u' (x ++ drop (3 * n) w)
+cleared n u u' w x a l duals words = record { minima = rw (e, d, one 0 (omega arith), one 2 (omega arith)) refl; entries = rw e (one 1 (omega arith)) }
+  where
+    d : u' ≡ replicate n rinf
+    d = rw a at duals
 
-pub clearing_start : (n : ℕ) (u : List Float) (w : List ℕ) → length u ≡ n → length w ≡ 12 * n + 1 → Clearing n u w 0
-clearing_start n u w h l = record { within = omega arith; dual_count = h; words = l; duals = refl; rows = refl; entries = refl; least = refl }
+    e : x ≡ replicate (3 * n) none
+    e = rw (length-take-le (3 * n) w (omega arith)) at words
 
-module _ {n : ℕ} {u : List Float} {w : List ℕ} {i : ℕ} (c : Clearing n u w i) where
-  pub clearing_turn : i < n → Clearing n (set u i rinf) (set (set (set w i none) (n + i) none) (2 * n + i) none) (i + 1)
-  clearing_turn h = record {
-    within = omega arith;
-    dual_count = simp length-set c.dual_count;
-    words = simp length-set c.words;
-    duals = copied u (replicate n rinf) i rinf nan (omega (arith, c.dual_count)) (rw (length-replicate n rinf) h) (sym (get_or-replicate n i rinf nan h))
-        c.duals;
-    rows = rw (
-      apart least_at n b (2 * n + i) i (omega arith) h iperm_at none (inl (omega arith)),
-      apart jperm_at n a (n + i) i
-          (omega arith) h iperm_at none (inl (omega arith)),
-      store iperm_at n w i i (omega arith) h none,
-    ) (same iperm_at (omega (arith, c.words)) c.rows);
-    entries = rw (
-      apart least_at n b (2 * n + i) i (omega arith) h jperm_at none (inl (omega arith)),
-      store jperm_at n a (n + i) i (omega arith) h none,
-      apart iperm_at n w i i (omega arith) h jperm_at none (inr (omega arith)),
-    ) (same jperm_at (omega (arith, c.words)) c.entries);
-    least = rw (
-      store least_at n b (2 * n + i) i (omega arith) h none,
-      apart jperm_at n a (n + i) i (omega arith) h least_at none (inr (omega arith)),
-      apart iperm_at n w i i (omega arith) h least_at none (inr (omega arith)),
-    ) (same least_at (omega (arith, c.words)) c.least);
-  }
-    where
-      a : List ℕ
-      a = set w i none
-
-      b : List ℕ
-      b = set a (n + i) none
-
-      same : (r : ℕ) → r * n + n ≤ length w → take i (region r n w) ≡ take i (replicate n none) → take (i + 1) (set (region r n w) i none) ≡ take
-          (i + 1) (replicate n none)
-      same r l e = copied (region r n w) (replicate n none) i none 0 (rw (region_length r n w l) h) (rw (length-replicate n none) h)
-          (sym (get_or-replicate n i none 0 h)) e
-
-  pub clearing_end : n ≤ i → Cleared n u w
-  clearing_end l = record {
-    minima =
-        rw (
-          whole n u (replicate n rinf) c.dual_count (length-replicate n rinf) (rw end at c.duals),
-          full iperm_at (omega (arith, c.words))
-              (rw end at c.rows),
-          full least_at (omega (arith, c.words)) (rw end at c.least),
-        ) refl;
-    entries =
-        full jperm_at (omega (arith, c.words)) (rw end at c.entries);
-  }
-    where
-      end : i ≡ n
-      end = omega (arith, c.within)
-
-      full : (r : ℕ) → r * n + n ≤ length w → take n (region r n w) ≡ take n (replicate n none) → region r n w ≡ replicate n none
-      full r b e = whole n (region r n w) (replicate n none) (region_length r n w b) (length-replicate n none) e
+    one : (r : ℕ) → r * n + n ≤ 3 * n → region r n (replicate (3 * n) none ++ drop (3 * n) w) ≡ replicate n none
+    one r h = region_filled r n [] (drop (3 * n) w) (3 * n) none (omega arith) (omega arith)
 
 -- ---- column j, from entry k on
 -- what is at most another number is no NaN, and so at most itself
