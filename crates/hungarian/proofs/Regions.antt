@@ -9,7 +9,6 @@ use lib.ListN.{length, get_or, take, drop, set, replicate, length-drop, length-r
 use lib.Seq.{length-take-le, take-take, get_or-take, get_or-drop, take-set-lt, take-set-le, drop-set-lt, drop-set-add}
 use lib.Seq.{drop-append_seam, drop-append-add}
 use Rattle.std.proofs.lemmas.List.{drop-append-le, drop-replicate, take-append-le, take-replicate, take_at}
-use Rattle.std.proofs.lemmas.Slice.{drop-append-drop}
 use Rattle.hungarian.specs.inner.Layout.{region}
 
 -- a region below another ends where the other begins, or before
@@ -54,14 +53,10 @@ pub region_front : {A : Type 0} (r n b : ℕ) (w w' : List A) → r * n + n ≤ 
 unfolding region
 region_front {A} r n b w w' h e = sym (part_front (r * n) n b w' h) ∙ ap (λ (l : List A). take n (drop (r * n) l)) e ∙ part_front (r * n) n b w h
 
--- ---- a slice after a write to part of it: what was before the part, the part, what is behind it
+-- ---- a slice after a write to part of it: a region before the part, the part itself, one within it
 module _ {A : Type 0} (r n : ℕ) where
   pub region_before : (a : ℕ) (w y : List A) → r * n + n ≤ a → a ≤ length w → region r n (take a w ++ y) ≡ region r n w
   region_before a w y h l = region_front r n a w (take a w ++ y) h (take_at (take a w) y a (length-take-le a w l))
-
-  pub region_behind : (b : ℕ) (w y : List A) → b ≤ r * n → length y ≡ b → region r n (y ++ drop b w) ≡ region r n w
-  unfolding region
-  region_behind b w y h e = ap (take n) (drop-append-drop b w y (r * n) h e)
 
   -- the part is the region
   pub region_written : (p x y : List A) → length p ≡ r * n → length x ≡ n → region r n (p ++ (x ++ y)) ≡ x

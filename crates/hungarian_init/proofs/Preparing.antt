@@ -1,74 +1,35 @@
--- Phase 3 is prepared column by column; the duals are grounded place by place.
+-- Phase 3 is prepared by two writes; the duals are zeroed place by place.
 use mathlib.Core.Bool.{true, false}
 use mathlib.Core.List.{List, [], ◌∷◌, ◌++◌}
-use mathlib.Core.Logic.{inl}
-use mathlib.Core.Path.{◌≡◌, refl, sym, ap}
-use Prim.Native.Nat.{ℕ, zero, suc, ◌+◌, ◌*◌, ◌≤◌, ◌<◌}
+use mathlib.Core.Path.{◌≡◌, refl, ap, ◌∙◌}
+use Prim.Native.Nat.{ℕ, zero, suc, ◌+◌, ◌-◌, ◌*◌, ◌≤◌, ◌<◌}
 use native.Mathlib.Numerals.{add-one}
 use native.Mathlib.Omega.{arith}
 use lib.Ieee.{Float, nan, le}
-use lib.ListN.{length, get_or, take, drop, set, replicate, length-set, length-replicate, get_or-replicate}
-use lib.Seq.{get_or-take, length-take-le, take-nil, drop-nil}
+use lib.ListN.{length, get_or, take, drop, set, replicate, length-drop}
+use lib.Seq.{length-take-le, take-nil, drop-nil}
 use Rattle.float64.specs.Constants.{zero as fzero, rinf}
-use Rattle.hungarian.specs.inner.Layout.{region, iperm_at, jperm_at, from_at, value_at}
 use Rattle.hungarian.specs.Match.{empty_rows_zeroed}
-use Rattle.hungarian.proofs.Regions.{region_length}
-use Rattle.hungarian_claim.specs.inner.Memory.{pairs_counted}
-use Rattle.slices.proofs.Lists.{copied, whole}
-use Rattle.hungarian_claim.proofs.Words.{store, apart}
+use Rattle.hungarian.proofs.Regions.{region_before, region_written, region_filled}
 use Rattle.hungarian_init.specs.inner.Steps.{Prepared}
 
--- ---- the first j columns are ready for phase 3
-pub record Preparing (n : ℕ) (col_ptr w₀ w : List ℕ) (fw : List Float) (j : ℕ) : Type 0 where
-  pub within : j ≤ n
-  pub words : length w ≡ 12 * n + 1
-  pub values : length fw ≡ 2 * n
-  pub pointer_count : length col_ptr ≡ n + 1
-  pub pairs : (num : ℕ) → pairs_counted n w num ≡ pairs_counted n w₀ num
-  pub from : take j (region from_at n w) ≡ take j (take n col_ptr)
-  pub least : take j (region value_at n fw) ≡ take j (replicate n fzero)
+-- ---- a region of the words is the pointers, one of the doubles is zero
+pub prepared : (n : ℕ) (col_ptr w x p : List ℕ) (fw y q : List Float) → length w ≡ 12 * n + 1 → length col_ptr ≡ n + 1 → length fw ≡ 2 * n
+    → x ≡ take n col_ptr → y ≡ replicate (length (take (length fw - n) (drop n fw))) fzero
+    → Prepared n col_ptr w (take (3 * n) w ++ (x ++ p)) (take n fw ++ (y ++ q))
+prepared n col_ptr w x p fw y q a b c e f = record {
+  pairs = λ num. rw (region_before 0 n (3 * n) w (x ++ p) (omega arith) (omega arith), region_before 1 n (3 * n) w (x ++ p) (omega arith) (omega arith)) refl;
+  from = region_written 3 n (take (3 * n) w) x p (length-take-le (3 * n) w (omega arith)) (rw e (length-take-le n col_ptr (omega arith))) ∙ e;
+  least = rw (f, count) (region_filled 1 n (take n fw) q n fzero (omega (arith, front)) (omega (arith, front)));
+}
+  where
+    front : length (take n fw) ≡ n
+    front = length-take-le n fw (omega arith)
 
-pub preparing_start : (n : ℕ) (col_ptr w : List ℕ) (fw : List Float) → length w ≡ 12 * n + 1 → length col_ptr ≡ n + 1 → length fw ≡ 2 * n
-    → Preparing n col_ptr w w fw 0
-preparing_start n col_ptr w fw a b c = record { within = omega arith; words = a; values = c; pointer_count = b; pairs = λ num. refl; from = refl; least = refl }
+    count : length (take (length fw - n) (drop n fw)) ≡ n
+    count = length-take-le (length fw - n) (drop n fw) (rw length-drop (omega arith)) ∙ omega arith
 
-module _ {n : ℕ} {col_ptr w₀ w : List ℕ} {fw : List Float} {j : ℕ} (p : Preparing n col_ptr w₀ w fw j) where
-  from_count_lem : length (take n col_ptr) ≡ n
-  from_count_lem = length-take-le n col_ptr (omega (arith, p.pointer_count))
-
-  pub preparing_turn : j < n → Preparing n col_ptr w₀ (set w (3 * n + j) (get_or col_ptr j 0)) (set fw (n + j) fzero) (j + 1)
-  preparing_turn h = record {
-    within = omega arith;
-    words = simp length-set p.words;
-    values = simp length-set p.values;
-    pointer_count = p.pointer_count;
-    pairs = λ num. rw (
-      apart from_at n w (3 * n + j) j (omega arith) h iperm_at x (inl (omega arith)),
-      apart from_at n w (3 * n + j) j
-          (omega arith) h jperm_at x (inl (omega arith)),
-    ) (p.pairs num);
-    from = rw (store from_at n w (3 * n + j) j (omega arith) h x)
-        (copied (region from_at n w) (take n col_ptr) j x 0 (rw (region_length from_at n w (omega (arith, p.words))) h) (rw from_count_lem h)
-        (sym (get_or-take n col_ptr j 0 h)) p.from);
-    least = rw (store value_at n fw (n + j) j (omega arith) h fzero)
-        (copied (region value_at n fw) (replicate n fzero) j fzero nan (rw (region_length value_at n fw (omega (arith, p.values))) h)
-        (rw (length-replicate n fzero) h) (sym (get_or-replicate n j fzero nan h)) p.least);
-  }
-    where
-      x : ℕ
-      x = get_or col_ptr j 0
-
-  pub preparing_end : n ≤ j → Prepared n col_ptr w₀ w fw
-  preparing_end h =
-      let e : j ≡ n = omega (arith, p.within) in
-      record {
-        pairs = p.pairs;
-        from = whole n (region from_at n w) (take n col_ptr) (region_length from_at n w (omega (arith, p.words))) from_count_lem (rw e at p.from);
-        least = whole n (region value_at n fw) (replicate n fzero) (region_length value_at n fw (omega (arith, p.values))) (length-replicate n fzero)
-            (rw e at p.least);
-      }
-
--- ---- the duals below i are grounded
+-- ---- the duals below i are zeroed
 abbrev pub zeroed_to : ℕ → List Float → List Float
 zeroed_to i u = take i u ++ empty_rows_zeroed (drop i u)
 

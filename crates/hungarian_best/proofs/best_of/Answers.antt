@@ -33,7 +33,7 @@ loop-k-preserved c =
     let here = c.loop-k.invariant in
     let more = c.loop-k-test.true in
     elim c.if-best-value.branch [
-      then-best-value w ↦
+      | then-best-value w ↦
           rw (w.best-is, w.kept_free-is, w.at_limit-is) (choosing_moves sound below here more w.if-best-value.true)
       | else-best-value w ↦
           rw (w.best-is, w.kept_free-is, w.at_limit-is) (choosing_stays sound below here more w.if-best-value.false)
