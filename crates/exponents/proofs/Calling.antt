@@ -20,7 +20,7 @@ use Rattle.sparse.specs.Validate.{size_fault}
 use Rattle.sparse.proofs.First.{unless_holds, all_zero}
 use Rattle.sparse.proofs.Listed.{Listed, test, or_listed, first_listed}
 use Rattle.sparse.proofs.Accepted.{sizes_accepted}
-use Rattle.exponents_powers.specs.Power.{exponents}
+use Rattle.exponents_powers.specs.Power.{exponents, within_limit}
 use Rattle.exponents.specs.Exponent.{exponent_of, factor_fits}
 use Rattle.exponents.specs.Call.{Duals, differences, row_factors, column_factors, lengths_fit, factors_fault, exponents_fault, make_exponents, set_of, Promises}
 use Rattle.exponents.specs.inner.Steps.{Exponent}
@@ -49,6 +49,10 @@ factor_fits_lem l h i b = unless_holds (factor_fits (get_or l i nan)) exponent_r
 pub exponent_at_lem : (l : List Float) (i : ℕ) {r : ℤ} → Exponent (get_or l i nan) r → factor_fits (get_or l i nan) ≡ true → r ≡ get_or (map exponent_of l) i
     (exponent_of nan)
 exponent_at_lem l i e f = e.is f ∙ sym (get_or-map exponent_of l i nan)
+
+-- the test of a factor, by the exponent that was found
+pub tested : {x y : Float} {r read : ℤ} {t : Bool} → x ≡ y → Exponent x r → read ≡ r → t ≡ within_limit read → factor_fits y ≡ t
+tested e found same q = sym (q ∙ ap within_limit same ∙ found.fits ∙ ap factor_fits e)
 
 -- ---- the lengths
 pub record Fitting (n : ℕ) (d : Duals) (rows columns : ℕ) : Type 0 where
