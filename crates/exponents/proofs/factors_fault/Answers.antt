@@ -1,6 +1,5 @@
 -- The loop finds the first fault: the test at i is that of the exponent that was found there.
-use Rattle.std.proofs.Common.{◌≡◌, List, Float, Bool, get_or, ap, ◌∙◌, arith}
-use Rattle.std.specs.Float.{nan}
+use Rattle.std.proofs.Common.{Bool, ap, ◌∙◌, arith}
 use Rattle.refusal.specs.Refusal.{exponent_range}
 use Rattle.sparse.specs.Fault.{unless}
 use Rattle.sparse.proofs.First.{from_zero, pass, found, done}

@@ -1,5 +1,5 @@
 -- `factors_fault`: whatever list the closure gives, no factor of it before i has a fault.
-use Rattle.std.proofs.Common.{◌≡◌, ℕ, List, Float, length, get_or}
+use Rattle.std.proofs.Common.{◌≡◌, List, Float, length, get_or}
 use Rattle.std.specs.Float.{nan}
 use Rattle.refusal.specs.Refusal.{exponent_range}
 use Rattle.sparse.specs.Fault.{unless}

@@ -1,5 +1,5 @@
 -- What is written at i is the exponent of the factor there, since no factor has a fault.
-use Rattle.std.proofs.Common.{◌≡◌, List, Float, w32, to_z, of_z, length, get_or, map, ◌∙◌, length-set, arith}
+use Rattle.std.proofs.Common.{◌≡◌, w32, to_z, of_z, length, get_or, map, ◌∙◌, length-set, arith}
 use Rattle.std.proofs.lemmas.List.{length-map}
 use Rattle.std.specs.Float.{nan}
 use Rattle.slices.proofs.Lists.{copied}

@@ -1,5 +1,5 @@
 -- `write_exponents`: whatever list the closure gives, the exponents before i are those of its factors, if no factor has a fault.
-use Rattle.std.proofs.Common.{◌≡◌, ℕ, List, Float, length, take, map}
+use Rattle.std.proofs.Common.{◌≡◌, List, Float, length, take, map}
 use Rattle.exponents.specs.Exponent.{exponent_of}
 use Rattle.exponents.specs.Call.{factors_fault}
 use Rattle.exponents.specs.inner.Steps.{Gives}
