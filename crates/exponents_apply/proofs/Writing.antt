@@ -21,6 +21,10 @@ use Rattle.exponents_apply.specs.Apply.{exponent_at, place_fault, column_fault, 
 use Rattle.exponents_apply.specs.inner.Steps.{Written}
 
 -- ---- the places of one column
+-- what place k is to hold
+abbrev pub target : List ℕ → List ℤ → ℤ → List ℕ → ℕ → ℕ
+target rows r e values k = scaled_bits (get_or values k 0) (exponent_at r (get_or rows k 0) +ℤ e)
+
 pub none_written : (f : ℕ → ℕ) (k : ℕ) (values : List ℕ) → Written f k k values values
 none_written f k values = record { same = refl; done = λ i a b. let z : ⊥ = omega arith in absurd z; under = λ i h. refl; over = λ i h. refl }
 
