@@ -45,7 +45,7 @@ fn bound(e: u64, n: u32) -> f64
     ensures { Bound e n result }
 {
     if n == 0 {
-        return 1.0 / 0.0;
+        return f64::INFINITY;
     }
     let t = (32 - u32::leading_zeros(n - 1)) as u64;
     let ones = 0xffff_ffff_ffff_ffff >> (12 - t);
