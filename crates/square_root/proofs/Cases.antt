@@ -7,12 +7,12 @@ use native.Mathlib.Omega.{arith}
 use borrow.Author.Tests.{ltb-true, ltb-false}
 use lib.IntN.{ℤ}
 use lib.Dec.{T, eqb, eqb→eq, lit<}
+use Rattle.std.specs.Prelude.{Ok, Err}
 use lib.Ieee.{Float, nan, inf, fin, binary64, up, down, level, lt, eq, fits, is_nan, of_bits, to_bits}
 use lib.Ieee.Bits.{of_bits-to_bits}
 use lib.Ieee.Fits.{up_pos, and_l}
 use Rattle.refusal.specs.Refusal.{no_root}
 use Rattle.square_root.specs.Root.{square, root_of, sqrt_of}
-use Rattle.square_root.specs.declared.Root.TheVariants.{Is, Refused}
 use Rattle.float64.proofs.Bits.{bits_in, some_bits}
 
 -- either zero equals zero
@@ -46,17 +46,17 @@ above_bits (number m e) t = some_bits m e t
 -- ---- the answers
 
 pub finite_answer : {x : Float} → Above x → T (fits binary64 x) → to_bits binary64 x < 2047 * 2 ^ 52
-    → sqrt_of x ≡ Is (root_of (square (of_bits binary64 (to_bits binary64 x))))
+    → sqrt_of x ≡ Ok (root_of (square (of_bits binary64 (to_bits binary64 x))))
 unfolding sqrt_of
 finite_answer infinite t h = absurd (let l : 2047 * 2 ^ 52 < 2047 * 2 ^ 52 = unfold to_bits in h in omega arith)
-finite_answer (number m e) t h = ap (λ (z : Float). Is (root_of (square z))) (sym (of_bits-to_bits binary64 (fin false (suc m) e) t))
+finite_answer (number m e) t h = ap (λ (z : Float). Ok (root_of (square z))) (sym (of_bits-to_bits binary64 (fin false (suc m) e) t))
 
-pub infinite_answer : {x : Float} → Above x → T (fits binary64 x) → 2047 * 2 ^ 52 ≤ to_bits binary64 x → sqrt_of x ≡ Is x
+pub infinite_answer : {x : Float} → Above x → T (fits binary64 x) → 2047 * 2 ^ 52 ≤ to_bits binary64 x → sqrt_of x ≡ Ok x
 unfolding sqrt_of
 infinite_answer infinite t h = refl
 infinite_answer (number m e) t h = absurd (let l = bits_in (fin false (suc m) e) (record { double = t; is_finite = tt }) refl in omega arith)
 
-pub zero_answer : (x : Float) → eq x (of_bits binary64 0) ≡ true → sqrt_of x ≡ Is x
+pub zero_answer : (x : Float) → eq x (of_bits binary64 0) ≡ true → sqrt_of x ≡ Ok x
 unfolding sqrt_of eq of_bits
 zero_answer nan h = absurd (false≢true h)
 zero_answer (inf s) h = absurd (false≢true h)
@@ -69,7 +69,7 @@ zero_answer (fin s (suc m) e) h =
     let g : 0 < suc m * up e = mul-pos (zero-lt-suc m) (up_pos e) in
     omega arith)
 
-pub refused_answer : (x : Float) → lt (of_bits binary64 0) x ≡ false → eq x (of_bits binary64 0) ≡ false → sqrt_of x ≡ Refused no_root
+pub refused_answer : (x : Float) → lt (of_bits binary64 0) x ≡ false → eq x (of_bits binary64 0) ≡ false → sqrt_of x ≡ Err no_root
 unfolding sqrt_of lt eq of_bits
 refused_answer nan h g = refl
 refused_answer (inf true) h g = refl

@@ -8,6 +8,7 @@ use native.Mathlib.Nat.{mul-le-mul_right, mul-lt-mul_of_pos_right, lt_of_mul-lt-
 use native.Mathlib.Decide.{dec_le}
 use native.Mathlib.Omega.{arith}
 use lib.IntN.{ℤ}
+use Rattle.std.specs.Prelude.{Result, Ok}
 use lib.Dec.{T}
 use lib.Pow.{pow-add, pow_pos}
 use lib.Ieee.{Float, nan, inf, fin, binary64, fits, of_bits, to_bits}
@@ -15,9 +16,8 @@ use lib.Ieee.Bits.{of_bits-to_bits}
 use Rattle.refusal.specs.Listed.{listed, OneOf, root_numbers}
 use Rattle.float64.specs.Number.{Number, negative, magnitude}
 use Rattle.float64.proofs.Squares.{square_lt}
-use Rattle.square_root.specs.Root.{number_of, root_fault, square, Nearest, Answer, root_of, sqrt_of}
-use Rattle.square_root.specs.declared.Root.{Root}
-use Rattle.square_root.specs.declared.Root.TheVariants.{Is}
+use Rattle.refusal.specs.Number.{fault_of}
+use Rattle.square_root.specs.Root.{root_fault, square, Nearest, Answer, root_of, sqrt_of}
 use Rattle.square_root.proofs.Whole.{over_half, under_half}
 use Rattle.float64.proofs.Bits.{same_double, some_bits, bits_in, spaced}
 use Rattle.float64.proofs.Normalised.{scaling}
@@ -102,7 +102,7 @@ sqrt_correct (fin true (suc m) e) t = refl
 sqrt_correct (fin false (suc m) e) t = (root_of (square (fin false (suc m) e)), refl, root_nearest m e t)
 
 -- the computed answer is a root exactly where nothing is wrong with x
-pub number_is : (x : Float) → number_of (sqrt_of x) ≡ root_fault x
+pub number_is : (x : Float) → fault_of (sqrt_of x) ≡ root_fault x
 unfolding sqrt_of
 number_is nan = refl
 number_is (inf true) = refl
@@ -112,7 +112,7 @@ number_is (fin true (suc m) e) = refl
 number_is (fin false (suc m) e) = refl
 
 -- 0 and 11 are the numbers answered
-pub root_listed : (x : Float) → OneOf root_numbers (number_of (sqrt_of x))
+pub root_listed : (x : Float) → OneOf root_numbers (fault_of (sqrt_of x))
 unfolding sqrt_of listed
 root_listed nan = refl
 root_listed (inf true) = refl
@@ -122,15 +122,18 @@ root_listed (fin true (suc m) e) = refl
 root_listed (fin false (suc m) e) = refl
 
 -- whatever is the computed answer has the promised number, is IEEE 754's, and its number is listed
-pub promised : (x : Float) {r : Root} → T (fits binary64 x) → r ≡ sqrt_of x → (r ≡ sqrt_of x)
-    × ((number_of r ≡ root_fault x) × (Answer x r × OneOf root_numbers (number_of r)))
-promised x t e = (
-  e,
-  (
-    ap number_of e ∙ number_is x,
-    (subst (λ (a : Root). Answer x a) (sym e) (sqrt_correct x t), subst (λ (a : Root). OneOf root_numbers (number_of a)) (sym e) (root_listed x)),
-  ),
-)
+pub promised : (x : Float) {r : Result Float ℕ} → T (fits binary64 x) → r ≡ sqrt_of x → record {
+  root : r ≡ sqrt_of x;
+  fault : fault_of r ≡ root_fault x;
+  ieee : Answer x r;
+  number : OneOf root_numbers (fault_of r);
+}
+promised x t e = record {
+  root = e;
+  fault = ap fault_of e ∙ number_is x;
+  ieee = subst (λ (a : Result Float ℕ). Answer x a) (sym e) (sqrt_correct x t);
+  number = subst (λ (a : Result Float ℕ). OneOf root_numbers (fault_of a)) (sym e) (root_listed x);
+}
 
 -- ---- one answer at most
 
@@ -151,10 +154,10 @@ nearest_unique x y z p q = elim (dec_le (magnitude y) (magnitude z)) [
         ap (λ (n : ℕ). n * n) (add_comm (magnitude z) (magnitude y)) in
         omega arith
 
-pub answer_unique : (x : Float) (r s : Root) → Answer x r → Answer x s → r ≡ s
+pub answer_unique : (x : Float) (r s : Result Float ℕ) → Answer x r → Answer x s → r ≡ s
 answer_unique nan r s p q = p ∙ sym q
 answer_unique (inf true) r s p q = p ∙ sym q
 answer_unique (inf false) r s p q = p ∙ sym q
 answer_unique (fin t zero e) r s p q = p ∙ sym q
 answer_unique (fin true (suc m) e) r s p q = p ∙ sym q
-answer_unique (fin false (suc m) e) r s p q = p.1 ∙ ap Is (nearest_unique (fin false (suc m) e) p.0 q.0 p.2 q.2) ∙ sym q.1
+answer_unique (fin false (suc m) e) r s p q = p.1 ∙ ap Ok (nearest_unique (fin false (suc m) e) p.0 q.0 p.2 q.2) ∙ sym q.1

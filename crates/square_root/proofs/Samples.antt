@@ -2,15 +2,15 @@
 use mathlib.Core.Path.{◌≡◌, refl}
 use mathlib.Core.Bool.{false}
 use lib.IntN.{pos, negsuc}
+use Rattle.std.specs.Prelude.{Ok}
 use lib.Ieee.{fin, binary64, of_bits}
 use Rattle.square_root.specs.Root.{sqrt_of}
-use Rattle.square_root.specs.declared.Root.TheVariants.{Is}
 
-pub root_of_two : sqrt_of (fin false 1 (pos 1)) ≡ Is (of_bits binary64 0x3FF6A09E667F3BCD)
+pub root_of_two : sqrt_of (fin false 1 (pos 1)) ≡ Ok (of_bits binary64 0x3FF6A09E667F3BCD)
 unfolding sqrt_of of_bits
 root_of_two = refl
 
 -- negsuc n is -(n + 1)
-pub root_of_the_smallest : sqrt_of (fin false 1 (negsuc 1073)) ≡ Is (fin false 1 (negsuc 536))
+pub root_of_the_smallest : sqrt_of (fin false 1 (negsuc 1073)) ≡ Ok (fin false 1 (negsuc 536))
 unfolding sqrt_of
 root_of_the_smallest = refl

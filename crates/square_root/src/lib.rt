@@ -2,6 +2,7 @@
 // No integer is wide enough for the square of a result, so the root of a significand is found in two
 // halves. A guess in floating point, of which nothing is proved, is walked to the exact whole root of
 // the upper half; one division then gives the lower half.
+// The library's `sqrt` is the machine's operation, whose contract is taken on trust; this root is proved.
 #![tactic(auto)]
 
 ghost use Rattle.std.specs.Prelude.{◌≡◌, ◌*◌, ◌^◌, ◌≤◌, ◌<◌};
