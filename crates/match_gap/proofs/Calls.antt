@@ -9,7 +9,7 @@ use lib.Dec.{T}
 use lib.Pow.{pow_pos}
 use lib.Ieee.{binary64, fits}
 use Rattle.refusal.specs.Listed.{listed, OneOf, gap_numbers}
-use Rattle.slices.specs.Outcome.{Outcome, outcome_is, refusing}
+use Rattle.slices.specs.Outcome.{Outcome, outcome_is, refusing, as_number}
 use Rattle.slices.proofs.Refusing.{refused_is}
 use Rattle.float64.specs.Number.{Number, units_per_one}
 use Rattle.cost_limit.specs.Range.{cost_limit}
@@ -18,17 +18,14 @@ use Rattle.hungarian.specs.Accepted.{Doubles}
 use Rattle.hungarian.specs.inner.Setting.{Setting}
 use Rattle.hungarian.proofs.Accepts.{near_setting}
 use Rattle.match_check.specs.Check.{Claim, check_fault}
-use Rattle.match_check.specs.Call.{Certified, checked, verdict_of}
-use Rattle.match_check.specs.declared.Verdict.TheVariants as Verdict
+use Rattle.match_check.specs.Call.{Certified}
 use Rattle.match_check.proofs.Certificate.{Doubled}
 use Rattle.match_check.proofs.Pairing.{complete}
 use Rattle.match_check.proofs.Calling.{ready, fit, graph_accepted, promises}
 use Rattle.match_gap.specs.Rounding.{step}
 use Rattle.match_gap.specs.Gap.{gap_of, gap_fault}
-use Rattle.match_gap.specs.Call.{number_of, gap_outcome, NearLeast, Near, NoGap, Promises}
+use Rattle.match_gap.specs.Call.{gap_outcome, NearLeast, Near, NoGap, Promises}
 use Rattle.match_gap.specs.inner.Scans.{AllIn, Measurable}
-use Rattle.match_gap.specs.declared.Gap.{Gap}
-use Rattle.match_gap.specs.declared.Gap.TheVariants.{Found, Refused}
 use Rattle.match_gap.proofs.Near.{Few, near_least}
 use Rattle.match_gap.proofs.Exact.{no_gap}
 use Rattle.match_gap.proofs.Faults.{Passed, passed, all_in, gap_listed}
@@ -73,29 +70,27 @@ module _ (digits : ℕ) (g : CostGraph) (c : Claim) (gap : List ℕ) (d : (k : �
         record { complete = full; near = near_least (step digits) positive g c S few full }
 
     certified : check_fault g c ≡ 0 → Certified g c
-    certified e =
-        let v : Verdict.Accepted ≡ checked g c = (unfold checked verdict_of in rw e refl) in
-        (promises g c doubles b v).exactly.0 refl
+    certified e = (promises g c doubles b (sym e)).exactly.0 refl
 
     none_left : check_fault g c ≡ 0 → gap_of (step digits) g c ≡ 0
     none_left e = no_gap digits P.digits_few g c (certified e) few
 
   -- ---- the clauses, of any answer
-  module _ {r : Gap} {after : List ℕ} (o : outcome_is r after ≡ gap_outcome digits g c gap) where
+  module _ {r : ℕ} {after : List ℕ} (o : outcome_is r after ≡ gap_outcome digits g c gap) where
     pub all_promised : Promises digits g c gap r after
     unfolding gap_outcome listed
     all_promised =
         let p = go (gap_fault digits g c gap) refl o in
         record { outcome = o; number = p.0; near = p.1; none = p.2 }
       where
-        go : (f : ℕ) → gap_fault digits g c gap ≡ f → outcome_is r after ≡ refusing Refused f (outcome_is Found (gap_of (step digits) g c ∷ [])) gap
-            → OneOf gap_numbers (number_of r) × Near digits g c (number_of r) after × NoGap g c (number_of r) after
+        go : (f : ℕ) → gap_fault digits g c gap ≡ f → outcome_is r after ≡ refusing as_number f (outcome_is 0 (gap_of (step digits) g c ∷ [])) gap
+            → OneOf gap_numbers r × Near digits g c r after × NoGap g c r after
         go zero z e =
-            let a : r ≡ Found = ap (λ (x : Outcome Gap (List ℕ)). x.answer) e in
-            let l : after ≡ gap_of (step digits) g c ∷ [] = ap (λ (x : Outcome Gap (List ℕ)). x.after) e in
+            let a : r ≡ 0 = ap (λ (x : Outcome ℕ (List ℕ)). x.answer) e in
+            let l : after ≡ gap_of (step digits) g c ∷ [] = ap (λ (x : Outcome ℕ (List ℕ)). x.after) e in
             rw (a, l) (refl, λ n. near_enough z, λ n k. none_left z k)
         go (suc f) z e =
-            let a : r ≡ Refused (suc f) = ap (λ (x : Outcome Gap (List ℕ)). x.answer) e in
+            let a : r ≡ suc f = ap (λ (x : Outcome ℕ (List ℕ)). x.answer) e in
             rw a (
               subst (λ (m : ℕ). listed gap_numbers m ≡ true) z (gap_listed digits g c gap).is,
               λ n. absurd (let q : ⊥ = omega (arith, n) in q),
@@ -104,11 +99,11 @@ module _ (digits : ℕ) (g : CostGraph) (c : Claim) (gap : List ℕ) (d : (k : �
 
 -- ---- the answers
 module _ (digits : ℕ) (g : CostGraph) (c : Claim) (gap : List ℕ) {fault : ℕ} (f : fault ≡ gap_fault digits g c gap) where
-  pub refused : fault ≢ 0 → outcome_is (Refused fault) gap ≡ gap_outcome digits g c gap
+  pub refused : fault ≢ 0 → outcome_is fault gap ≡ gap_outcome digits g c gap
   unfolding gap_outcome
-  refused z = refused_is Refused (outcome_is Found (gap_of (step digits) g c ∷ [])) gap f z
+  refused z = refused_is as_number (outcome_is 0 (gap_of (step digits) g c ∷ [])) gap f z
 
-  pub found : fault ≡ 0 → {after : List ℕ} → after ≡ gap_of (step digits) g c ∷ [] → outcome_is Found after ≡ gap_outcome digits g c gap
+  pub found : fault ≡ 0 → {after : List ℕ} → after ≡ gap_of (step digits) g c ∷ [] → outcome_is 0 after ≡ gap_outcome digits g c gap
   unfolding gap_outcome
   found z {after} e = let w : gap_fault digits g c gap ≡ 0 = sym f ∙ z in rw (w, e) refl
 

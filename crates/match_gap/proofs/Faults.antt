@@ -22,8 +22,9 @@ use Rattle.hungarian.specs.Graph.{CostGraph}
 use Rattle.hungarian.specs.Test.{graph_fault}
 use Rattle.hungarian_match.proofs.Tests.{match_listed}
 use Rattle.match_check.specs.Check.{Claim, check_lengths, pairing_fits}
+use Rattle.match_check.specs.inner.Steps.{Checkable}
 use Rattle.match_check.proofs.Every.{every_first}
-use Rattle.match_check.proofs.Calling.{fitting, lengths_fit_lem}
+use Rattle.match_check.proofs.Calling.{fitting, lengths_fit_lem, ready}
 use Rattle.match_gap.specs.Rounding.{zero_step, step, in_steps}
 use Rattle.match_gap.specs.Gap.{max_digits, all_in_steps, gap_lengths, pairs_fault, gap_fault}
 use Rattle.match_gap.specs.inner.Scans.{AllIn}
@@ -72,9 +73,12 @@ module _ (digits : ℕ) (g : CostGraph) (c : Claim) (gap : List ℕ) where
     unfolding gap_fault
     by_graph z = rw (le-leb digits max_digits few) (answer_first _ tested z)
 
-    pub graph_passed : graph ≡ 0 → graph_fault g (check_lengths g c) ≡ 0
+    graph_passed : graph ≡ 0 → graph_fault g (check_lengths g c) ≡ 0
     graph_passed z = let w : graph_fault g (gap_lengths g c gap) ≡ 0 = sym tested ∙ z in
         subst (λ (t : Bool). graph_fault g t ≡ 0) (lengths_fit_lem g _ w ∙ sym (all_fit g c gap w).0) w
+
+    pub lists : graph ≡ 0 → Checkable g.pattern.n g.pattern.col_ptr g.pattern.row_idx g.cost c
+    lists z = ready g c (graph_passed z)
 
     module _ (z : graph ≡ 0) {costs : Bool} (k : costs ≡ all_in_steps (step digits) g.cost) where
       pub by_costs : costs ≡ false → cost_range ≡ gap_fault digits g c gap

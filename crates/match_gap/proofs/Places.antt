@@ -1,13 +1,18 @@
--- A double's place, in units: its rounded places are steps below and above it. By the two roundings and the cases of the sign.
+-- A double's place, in units: its rounded places are steps below and above it, and one of them is the other of the negation. By the two roundings
+-- and the cases of the sign.
 use mathlib.Core.Path.{◌≡◌, refl, ◌∙◌}
-use mathlib.Core.Bool.{Bool, true, false, cond}
-use Prim.Native.Nat.{ℕ, ◌+◌, ◌-◌, ◌*◌, ◌≤◌, ◌<◌}
+use mathlib.Core.Bool.{Bool, true, false, not, cond}
+use Prim.Native.Nat.{ℕ, ◌+◌, ◌-◌, ◌*◌, ◌^◌, ◌≤◌, ◌<◌}
+use lib.Pow.{pow_pos}
 use native.Mathlib.Nat.{mul_comm, add-mul, mul-sub, div-mul-le_self, lt-div-mul-add}
 use native.Mathlib.Omega.{arith}
-use lib.Ieee.{Float}
+use lib.Ieee.{Float, nan, inf, fin, neg}
 use Rattle.float64.specs.Number.{Number, negative, origin, magnitude}
 use Rattle.float64.specs.inner.Keys.{place, position}
 use Rattle.float64.proofs.Scale.{mag_lt}
+use Rattle.float64.proofs.Sums.{number_neg}
+use Rattle.match_gap.specs.inner.Scans.{InSteps}
+use Rattle.match_gap.proofs.Shifts.{ceiling_most}
 use Rattle.match_gap.specs.Rounding.{zero_step, floor_in, ceiling_in, place_below, place_above, lower, upper}
 
 -- the exact place of a number of this sign and size, in units
@@ -55,3 +60,31 @@ not-below s x n h = go (negative x) (magnitude x) (mag_lt x n) h
     go : (sign : Bool) (a : ℕ) → a < origin → origin ≤ place sign a → placed s sign a ≡ zero_step * s + a
     go true a l h = omega arith
     go false a l h = refl
+
+-- ---- the negation
+neg_sign : (x : Float) → Number x → negative (neg x) ≡ not (negative x)
+unfolding neg
+neg_sign nan n = absurd n.is_finite
+neg_sign (inf s) n = absurd n.is_finite
+neg_sign (fin s m e) n = refl
+
+neg_size : (x : Float) → Number x → magnitude (neg x) ≡ magnitude x
+unfolding neg magnitude
+neg_size nan n = absurd n.is_finite
+neg_size (inf s) n = absurd n.is_finite
+neg_size (fin s m e) n = refl
+
+-- a place rounded up lies as far above the place of zero as that of the negation, rounded down, lies below it
+turned : (s : ℕ) (sign : Bool) (a : ℕ) → ceiling_in s a ≤ zero_step → 2 * zero_step - place_below s (not sign) a ≡ place_above s sign a
+unfolding place_below place_above
+turned s true a h = omega arith
+turned s false a h = omega (arith, h)
+
+module _ {unit : ℕ} {x : Float} (i : InSteps unit x) where
+  pub neg_in : InSteps unit (neg x)
+  neg_in = record { number = number_neg x i.number; few = rw (neg_size x i.number) i.few }
+
+  pub upper_by_lower : 2 * zero_step - lower (2 ^ unit) (neg x) ≡ upper (2 ^ unit) x
+  unfolding lower upper
+  upper_by_lower = rw (neg_sign x i.number, neg_size x i.number)
+      (turned (2 ^ unit) (negative x) (magnitude x) (ceiling_most (2 ^ unit) (magnitude x) (pow_pos unit) i.few))

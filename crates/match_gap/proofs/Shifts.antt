@@ -1,8 +1,8 @@
 -- Sizes in steps of 2 ^ unit units, from a double's digits: a size is its digits times a power of two, dividing both by that power changes nothing,
 -- and digits below 2 ^ 60 reach no step that is 2 ^ 60 of them or more.
-use mathlib.Core.Path.{◌≡◌, refl, sym, ap, ap₂, ◌∙◌}
+use mathlib.Core.Path.{◌≡◌, refl, sym, ap, ap₂, ◌∙◌, subst}
 use mathlib.Core.Logic.{◌⊎◌, inl, inr}
-use Prim.Native.Nat.{ℕ, zero, suc, ◌+◌, ◌-◌, ◌*◌, ◌/◌, ◌%◌, ◌^◌, ◌≤◌, ◌<◌}
+use Prim.Native.Nat.{ℕ, zero, suc, ◌+◌, ◌-◌, ◌*◌, ◌/◌, ◌%◌, ◌^◌, ◌≤◌, ◌<◌, min}
 use native.Mathlib.Nat.{mul-one, one-mul, mul_comm, mul_assoc, add-mul, div-eq_of_lt, div-eq_of_lt-le, div-mul-le_self, lt-div-mul-add}
 use native.Mathlib.Nat.{div-lt_iff_lt-mul, div-le_of_le-mul, mul-div-mul_right, mul-le-mul_right, lt_of_not-le, lt_of_lt_of_le, mod-eq_of_lt}
 use native.Mathlib.Decide.{dec_le}
@@ -132,6 +132,14 @@ module _ (bits unit : ℕ) (m : Measured bits unit) where
       }
 
   -- the steps of a size that has few
+  -- a shift of 60 or more is as good as one of 60
+  pub capped_shift : Shifted bits unit (min (unit - scale_of bits) 60)
+  capped_shift = elim (dec_le 60 (unit - scale_of bits)) [
+    | yes h ↦ subst (Shifted bits unit) (let e : 60 ≡ min (unit - scale_of bits) 60 = omega (arith, h) in e) (far_shift h)
+    | no f ↦ let l = lt_of_not-le f in
+        subst (Shifted bits unit) (let e : unit - scale_of bits ≡ min (unit - scale_of bits) 60 = omega (arith, l) in e) (near_shift l)
+  ]
+
   pub steps_few : (floor_in (2 ^ unit) (magnitude (of_bits binary64 bits)) ≤ zero_step) × (ceiling_in (2 ^ unit) (magnitude (of_bits binary64 bits)) ≤ zero_step)
   steps_few = (
     floor_most (2 ^ unit) (magnitude (of_bits binary64 bits)) (pow_pos unit) m.few,
