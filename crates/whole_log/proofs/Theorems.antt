@@ -9,6 +9,7 @@ use native.Mathlib.Nat.{mul-lt-mul_of_pos_right, le_of_mul-le-mul_right, lt_of_m
 use native.Mathlib.Nat.{lt-div-mul-add, le-div_iff_mul-le, div-lt_iff_lt-mul, mul-div-mul_right, zero-mul, zero-div, eq-zero-or-pos}
 use native.Mathlib.Omega.{arith}
 use lib.Dec.{T}
+use Rattle.std.specs.Prelude.{Result, Ok, Err}
 use lib.IntN.{ℤ, pos, negsuc, nat_abs, ◌+ℤ◌, ◌-ℤ◌}
 use mir.Syntax.{w32}
 use mir.Val.{SFits, to_z}
@@ -27,9 +28,8 @@ use Rattle.float64.proofs.Bits.{pattern, bits_are, bits_in, some_bits}
 use Rattle.float64.proofs.Normalised.{pow_below}
 use Rattle.float64.proofs.WholeNumbers.{integer_whole}
 use Rattle.float64.proofs.Integers.{plus, minus, same_integer, sum_parts, sub_parts}
-use Rattle.whole_log.specs.Log.{number_of, value_of, log_fault, leading, log_from, log_of, from_units, whole_log, Bounds, Answer}
-use Rattle.whole_log.specs.declared.Log.{Log}
-use Rattle.whole_log.specs.declared.Log.TheVariants.{Is, Refused}
+use Rattle.refusal.specs.Number.{fault_of}
+use Rattle.whole_log.specs.Log.{value_of, log_fault, leading, log_from, log_of, from_units, whole_log, Bounds, Answer}
 use Rattle.whole_log.proofs.Squares.{Held, log_from_lem, log_range}
 
 -- ---- a whole number above 0
@@ -159,21 +159,21 @@ zero_bits s e t = (size_bits s zero e t).0 ∙ bits_are (fin false zero e) tt �
 -- ---- the answers
 
 pub found_answer : (x : Float) → T (fits binary64 x) → T (finite x) → 0 < to_bits binary64 x % 2 ^ 63
-    → Is (from_units (log_of (magnitude (of_bits binary64 (to_bits binary64 x % 2 ^ 63))))) ≡ whole_log x
+    → Ok (from_units (log_of (magnitude (of_bits binary64 (to_bits binary64 x % 2 ^ 63))))) ≡ whole_log x
 unfolding whole_log
 found_answer nan t f l = absurd f
 found_answer (inf s) t f l = absurd f
 found_answer (fin s zero e) t f l = absurd (let z = zero_bits s e t in omega arith)
-found_answer (fin s (suc m) e) t f l = ap (λ (n : ℕ). Is (from_units (log_of n))) (size_of_bits s (suc m) e t)
+found_answer (fin s (suc m) e) t f l = ap (λ (n : ℕ). Ok (from_units (log_of n))) (size_of_bits s (suc m) e t)
 
-pub zero_answer : (x : Float) → T (fits binary64 x) → to_bits binary64 x % 2 ^ 63 ≤ 0 → T (finite x) → Refused value_not_finite ≡ whole_log x
+pub zero_answer : (x : Float) → T (fits binary64 x) → to_bits binary64 x % 2 ^ 63 ≤ 0 → T (finite x) → Err value_not_finite ≡ whole_log x
 unfolding whole_log
 zero_answer nan t l f = refl
 zero_answer (inf s) t l f = refl
 zero_answer (fin s zero e) t l f = refl
 zero_answer (fin s (suc m) e) t l f = absurd (let b = (size_bits s (suc m) e t).0 in let p = some_bits m e (number_abs s (suc m) e t).double in omega arith)
 
-pub infinite_answer : (x : Float) → finite x ≡ false → Refused value_not_finite ≡ whole_log x
+pub infinite_answer : (x : Float) → finite x ≡ false → Err value_not_finite ≡ whole_log x
 unfolding whole_log
 infinite_answer nan h = refl
 infinite_answer (inf s) h = refl
@@ -217,7 +217,7 @@ log_correct (fin s (suc m) e) t =
     record { q = log_of (magnitude x); shifted = units_shifted (log_of (magnitude x)); bounds = log_bounds (magnitude x) (above_zero s m e t) }
 
 -- the computed answer is a logarithm exactly if nothing is wrong with x
-pub number_is : (x : Float) → number_of (whole_log x) ≡ log_fault x
+pub number_is : (x : Float) → fault_of (whole_log x) ≡ log_fault x
 unfolding whole_log
 number_is nan = refl
 number_is (inf s) = refl
@@ -225,22 +225,26 @@ number_is (fin s zero e) = refl
 number_is (fin s (suc m) e) = refl
 
 -- 0 and 9 are the numbers answered
-pub log_listed : (x : Float) → OneOf log_numbers (number_of (whole_log x))
+pub log_listed : (x : Float) → OneOf log_numbers (fault_of (whole_log x))
 unfolding whole_log listed
 log_listed nan = refl
 log_listed (inf s) = refl
 log_listed (fin s zero e) = refl
 log_listed (fin s (suc m) e) = refl
 
-pub promised : (x : Float) {r : Log} → T (fits binary64 x) → r ≡ whole_log x → (r ≡ whole_log x)
-    × ((number_of r ≡ log_fault x) × (Answer x r × OneOf log_numbers (number_of r)))
-promised x t e = (
-  e,
-  (
-    ap number_of e ∙ number_is x,
-    (subst (λ (a : Log). Answer x a) (sym e) (log_correct x t), subst (λ (a : Log). OneOf log_numbers (number_of a)) (sym e) (log_listed x)),
-  ),
-)
+-- whatever is the computed answer has the promised number and bounds, and its number is listed
+pub promised : (x : Float) {r : Result ℤ ℕ} → T (fits binary64 x) → r ≡ whole_log x → record {
+  log : r ≡ whole_log x;
+  fault : fault_of r ≡ log_fault x;
+  bounds : Answer x r;
+  number : OneOf log_numbers (fault_of r)
+}
+promised x t e = record {
+  log = e;
+  fault = ap fault_of e ∙ number_is x;
+  bounds = subst (λ (a : Result ℤ ℕ). Answer x a) (sym e) (log_correct x t);
+  number = subst (λ (a : Result ℤ ℕ). OneOf log_numbers (fault_of a)) (sym e) (log_listed x);
+}
 
 -- ---- the range of all logarithms: from -70,385,664 to 67,108,863
 
@@ -251,11 +255,11 @@ units_range q h = let p = from_units q in go p (sub_parts q (1074 * 65536))
     go (pos n) e = omega arith
     go (negsuc n) e = omega arith
 
-pub log_small : (x : Float) (p : ℤ) → T (fits binary64 x) → whole_log x ≡ Is p → (minus p ≤ 70385664) × (plus p ≤ 67108863)
+pub log_small : (x : Float) (p : ℤ) → T (fits binary64 x) → whole_log x ≡ Ok p → (minus p ≤ 70385664) × (plus p ≤ 67108863)
 unfolding whole_log
-log_small nan p t h = let z : value_not_finite ≡ accepted = ap number_of h in absurd (omega arith)
-log_small (inf s) p t h = let z : value_not_finite ≡ accepted = ap number_of h in absurd (omega arith)
-log_small (fin s zero e) p t h = let z : value_not_finite ≡ accepted = ap number_of h in absurd (omega arith)
+log_small nan p t h = let z : value_not_finite ≡ accepted = ap fault_of h in absurd (omega arith)
+log_small (inf s) p t h = let z : value_not_finite ≡ accepted = ap fault_of h in absurd (omega arith)
+log_small (fin s zero e) p t h = let z : value_not_finite ≡ accepted = ap fault_of h in absurd (omega arith)
 log_small (fin s (suc m) e) p t h =
     let x = fin s (suc m) e in
     let same : from_units (log_of (magnitude x)) ≡ p = ap value_of h in
@@ -270,14 +274,14 @@ small_i32 (negsuc n) h = record { sfits = omega arith }
 pub fits_i32 : (q : ℕ) → q < 2098 * 65536 → SFits w32 (from_units q)
 fits_i32 q h = small_i32 (from_units q) (units_range q h)
 
-pub in_i32 : (x : Float) (p : ℤ) → T (fits binary64 x) → whole_log x ≡ Is p → SFits w32 p
+pub in_i32 : (x : Float) (p : ℤ) → T (fits binary64 x) → whole_log x ≡ Ok p → SFits w32 p
 in_i32 x p t h = small_i32 p (log_small x p t h)
 
 pub difference : (q : ℕ) → q < 2098 * 65536 → to_z w32 q -ℤ pos 70385664 ≡ from_units q
 difference q h = ap (λ (z : ℤ). z -ℤ pos 70385664) (to_z_pos w32 q (omega arith))
 
 -- as a double it stands for itself
-pub log_whole : (x : Float) (p : ℤ) → T (fits binary64 x) → whole_log x ≡ Is p → Whole (of_int binary64 p) p
+pub log_whole : (x : Float) (p : ℤ) → T (fits binary64 x) → whole_log x ≡ Ok p → Whole (of_int binary64 p) p
 log_whole x p t h = integer_whole p (small p (log_small x p t h))
   where
     small : (p : ℤ) → (minus p ≤ 70385664) × (plus p ≤ 67108863) → nat_abs p ≤ 2 ^ 53
