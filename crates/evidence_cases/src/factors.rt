@@ -1,5 +1,5 @@
 // Cases of the root, of the log factors of both kinds and of the inf-norm factors of both kinds.
-use crate::list::{Place, Word};
+use crate::list::{Listed, Place};
 use crate::{list, matrices};
 use factors_mc64::Scaled;
 use refusal::Refusal;

@@ -1,5 +1,5 @@
 // The words of the list, one after the other, and the state of a case.
-ghost use Rattle.std.specs.Prelude.{◌≤◌};
+ghost use Rattle.std.specs.Prelude.{◌<◌, ◌≤◌, IfSome};
 
 use refusal::Refusal;
 
@@ -89,7 +89,9 @@ impl Place {
 }
 
 // What a hexadecimal digit stands for.
-fn digit(byte: u8) -> Option<u64> {
+fn digit(byte: u8) -> Option<u64>
+    ensures { IfSome result (λ d. d < 16) }
+{
     match byte {
         b'0'..=b'9' => Some(u64::from(byte - b'0')),
         b'a'..=b'f' => Some(u64::from(byte - b'a') + 10),
@@ -215,7 +217,7 @@ pub fn size(place: Place, limit: usize) -> usize
 }
 
 // What the list has as a word: a number, or a double by its bits.
-pub trait Word: Copy + Default {
+pub trait Listed: Copy + Default {
     // The next word.
     fn next(input: &[u8], from: Place) -> Place;
 
@@ -225,7 +227,7 @@ pub trait Word: Copy + Default {
     fn bits(self) -> u64;
 }
 
-impl Word for u32 {
+impl Listed for u32 {
     fn next(input: &[u8], from: Place) -> Place {
         next_u32(input, from)
     }
@@ -239,7 +241,7 @@ impl Word for u32 {
     }
 }
 
-impl Word for u64 {
+impl Listed for u64 {
     fn next(input: &[u8], from: Place) -> Place {
         next(input, from)
     }
@@ -254,7 +256,7 @@ impl Word for u64 {
 }
 
 // Every pattern of a NaN gives the one NaN.
-impl Word for f64 {
+impl Listed for f64 {
     fn next(input: &[u8], from: Place) -> Place {
         next(input, from)
     }
@@ -269,7 +271,7 @@ impl Word for f64 {
 }
 
 // What the slice holds before the call.
-pub fn fill<T: Word>(input: &[u8], from: Place, out: &mut [T]) -> Place {
+pub fn fill<T: Listed>(input: &[u8], from: Place, out: &mut [T]) -> Place {
     let mut place = from;
     for x in out {
         place = T::next(input, place);
@@ -279,7 +281,7 @@ pub fn fill<T: Word>(input: &[u8], from: Place, out: &mut [T]) -> Place {
 }
 
 // The next word is this one.
-pub fn expect<T: Word>(input: &[u8], from: Place, got: T) -> Place {
+pub fn expect<T: Listed>(input: &[u8], from: Place, got: T) -> Place {
     let place = next(input, from);
     if place.value == got.bits() {
         place
@@ -289,12 +291,12 @@ pub fn expect<T: Word>(input: &[u8], from: Place, got: T) -> Place {
 }
 
 // Compares what the slice holds after the call with the list.
-pub fn expect_all<T: Word>(input: &[u8], from: Place, got: &[T]) -> Place {
+pub fn expect_all<T: Listed>(input: &[u8], from: Place, got: &[T]) -> Place {
     got.iter().fold(from, |place, x| expect(input, place, *x))
 }
 
 // The number that a call answers, and what it makes, which is 0 if it is refused.
-pub fn expect_answer<T: Word>(input: &[u8], from: Place, answer: Result<T, Refusal>) -> Place {
+pub fn expect_answer<T: Listed>(input: &[u8], from: Place, answer: Result<T, Refusal>) -> Place {
     let (number, made) = match answer {
         Ok(made) => (refusal::ACCEPTED, made),
         Err(refusal) => (u32::from(refusal), T::default()),

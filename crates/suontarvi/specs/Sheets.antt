@@ -1,10 +1,12 @@
 -- SPECIFICATION 5.16: Sheet files over the C interface: what sheet_writer and sheet_reader do, with the answer as a
 -- number and its values in a slice.
-use Rattle.std.specs.Prelude.{◌≡◌, true, false, cond, List, [], ◌∷◌, ℕ, eqb, Result, Ok, Err, length, get_or}
+use Rattle.std.specs.Prelude.{◌≡◌, false, cond, List, [], ◌∷◌, ℕ, eqb, Result, Ok, Err, length, get_or}
 use Rattle.refusal.specs.Listed.{OneOf, write_sheet_numbers, read_sheet_numbers, canonical_sheet_numbers}
 use Rattle.refusal.specs.Number.{fault_of}
 use Rattle.slices.specs.Outcome.{Outcome, outcome_is, refusing, as_number}
 use Rattle.matching.specs.Match.{Match}
+use Rattle.sheet.specs.Reading.{body_fault}
+use Rattle.sheet.specs.Canonical.{canonical_body}
 use Rattle.sheet_writer.specs.Call as writing
 use Rattle.sheet_reader.specs.Call as reading
 
@@ -71,11 +73,11 @@ read_result_by body sheet before old =
 
 -- what `suontarvi_read_sheet` does
 abbrev pub read_sheet_result : List ℕ → Match ℕ → List ℕ → Outcome ℕ ReadLent
-read_sheet_result sheet before old = read_result_by (reading.body_of false sheet) sheet before old
+read_sheet_result sheet before old = read_result_by (body_fault sheet) sheet before old
 
 -- what `suontarvi_read_canonical_sheet` does
 abbrev pub canonical_sheet_result : List ℕ → Match ℕ → List ℕ → Outcome ℕ ReadLent
-canonical_sheet_result sheet before old = read_result_by (reading.body_of true sheet) sheet before old
+canonical_sheet_result sheet before old = read_result_by (canonical_body sheet) sheet before old
 
 -- ---- all that the calls promise
 -- `suontarvi_write_sheet`, of the match, what was lent and the result t

@@ -35,11 +35,12 @@ pub extern "C" fn suontarvi_log_factors(
         return u32::from(sparse::layout::length_fault(n, 0, 0));
     }
     match factors_mc64::log_factors(n, matched, perm, u, v, cmax, factors, work) {
-        Ok(done) => {
-            unmatched[0] = match done {
-                Scaled::Applied => 0,
-                Scaled::PartialSingular(count) => count,
-            };
+        Ok(Scaled::Applied) => {
+            unmatched[0] = 0;
+            refusal::ACCEPTED
+        }
+        Ok(Scaled::PartialSingular(count)) => {
+            unmatched[0] = count;
             refusal::ACCEPTED
         }
         Err(refusal) => u32::from(refusal),

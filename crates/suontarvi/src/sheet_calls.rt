@@ -45,8 +45,7 @@ fn leave(read: Result<(u32, u32), Refusal>, answer: &mut [u32]) -> u32
 {
     match read {
         Ok((n, matched)) => {
-            answer[0] = n;
-            answer[1] = matched;
+            answer.copy_from_slice(&[n, matched]);
             refusal::ACCEPTED
         }
         Err(refusal) => u32::from(refusal),
