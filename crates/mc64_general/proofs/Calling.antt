@@ -5,6 +5,7 @@ use Prim.Native.Nat.{ℕ, ◌≤◌}
 use native.Mathlib.Omega.{arith}
 use lib.Ieee.{Float}
 use lib.ListN.{length, replicate}
+use Rattle.std.specs.Prelude.{Ok}
 use Rattle.limits.specs.Limits.{max_general}
 use Rattle.slices.specs.Outcome.{outcome_is}
 use Rattle.sparse.specs.Validate.{size_fault, general_fault}
@@ -16,14 +17,13 @@ use Rattle.mc64_columns.proofs.Calls as Calls
 use Rattle.mc64_general.specs.Graph.{kept_columns}
 use Rattle.mc64_general.specs.Call.{lengths_fit, input_fault}
 use Rattle.mc64_general.specs.inner.Steps.{Accepted, Roomy, BuiltAll}
-use Rattle.mc64_columns.specs.declared.Built.TheVariants.{Kept}
 
 -- the building and the clearing of the work complete the call
 pub accepted : (m : Matrix) (logs : List Float) (s after : Slices) (kept fault : ℕ) → 0 ≡ fault
     → BuiltAll m logs s.graph_idx s.cost after.graph_ptr after.graph_idx after.cost after.cmax kept → after.work ≡ replicate
     (length s.work) 0
-    → (outcome_is (Kept kept) after ≡ outcome fault m.pattern.n (kept_columns m) logs s) × AnswersBy fault (kept_before (kept_columns m) m.pattern.n)
-    (Kept kept)
+    → (outcome_is (Ok kept) after ≡ outcome fault m.pattern.n (kept_columns m) logs s) × AnswersBy fault (kept_before (kept_columns m) m.pattern.n)
+    (Ok kept)
 unfolding built
 accepted m logs s after kept fault e b w =
     Calls.accepted m.pattern.n (kept_columns m) logs s after kept fault e

@@ -1,4 +1,5 @@
 -- Why the general cost graph's code meets its contract.
+pub mod Fits
 pub mod Examples
 pub mod Copying
 pub mod Building

@@ -12,6 +12,8 @@ use lib.Ieee.{Float, nan, binary64, fits}
 use lib.ListN.{length, get_or, length-map}
 use Rattle.limits.specs.Limits.{max_general}
 use Rattle.sparse.specs.Columns.{Columns}
+use Rattle.std.specs.Prelude.{Result}
+use Rattle.refusal.specs.Number.{fault_of}
 use Rattle.refusal.specs.Refusal.{cost_range}
 use Rattle.refusal.specs.Listed.{listed, general_numbers, graph_numbers}
 use Rattle.slices.specs.Outcome.{outcome_is}
@@ -25,8 +27,7 @@ use Rattle.hungarian.specs.Accepted.{Accepted}
 use Rattle.hungarian.specs.Graph.{graph_of}
 use Rattle.cost_limit.specs.Range.{in_log_range}
 use Rattle.sparse.specs.Matrix.{Matrix, matrix}
-use Rattle.mc64_columns.specs.Graphs.{Slices, slices_fit, number_of, AnswersBy, outcome, rows_of, logs_at, kept_before, graph_pointers, graph_rows, graph_costs}
-use Rattle.mc64_columns.specs.declared.Built.{Built}
+use Rattle.mc64_columns.specs.Graphs.{Slices, slices_fit, AnswersBy, outcome, rows_of, logs_at, kept_before, graph_pointers, graph_rows, graph_costs}
 use Rattle.mc64_columns.proofs.Kept.{keep_all, keep_rises, keep_alike}
 use Rattle.mc64_columns.proofs.Graphs.{row_at, columns_rise, columns_accepted, columns_match}
 use Rattle.mc64_columns.proofs.Calls.{lengths_fitting, in_list, outcome_listed, outcome_alike}
@@ -145,14 +146,14 @@ fault_listed m logs s =
     (first_listed (length m.values) 0 refl (λ k. test (log_fits m.pattern.n (get_or m.values k nan) (get_or logs k nan)) cost_range refl refl)))
 
 -- all that the call promises, from an outcome by its fault
-pub promised : (m : Matrix) (logs : List Float) (s : Slices) {r : Built} {after : Slices}
+pub promised : (m : Matrix) (logs : List Float) (s : Slices) {r : Result ℕ ℕ} {after : Slices}
     → (outcome_is r after ≡ outcome (general_graph_fault m logs s) m.pattern.n (kept_columns m) logs s)
     × AnswersBy (general_graph_fault m logs s) (kept_before (kept_columns m) m.pattern.n) r
     → Promises m logs s r after
 unfolding general_graph
 promised m logs s p = record { outcome = p.0; answered = p.1; number = in_list (fault_listed m logs s) p.1 }
 
-pub graph_listed : (m : Matrix) (logs : List Float) (s : Slices) → Listed graph_numbers (number_of (general_graph m logs s).answer)
+pub graph_listed : (m : Matrix) (logs : List Float) (s : Slices) → Listed graph_numbers (fault_of (general_graph m logs s).answer)
 unfolding general_graph
 graph_listed m logs s = outcome_listed m.pattern.n (kept_columns m) logs s (general_graph_fault m logs s) (fault_listed m logs s)
 
