@@ -1,5 +1,6 @@
 -- What an accepted input holds, for those who call: N and L are within their limits, each row and column below N, each weight within the range of its
 -- kind, and no symmetric entry above the diagonal. By the tests that a line passes.
+use Rattle.std.proofs.Common.{Option, Some, None, Result, Ok, Err}
 use mathlib.Core.Path.{◌≡◌, refl, subst}
 use mathlib.Core.Bool.{Bool, true, false, cond, ◌&&◌, ◌||◌}
 use mathlib.Core.List.{List, [], ◌∷◌, ◌++◌, map}
@@ -8,16 +9,10 @@ use native.Mathlib.Omega.{arith}
 use borrow.Author.Tests.{leb-true, ltb-true, ltb-false, eqb-true}
 use lib.Dec.{eqb, leb, ltb}
 use lib.ListN.{length, get_or}
-use Rattle.refusal.specs.Refusal.{size_line, input_limit, entry_count}
+use Rattle.refusal.specs.Refusal.{size_line, input_limit, entry_line, entry_count, upper_entry}
 use Rattle.text_matrix_market.specs.declared.banner.Kind.{Kind}
 use Rattle.text_matrix_market.specs.declared.banner.Kind.TheVariants.{General, Symmetric, Pattern}
-use Rattle.text_matrix_market.specs.declared.banner.BannerRead.{BannerRead}
-use Rattle.text_matrix_market.specs.declared.banner.BannerRead.TheVariants as banner
-use Rattle.text_matrix_market.specs.declared.numbers.Numbers.{Numbers}
-use Rattle.text_matrix_market.specs.declared.numbers.Numbers.TheVariants.{Three, Other}
 use Rattle.text_matrix_market.specs.declared.stages.Entry.{Entry}
-use Rattle.text_matrix_market.specs.declared.stages.EntryRead.TheVariants.{Is, Misshapen, Upper}
-use Rattle.text_matrix_market.specs.declared.stages.EntryRead.{EntryRead}
 use Rattle.text_matrix_market.specs.Text.{lines_of, is_blank_line, begins_percent}
 use Rattle.text_matrix_market.specs.Numbers.{numbers_of}
 use Rattle.text_matrix_market.specs.Banner.{banner_kind}
@@ -60,10 +55,10 @@ each_at kind n P f h [] e k l = let z : ⊥ = omega arith in absurd z
 each_at kind n P f h (t ∷ entries) e zero l = h t e.0
 each_at kind n P f h (t ∷ entries) e (suc k) l = each_at kind n P f h entries e.1 k (omega arith)
 
-tested : (b u : Bool) (x t : Entry) → cond b (cond u Upper (Is x)) Misshapen ≡ Is t → (b ≡ true) × (u ≡ false) × (x ≡ t)
+tested : (b u : Bool) (x t : Entry) → cond b (cond u (Err upper_entry) (Ok x)) (Err entry_line) ≡ Ok t → (b ≡ true) × (u ≡ false) × (x ≡ t)
 tested true false x t e = (refl, refl, cc)
-tested true true x t e = let y : ◌≡◌ {A = ℕ} 0 1 = cc in let w : ⊥ = omega arith in absurd w
-tested false u x t e = let y : ◌≡◌ {A = ℕ} 0 1 = cc in let w : ⊥ = omega arith in absurd w
+tested true true x t e = let w : ⊥ = cc in absurd w
+tested false u x t e = let w : ⊥ = cc in absurd w
 
 weight_within : (kind : Kind) (n weight : ℕ) → weight_fits kind n weight ≡ true → WeightWithin kind n weight
 weight_within General n weight e = ltb-true (n * weight) (2 ^ 48) e
@@ -75,9 +70,9 @@ stored_there General row column e = tt
 stored_there Symmetric row column e = let h : column ≤ row = ltb-false row column e in omega arith
 stored_there Pattern row column e = tt
 
-from_sound : (kind : Kind) (n : ℕ) (x : Numbers) (t : Entry) → entry_from kind n x ≡ Is t → Sound kind n t
-from_sound kind n Other t e = let y : ◌≡◌ {A = ℕ} 0 1 = cc in let w : ⊥ = omega arith in absurd w
-from_sound kind n (Three row column weight) t e =
+from_sound : (kind : Kind) (n : ℕ) (x : Option (ℕ × ℕ × ℕ)) (t : Entry) → entry_from kind n x ≡ Ok t → Sound kind n t
+from_sound kind n None t e = let w : ⊥ = cc in absurd w
+from_sound kind n (Some (row, column, weight)) t e =
     let x : Entry = zero_based row column weight in
     let p = tested (is_within n row && (is_within n column && weight_fits kind n weight)) (is_upper kind row column) x t e in
     let q = both (is_within n row) (is_within n column && weight_fits kind n weight) p.0 in
@@ -104,9 +99,9 @@ either : (t : Bool) (a b : State) → Good a → Good b → Good (cond t a b)
 either true a b g h = g
 either false a b g h = h
 
-good_size : (kind : Kind) (x : Numbers) → Good (sized kind x)
-good_size kind Other = tt
-good_size kind (Three m n count) = each (eqb m n) (leb n max_order && leb count max_entries) refl
+good_size : (kind : Kind) (x : Option (ℕ × ℕ × ℕ)) → Good (sized kind x)
+good_size kind None = tt
+good_size kind (Some (m, n, count)) = each (eqb m n) (leb n max_order && leb count max_entries) refl
   where
     each : (t u : Bool) → (leb n max_order && leb count max_entries) ≡ u
         → Good (cond t (cond u (entering kind n count []) (refused input_limit)) (refused size_line))
@@ -114,16 +109,15 @@ good_size kind (Three m n count) = each (eqb m n) (leb n max_order && leb count 
     each true false e = tt
     each false u e = tt
 
-good_entry : (kind : Kind) (n count : ℕ) (entries : List Entry) (line : List ℕ) (e : EntryRead) → line_entry kind n line ≡ e
+good_entry : (kind : Kind) (n count : ℕ) (entries : List Entry) (line : List ℕ) (e : Result Entry ℕ) → line_entry kind n line ≡ e
     → Good (entering kind n count entries) → Good (entered kind n count entries e)
 unfolding line_entry
-good_entry kind n count entries line Misshapen e g = tt
-good_entry kind n count entries line Upper e g = tt
-good_entry kind n count entries line (Is t) e g = (g.0, g.1, each_more kind n entries t g.2 (from_sound kind n (numbers_of kind line) t e))
+good_entry kind n count entries line (Err fault) e g = tt
+good_entry kind n count entries line (Ok t) e g = (g.0, g.1, each_more kind n entries t g.2 (from_sound kind n (numbers_of kind line) t e))
 
-good_banner : (b : BannerRead) → Good (begun b)
-good_banner (banner.Is kind) = tt
-good_banner banner.Other = tt
+good_banner : (b : Option Kind) → Good (begun b)
+good_banner (Some kind) = tt
+good_banner None = tt
 
 good_content : (s : State) (line : List ℕ) → Good s → Good (content s line)
 unfolding content
@@ -156,8 +150,8 @@ pub record Limits (kind : Kind) (n : ℕ) (entries : List Entry) : Type 0 where
 
 good_end : (s : State) (kind : Kind) (n : ℕ) (entries : List Entry) → Good s → reading_at_end s ≡ file kind n entries → Limits kind n entries
 unfolding reading_at_end
-good_end start kind n entries g e = let y : ◌≡◌ {A = ℕ} 0 1 = cc in let w : ⊥ = omega arith in absurd w
-good_end (sizing other) kind n entries g e = let y : ◌≡◌ {A = ℕ} 0 1 = cc in let w : ⊥ = omega arith in absurd w
+good_end start kind n entries g e = let w : ⊥ = cc in absurd w
+good_end (sizing other) kind n entries g e = let w : ⊥ = cc in absurd w
 good_end (entering other m count more) kind n entries g e = all (eqb (length more) count) refl e
   where
     all : (t : Bool) → eqb (length more) count ≡ t → cond t (file other m more) (refusal entry_count) ≡ file kind n entries → Limits kind n entries
@@ -167,8 +161,8 @@ good_end (entering other m count more) kind n entries g e = all (eqb (length mor
         let q : more ≡ entries = cc in
         let l : length more ≡ count = eqb-true (length more) count h in
         rw (← o, ← p, ← q) (record { order = g.0; count = omega (arith, g.1); each = g.2 })
-    all false h x = let y : ◌≡◌ {A = ℕ} 0 1 = cc in let w : ⊥ = omega arith in absurd w
-good_end (refused number) kind n entries g e = let y : ◌≡◌ {A = ℕ} 0 1 = cc in let w : ⊥ = omega arith in absurd w
+    all false h x = let w : ⊥ = cc in absurd w
+good_end (refused number) kind n entries g e = let w : ⊥ = cc in absurd w
 
 pub accepted : (input : List ℕ) (kind : Kind) (n : ℕ) (entries : List Entry) → reading_of input ≡ file kind n entries → Limits kind n entries
 unfolding reading_of
@@ -176,4 +170,4 @@ accepted input kind n entries e = all (leb (length input) max_input) e
   where
     all : (t : Bool) → cond t (reading_at_end (read_lines start (lines_of input))) (refusal input_limit) ≡ file kind n entries → Limits kind n entries
     all true x = good_end (read_lines start (lines_of input)) kind n entries (good_lines start (lines_of input) tt) x
-    all false x = let y : ◌≡◌ {A = ℕ} 0 1 = cc in let w : ⊥ = omega arith in absurd w
+    all false x = let w : ⊥ = cc in absurd w

@@ -1,6 +1,9 @@
 -- What a line says and does, by the tests that led there.
-use mathlib.Core.Path.{◌≡◌, refl}
-use mathlib.Core.Bool.{Bool, true, false, ◌&&◌, and-false, or-true, false≢true}
+use Rattle.std.proofs.Common.{Option, Some, None, Result, Ok, Err}
+use Rattle.std.specs.Option.{ok_or}
+use Rattle.std.specs.Result.{IsErrAnd}
+use mathlib.Core.Path.{◌≡◌, refl, ap}
+use mathlib.Core.Bool.{Bool, true, false, cond, ◌&&◌, and-false, or-true, false≢true}
 use mathlib.Core.List.{List, [], ◌∷◌, ◌++◌}
 use Prim.Native.Nat.{ℕ, ◌≤◌, ◌<◌, ◌/◌}
 use native.Mathlib.Omega.{arith}
@@ -9,22 +12,35 @@ use Rattle.cost_limit.proofs.Range.{whole_quotient}
 use lib.Dec.{leb}
 use lib.ListN.{length}
 use Rattle.refusal.specs.Refusal as number
+use Rattle.refusal.specs.declared.Refusal.{Refusal}
+use Rattle.refusal.specs.Number.{number as number_is, numbered}
 use Rattle.refusal.specs.Refusal.{size_line, input_limit, entry_line, entry_count, upper_entry}
 use Rattle.text_matrix_market.specs.declared.banner.Kind.{Kind}
 use Rattle.text_matrix_market.specs.declared.banner.Kind.TheVariants.{General}
-use Rattle.text_matrix_market.specs.declared.banner.BannerRead.TheVariants as banner
-use Rattle.text_matrix_market.specs.declared.numbers.Numbers.TheVariants.{Three, Other}
-use Rattle.text_matrix_market.specs.declared.stages.EntryRead.TheVariants.{Is, Misshapen, Upper}
 use Rattle.text_matrix_market.specs.declared.stages.Entry.{Entry}
 use Rattle.text_matrix_market.specs.Text.{is_blank_line, begins_percent}
 use Rattle.text_matrix_market.specs.Numbers.{numbers_of}
 use Rattle.text_matrix_market.specs.Banner.{banner_kind}
 use Rattle.text_matrix_market.specs.File.{max_line, is_within, weight_fits, is_upper, zero_based, line_entry, State, start, sizing, entering, refused}
-use Rattle.text_matrix_market.specs.File.{content, too_long, read_line}
+use Rattle.text_matrix_market.specs.File.{content, too_long, read_line, read_lines}
 
 pub both : (s t : Bool) → (s && t) ≡ true → (s ≡ true) × (t ≡ true)
 both true t h = (refl, h)
 both false t h = absurd (false≢true h)
+
+-- ---- an `Option` that became a `Result` by a refusal for none
+pub some_of_ok_or : {A E : Type 0} (o : Option A) (e : E) (x : A) → Ok x ≡ ok_or o e → o ≡ Some x
+some_of_ok_or (Some y) e x h = cc
+some_of_ok_or None e x h = let y : ⊥ = cc in absurd y
+
+pub none_of_ok_or : {A E : Type 0} (o : Option A) (e f : E) → Err f ≡ ok_or o e → (o ≡ None) × (f ≡ e)
+none_of_ok_or (Some y) e f h = let z : ⊥ = cc in absurd z
+none_of_ok_or None e f h = (refl, cc)
+
+-- the refusal that `?` hands on
+pub refused_with : {A : Type 0} (r : Result A Refusal) (e : Refusal) → IsErrAnd r (λ (f : Refusal). f ≡ e) → numbered r ≡ Err (number_is e)
+refused_with (Ok x) e h = absurd h
+refused_with (Err f) e h = ap (λ (g : Refusal). Err (number_is g)) h
 
 -- ---- an entry line
 pub inside : (n index : ℕ) → is_within n index ≡ true → (1 ≤ index) × (index ≤ n)
@@ -39,31 +55,31 @@ pub general_fits : (n weight : ℕ) → 0 < n → leb weight (0xffff_ffff_ffff /
 general_fits n weight h = rw (whole_quotient n weight h) refl
 
 module _ (kind : Kind) (n : ℕ) (line : List ℕ) where
-  pub no_entry : numbers_of kind line ≡ Other → Misshapen ≡ line_entry kind n line
+  pub no_entry : numbers_of kind line ≡ None → Err entry_line ≡ line_entry kind n line
   unfolding line_entry
   no_entry e = rw e
 
-  module _ {row column weight : ℕ} (e : numbers_of kind line ≡ Three row column weight) where
-    pub row_out : is_within n row ≡ false → Misshapen ≡ line_entry kind n line
+  module _ {row column weight : ℕ} (e : numbers_of kind line ≡ Some (row, column, weight)) where
+    pub row_out : is_within n row ≡ false → Err entry_line ≡ line_entry kind n line
     unfolding line_entry
     row_out h = rw (e, h)
 
     module _ (h : is_within n row ≡ true) where
-      pub column_out : is_within n column ≡ false → Misshapen ≡ line_entry kind n line
+      pub column_out : is_within n column ≡ false → Err entry_line ≡ line_entry kind n line
       unfolding line_entry
       column_out k = rw (e, h, k)
 
       module _ (k : is_within n column ≡ true) where
-        pub weight_out : weight_fits kind n weight ≡ false → Misshapen ≡ line_entry kind n line
+        pub weight_out : weight_fits kind n weight ≡ false → Err entry_line ≡ line_entry kind n line
         unfolding line_entry
         weight_out w = rw (e, h, k, w)
 
         module _ (w : weight_fits kind n weight ≡ true) where
-          pub upper_entry_lem : is_upper kind row column ≡ true → Upper ≡ line_entry kind n line
+          pub upper_entry_lem : is_upper kind row column ≡ true → Err upper_entry ≡ line_entry kind n line
           unfolding line_entry
           upper_entry_lem u = rw (e, h, k, w, u)
 
-          pub an_entry : is_upper kind row column ≡ false → Is (zero_based row column weight) ≡ line_entry kind n line
+          pub an_entry : is_upper kind row column ≡ false → Ok (zero_based row column weight) ≡ line_entry kind n line
           unfolding line_entry
           an_entry u = rw (e, h, k, w, u)
 
@@ -78,11 +94,11 @@ module _ (kind : Kind) (line : List ℕ) where
   comment_passed e = rw (e, or-true)
 
   module _ (b : is_blank_line line ≡ false) (p : begins_percent line ≡ false) where
-    pub no_size : numbers_of General line ≡ Other → refused size_line ≡ content (sizing kind) line
+    pub no_size : numbers_of General line ≡ None → refused size_line ≡ content (sizing kind) line
     unfolding content
     no_size e = rw (b, p, e)
 
-    module _ {m n count : ℕ} (e : numbers_of General line ≡ Three m n count) where
+    module _ {m n count : ℕ} (e : numbers_of General line ≡ Some (m, n, count)) where
       pub not_square : (m ≡ n → ⊥) → refused size_line ≡ content (sizing kind) line
       unfolding content
       not_square h = rw (b, p, e, ne_eqb m n h)
@@ -110,32 +126,24 @@ module _ (kind : Kind) (n count : ℕ) (entries : List Entry) (line : List ℕ) 
     unfolding content
     one_too_many h = rw (b, le-ltb (length entries) count h)
 
-    pub misshapen : length entries < count → line_entry kind n line ≡ Misshapen → refused entry_line ≡ content (entering kind n count entries) line
+    pub refused_entry : {fault : ℕ} → length entries < count → line_entry kind n line ≡ Err fault → refused fault ≡ content (entering kind n count entries) line
     unfolding content
-    misshapen h e = rw (b, lt-ltb (length entries) count h, e)
+    refused_entry h e = rw (b, lt-ltb (length entries) count h, e)
 
-    pub above : length entries < count → line_entry kind n line ≡ Upper → refused upper_entry ≡ content (entering kind n count entries) line
-    unfolding content
-    above h e = rw (b, lt-ltb (length entries) count h, e)
-
-    pub entered : {t : Entry} → length entries < count → line_entry kind n line ≡ Is t → entering kind n count (entries ++ (t ∷ [])) ≡ content
+    pub entered : {t : Entry} → length entries < count → line_entry kind n line ≡ Ok t → entering kind n count (entries ++ (t ∷ [])) ≡ content
         (entering kind n count entries) line
     unfolding content
     entered h e = rw (b, lt-ltb (length entries) count h, e)
 
 -- ---- the first line, and a line by its length
 module _ (line : List ℕ) where
-  pub banner_there : {kind : Kind} → banner_kind line ≡ banner.Is kind → sizing kind ≡ content start line
+  pub banner_there : {kind : Kind} → banner_kind line ≡ Some kind → sizing kind ≡ content start line
   unfolding content
   banner_there e = rw e
 
-  pub banner_lacks : banner_kind line ≡ banner.Other → refused number.banner ≡ content start line
+  pub banner_lacks : banner_kind line ≡ None → refused number.banner ≡ content start line
   unfolding content
   banner_lacks e = rw e
-
-  pub still_refused : (number : ℕ) → refused number ≡ content (refused number) line
-  unfolding content
-  still_refused number = refl
 
   pub short : {r : State} (s : State) → length line ≤ max_line → r ≡ content s line → r ≡ read_line s line
   unfolding read_line
@@ -144,3 +152,17 @@ module _ (line : List ℕ) where
   pub long : {r : State} (s : State) → max_line < length line → r ≡ too_long s → r ≡ read_line s line
   unfolding read_line
   long s h e = rw (lt-leb (length line) max_line h) e
+
+-- ---- a refusal stays, whatever the lines below say
+refused_line : (number : ℕ) (line : List ℕ) → read_line (refused number) line ≡ refused number
+unfolding read_line content
+refused_line number line = by (leb (length line) max_line)
+  where
+    by : (t : Bool) → cond t (refused number) (refused number) ≡ refused number
+    by true = refl
+    by false = refl
+
+pub refused_lines : (number : ℕ) (lines : List (List ℕ)) → read_lines (refused number) lines ≡ refused number
+unfolding read_lines
+refused_lines number [] = refl
+refused_lines number (line ∷ lines) = rw (refused_line number line) (refused_lines number lines)

@@ -1,4 +1,5 @@
 -- Entries in three lists: the first are as many as asked for, a store past them changes none, and one at the next place adds one. By induction on their number.
+use Rattle.std.proofs.Common.{Ok}
 use mathlib.Core.Path.{◌≡◌, refl, ap₂}
 use mathlib.Core.Bool.{false}
 use mathlib.Core.List.{List, [], ◌∷◌, ◌++◌, map, map-append}
@@ -9,7 +10,6 @@ use lib.ListN.{length, take, get_or, set, length-append}
 use lib.Seq.{get_or-set_same, get_or-set_other, take-suc}
 use Rattle.text_matrix_market.specs.declared.banner.Kind.{Kind}
 use Rattle.text_matrix_market.specs.declared.stages.Entry.{Entry}
-use Rattle.text_matrix_market.specs.declared.stages.EntryRead.TheVariants.{Is}
 use Rattle.text_matrix_market.specs.Text.{is_blank_line}
 use Rattle.text_matrix_market.specs.File.{line_entry, entering, content}
 use Rattle.text_matrix_market.specs.inner.Steps.{Lists, lists, entry_at, first_entries, Places}
@@ -46,7 +46,7 @@ one_more k l t h =
 
 -- an entry line: its entry goes to the next place
 pub added : (kind : Kind) (n count read : ℕ) (l : Lists) (line : List ℕ) {t : Entry} → is_blank_line line ≡ false → Places count l → read < count
-    → line_entry kind n line ≡ Is t
+    → line_entry kind n line ≡ Ok t
     → entering kind n count (first_entries (read + 1) (put l read t)) ≡ content (entering kind n count (first_entries read l)) line
 added kind n count read l line {t} b p h e =
     let k : length (first_entries read l) ≡ read = length_first read l in

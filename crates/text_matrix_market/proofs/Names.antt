@@ -1,38 +1,37 @@
--- A word against a name, as a loop compares them: by one step of the definition each.
-use mathlib.Core.Path.{◌≡◌, refl, sym, ap, ◌∙◌}
+-- A word against a name, as `all` compares them byte by byte: by induction on the two.
+use mathlib.Core.Path.{◌≡◌, refl, ap, ap₂}
 use mathlib.Core.Bool.{Bool, true, false, ◌&&◌}
 use mathlib.Core.List.{List, [], ◌∷◌}
-use Prim.Native.Nat.{ℕ, suc, ◌+◌, ◌≤◌, ◌<◌}
-use native.Mathlib.Numerals.{add-one}
-use borrow.Author.Tests.{eq-eqb, ne_eqb}
+use Prim.Native.Nat.{ℕ, suc}
+use native.Mathlib.Omega.{arith}
 use lib.Dec.{eqb}
-use lib.ListN.{length, get_or, drop, drop_of_length-le}
-use lib.Seq.{drop-cons}
+use lib.ListN.{length}
+use Rattle.std.specs.Char.{to_ascii_lowercase}
+use Rattle.std.specs.List.{list_all, zip}
+use Rattle.std.proofs.lemmas.Bool.Decides.{nat_tests}
 use Rattle.text_matrix_market.specs.Banner.{lower_case, same_word}
 
-pub same_length_lem : (word name : List ℕ) → (length word ≡ length name → ⊥) → false ≡ same_word word name
+pub same_length : (word name : List ℕ) → (length word ≡ length name → ⊥) → false ≡ same_word word name
 unfolding same_word
-same_length_lem [] [] h = absurd (h refl)
-same_length_lem [] (y ∷ name) h = refl
-same_length_lem (x ∷ word) [] h = refl
-same_length_lem (x ∷ word) (y ∷ name) h =
-    other (eqb (lower_case x) y) (same_length_lem word name (λ e. h (ap suc e)))
+same_length [] [] h = absurd (h refl)
+same_length [] (y ∷ name) h = refl
+same_length (x ∷ word) [] h = refl
+same_length (x ∷ word) (y ∷ name) h =
+    other (eqb (lower_case x) y) (same_length word name (λ e. h (ap suc e)))
   where
     other : (t : Bool) → false ≡ same_word word name → false ≡ (t && same_word word name)
     other true e = e
     other false e = refl
 
-module _ (word name : List ℕ) (i : ℕ) (h : i < length word) (k : i < length name) where
-  turn : same_word (drop i word) (drop i name) ≡ (eqb (lower_case (get_or word i 0)) (get_or name i 0) && same_word (drop (i + 1) word) (drop (i + 1) name))
-  unfolding same_word
-  turn = rw (drop-cons word i 0 h, drop-cons name i 0 k, add-one)
+-- std's test of a capital letter is the definition's
+lower_same : (b : ℕ) → to_ascii_lowercase b ≡ lower_case b
+lower_same b = grind (arith, nat_tests)
 
-  pub same_turn : lower_case (get_or word i 0) ≡ get_or name i 0 → same_word (drop i word) (drop i name) ≡ same_word (drop (i + 1) word) (drop (i + 1) name)
-  same_turn e = turn ∙ rw (eq-eqb _ _ e)
-
-  pub same_differ : (lower_case (get_or word i 0) ≡ get_or name i 0 → ⊥) → false ≡ same_word (drop i word) (drop i name)
-  same_differ e = sym (turn ∙ rw (ne_eqb _ _ e))
-
-pub same_end : (word name : List ℕ) (i : ℕ) → length word ≤ i → length name ≤ i → true ≡ same_word (drop i word) (drop i name)
+pub same_bytes : (word name : List ℕ) → length word ≡ length name
+    → list_all (λ (p : ℕ × ℕ). eqb (to_ascii_lowercase p.0) p.1) (zip word name) ≡ same_word word name
 unfolding same_word
-same_end word name i h k = rw (drop_of_length-le word {i = i} h, drop_of_length-le name {i = i} k)
+same_bytes [] [] h = refl
+same_bytes [] (y ∷ name) h = let z : ⊥ = omega arith in absurd z
+same_bytes (x ∷ word) [] h = let z : ⊥ = omega arith in absurd z
+same_bytes (x ∷ word) (y ∷ name) h =
+    ap₂ ◌&&◌ (ap (λ (b : ℕ). eqb b y) (lower_same x)) (same_bytes word name (omega arith))

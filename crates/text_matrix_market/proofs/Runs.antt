@@ -11,14 +11,15 @@ use lib.ListN.{length, take, drop}
 use Rattle.refusal.specs.Refusal.{input_limit, entry_count}
 use Rattle.text_matrix_market.specs.declared.banner.Kind.{Kind}
 use Rattle.text_matrix_market.specs.declared.stages.Stage.{Stage}
-use Rattle.text_matrix_market.specs.declared.stages.Stage.TheVariants.{Start, Sizing, Entering, Refused}
+use Rattle.text_matrix_market.specs.declared.stages.Stage.TheVariants.{Start, Sizing, Entering}
 use Rattle.text_matrix_market.specs.Text.{lines_of}
-use Rattle.text_matrix_market.specs.File.{max_input, max_entries, State, entering, read_lines, Reading, file, refusal, reading_at_end, reading_of}
+use Rattle.text_matrix_market.specs.File.{max_input, max_entries, State, entering, refused, read_lines, Reading, file, refusal, reading_at_end, reading_of}
 use Rattle.text_matrix_market.specs.inner.Steps.{line_end, Lists, first_entries, state_of, Places, Room, stored, taken_of}
 use Rattle.text_matrix_market.proofs.Words.{lines_first, lines_none}
 use Rattle.text_matrix_market.proofs.Filling.{length_first}
 use Rattle.text_matrix_market.proofs.Accepted.{Good, good_line}
-use Rattle.text_matrix_market.proofs.Taken.{LineLeft, Held, held_first, held_next, held_last}
+use Rattle.text_matrix_market.proofs.Entries.{refused_lines}
+use Rattle.text_matrix_market.proofs.Taken.{LineLeft, Held, held_first, held_next, held_refused, held_last}
 
 -- the lists are as long as they were
 pub record Kept (before after : Lists) : Type 0 where
@@ -40,7 +41,6 @@ room : (stage : Stage) (l : Lists) → Good (state_of stage l) → Places max_en
 room Start l g p = tt
 room (Sizing kind) l g p = tt
 room (Entering kind n count read) l g p = (omega (arith, g.1, p.0), omega (arith, g.1, p.1), omega (arith, g.1, p.2))
-room (Refused number) l g p = tt
 
 -- the answer, and what is left
 abbrev Answered : Reading → List ℕ → Lists → Lists → Type 0
@@ -79,6 +79,22 @@ module _ (input : List ℕ) (first : Lists) where
           held = subst (λ (s : State). Held (taken_of input) first s l' (lines_of (drop (end + 1) input))) (sym a.0)
               (held_next line (lines_of (drop (end + 1) input)) (subst (Held (taken_of input) first (state_of stage l) l) cut o.held) a.1);
         }
+
+    -- a refused line ends the reading: the lines below it change nothing
+    pub refused_there : {end number : ℕ} {l' : Lists} → at < length input → end ≡ line_end input at
+        → LineLeft (refused number) (state_of stage l) l' l (line_at input at end) → Answered (refusal number) input first l'
+    unfolding read_lines reading_at_end
+    refused_there {end} {number} {l'} h e a =
+        let line = line_at input at end in
+        let rest = lines_of (drop (end + 1) input) in
+        let cut : lines_of (drop at input) ≡ line ∷ rest = rw e (lines_first input at h) in
+        let last : Held (taken_of input) first (refused number) l' rest =
+        subst (λ (s : State). Held (taken_of input) first s l' rest) (sym a.0)
+        (held_next line rest (subst (Held (taken_of input) first (state_of stage l) l) cut o.held) a.1) in (
+          sym (o.same ∙ ap (λ (lines : List (List ℕ)). reading_at_end (read_lines (state_of stage l) lines)) cut
+              ∙ ap (λ (s : State). reading_at_end (read_lines s rest)) (sym a.0) ∙ ap reading_at_end (refused_lines number rest)),
+          held_refused refl last,
+        )
 
     pub concluded : {r : Reading} → length input ≤ at → r ≡ reading_at_end (state_of stage l) → Answered r input first l
     unfolding read_lines

@@ -1,4 +1,5 @@
 -- What a reading leaves in the lists: a line adds its entry after those before it, or nothing, and what is stored in two parts is stored at once.
+use Rattle.std.proofs.Common.{Option, Some, None, Result, Ok, Err}
 use mathlib.Core.Path.{◌≡◌, refl, sym, ap, ◌∙◌}
 use mathlib.Core.Bool.{Bool, true, false, cond, ◌&&◌, ◌||◌, true≢false, false≢true}
 use mathlib.Core.List.{List, [], ◌∷◌, ◌++◌, map, map-append, append-nil}
@@ -8,16 +9,10 @@ use native.Mathlib.Omega.{arith}
 use lib.Dec.{eqb, leb, ltb}
 use lib.ListN.{length, drop, length-map, drop_of_length-le}
 use lib.Seq.{sets, drop_at}
-use Rattle.refusal.specs.Refusal.{input_limit, entry_line, entry_count, upper_entry}
+use Rattle.refusal.specs.Refusal.{input_limit, entry_count}
 use Rattle.text_matrix_market.specs.declared.banner.Kind.{Kind}
 use Rattle.text_matrix_market.specs.declared.banner.Kind.TheVariants.{General}
-use Rattle.text_matrix_market.specs.declared.banner.BannerRead.{BannerRead}
-use Rattle.text_matrix_market.specs.declared.banner.BannerRead.TheVariants as banner
-use Rattle.text_matrix_market.specs.declared.numbers.Numbers.{Numbers}
-use Rattle.text_matrix_market.specs.declared.numbers.Numbers.TheVariants.{Three, Other}
 use Rattle.text_matrix_market.specs.declared.stages.Entry.{Entry}
-use Rattle.text_matrix_market.specs.declared.stages.EntryRead.{EntryRead}
-use Rattle.text_matrix_market.specs.declared.stages.EntryRead.TheVariants.{Is, Misshapen, Upper}
 use Rattle.text_matrix_market.specs.Text.{is_blank_line, begins_percent}
 use Rattle.text_matrix_market.specs.Numbers.{numbers_of}
 use Rattle.text_matrix_market.specs.Banner.{banner_kind}
@@ -26,7 +21,7 @@ use Rattle.text_matrix_market.specs.File.{entered as enter, content, too_long, r
 use Rattle.text_matrix_market.specs.inner.Steps.{Lists, first_entries, Places, stored, is_refused, entries_in, line_stored}
 use Rattle.text_matrix_market.specs.inner.Steps.{taken}
 use Rattle.text_matrix_market.specs.File.{entry_row, entry_column, entry_weight}
-use Rattle.text_matrix_market.proofs.Entries.{blank_below, one_too_many, misshapen, above, entered, still_refused, short, long}
+use Rattle.text_matrix_market.proofs.Entries.{blank_below, one_too_many, refused_entry, entered, short, long}
 use Rattle.text_matrix_market.proofs.Filling.{length_first, put, added}
 
 -- ---- lists
@@ -74,13 +69,10 @@ module _ (kind : Kind) (n count read : ℕ) (l : Lists) (line : List ℕ) where
     too_many_left h = refused_left here l line entry_count (one_too_many kind n count (first_entries read l) line b (rw length_first h))
 
     module _ (h : read < count) where
-      pub misshapen_left : line_entry kind n line ≡ Misshapen → Left (refused entry_line) here l l line
-      misshapen_left e = refused_left here l line entry_line (misshapen kind n count (first_entries read l) line b (rw length_first h) e)
+      pub entry_refused_left : {fault : ℕ} → line_entry kind n line ≡ Err fault → Left (refused fault) here l l line
+      entry_refused_left {fault} e = refused_left here l line fault (refused_entry kind n count (first_entries read l) line b (rw length_first h) e)
 
-      pub above_left : line_entry kind n line ≡ Upper → Left (refused upper_entry) here l l line
-      above_left e = refused_left here l line upper_entry (above kind n count (first_entries read l) line b (rw length_first h) e)
-
-      pub added_left : {t : Entry} → Places count l → line_entry kind n line ≡ Is t
+      pub added_left : {t : Entry} → Places count l → line_entry kind n line ≡ Ok t
           → Left (entering kind n count (first_entries (read + 1) (put l read t))) here (put l read t) l line
       added_left {t} p e =
           let f : length (first_entries read l) ≡ read = length_first read l in
@@ -92,9 +84,9 @@ pub none_at_start : (line : List ℕ) → entries_in (content start line) ≡ []
 unfolding content
 none_at_start line = by (banner_kind line)
   where
-    by : (b : BannerRead) → entries_in (begun b) ≡ []
-    by (banner.Is kind) = refl
-    by banner.Other = refl
+    by : (b : Option Kind) → entries_in (begun b) ≡ []
+    by (Some kind) = refl
+    by None = refl
 
 either : (t : Bool) (a b : State) → entries_in a ≡ [] → entries_in b ≡ [] → entries_in (cond t a b) ≡ []
 either true a b g h = g
@@ -104,9 +96,9 @@ pub none_above : (kind : Kind) (line : List ℕ) → entries_in (content (sizing
 unfolding content
 none_above kind line = either (is_blank_line line || begins_percent line) _ _ refl (by (numbers_of General line))
   where
-    by : (x : Numbers) → entries_in (sized kind x) ≡ []
-    by Other = refl
-    by (Three m n count) = either (eqb m n) _ _ (either (leb n max_order && leb count max_entries) _ _ refl refl) refl
+    by : (x : Option (ℕ × ℕ × ℕ)) → entries_in (sized kind x) ≡ []
+    by None = refl
+    by (Some (m, n, count)) = either (eqb m n) _ _ (either (leb n max_order && leb count max_entries) _ _ refl refl) refl
 
 pub none_too_long : (s : State) → entries_in (too_long s) ≡ []
 none_too_long start = refl
@@ -139,22 +131,18 @@ module _ (line : List ℕ) where
     pub above_size_left : {r : State} (kind : Kind) (l : Lists) → r ≡ content (sizing kind) line → LineLeft r (sizing kind) l l line
     above_size_left kind l e = quiet_left (sizing kind) l (none_above kind line) e
 
-    pub still_left : (k : ℕ) (l : Lists) → LineLeft (refused k) (refused k) l l line
-    still_left k l = short_left (refused k) l l (refused_left (refused k) l line k (still_refused line k))
-
 -- ---- from line to line
 -- what a state has more than the one before it
 abbrev More : State → State → Type 0
 More s next = (more : List Entry) × (entries_in next ≡ entries_in s ++ more)
 
-below_adds : (kind : Kind) (n count : ℕ) (entries : List Entry) (t b u : Bool) (e : EntryRead)
+below_adds : (kind : Kind) (n count : ℕ) (entries : List Entry) (t b u : Bool) (e : Result Entry ℕ)
     → is_refused (cond t (cond b (entering kind n count entries) (cond u (enter kind n count entries e) (refused entry_count))) (refused input_limit)) ≡ false
     → More (entering kind n count entries)
     (cond t (cond b (entering kind n count entries) (cond u (enter kind n count entries e) (refused entry_count))) (refused input_limit))
 below_adds kind n count entries true true u e h = ([], sym (append-nil entries))
-below_adds kind n count entries true false true (Is x) h = (x ∷ [], refl)
-below_adds kind n count entries true false true Misshapen h = absurd (true≢false h)
-below_adds kind n count entries true false true Upper h = absurd (true≢false h)
+below_adds kind n count entries true false true (Ok x) h = (x ∷ [], refl)
+below_adds kind n count entries true false true (Err fault) h = absurd (true≢false h)
 below_adds kind n count entries true false false e h = absurd (true≢false h)
 below_adds kind n count entries false b u e h = absurd (true≢false h)
 
@@ -207,6 +195,12 @@ module _ {all : List Entry} {first : Lists} {s : State} {l : Lists} where
       by : (t : Bool) → is_refused s ≡ t → all ≡ cond t h.entries (entries_in s) → all ≡ h.entries
       by true e x = x
       by false e x = x ∙ h.now e
+
+  -- at a refusal, whatever the lines below say
+  pub held_refused : {lines : List (List ℕ)} → is_refused s ≡ true → Held all first s l lines → l ≡ stored 0 all first
+  held_refused {lines} r h =
+      let e : all ≡ h.entries = h.same ∙ rw r in
+      h.left ∙ ap (λ (es : List Entry). stored 0 es first) (sym e)
 
   pub held_next : {l' : Lists} (line : List ℕ) (lines : List (List ℕ)) → Held all first s l (line ∷ lines) → l' ≡ line_stored s (read_line s line) l
       → Held all first (read_line s line) l' lines

@@ -1,4 +1,7 @@
 -- Lines and words by places: where the first line or word ends, and what follows it. By induction on the list.
+use Rattle.std.proofs.Common.{nat_eq}
+use Rattle.std.specs.List.{starts_with}
+use Rattle.std.proofs.lemmas.Bool.Decides.{nat_tests}
 use mathlib.Core.Path.{◌≡◌, refl, sym, ap, ◌∙◌}
 use mathlib.Core.Bool.{Bool, true, false, not, cond}
 use mathlib.Core.Logic.{◌⊎◌, inl, inr, ⊎_elim}
@@ -8,11 +11,11 @@ use native.Mathlib.Omega.{arith}
 use native.Mathlib.Nat.{le_antisymm}
 use borrow.Author.Tests.{eq-eqb, ne_eqb}
 use lib.Dec.{eqb}
-use lib.ListN.{length, get_or, take, drop, length-drop, drop_of_length-le}
+use lib.ListN.{length, take, drop, length-drop, drop_of_length-le}
 use lib.Seq.{drop-drop}
 use Rattle.text_matrix_market.specs.Text.{is_blank, is_line_feed, prepend, cut, non_empty, lines_of, words_of, is_nil, begins_percent}
 use Rattle.text_matrix_market.specs.inner.Steps.{up_to, reach, is_word_byte, line_end, word_start, word_end, next_word, word_past}
-use Rattle.text_matrix_market.proofs.Reaching.{reach_within}
+use Rattle.text_matrix_market.proofs.Reaching.{reach_from, reach_within}
 
 -- a word that is not empty is kept
 pub word_kept : (word : List ℕ) (words : List (List ℕ)) → 0 < length word → non_empty (word ∷ words) ≡ word ∷ non_empty words
@@ -20,15 +23,11 @@ unfolding non_empty
 word_kept [] words h = let z : ⊥ = omega arith in absurd z
 word_kept (b ∷ word) words h = refl
 
-pub percent_none : (l : List ℕ) → length l ≡ 0 → false ≡ begins_percent l
+-- as std's `starts_with` tests it
+pub percent_test : (l : List ℕ) → starts_with nat_eq l (37 ∷ []) ≡ begins_percent l
 unfolding begins_percent
-percent_none [] h = refl
-percent_none (b ∷ l) h = let z : ⊥ = omega arith in absurd z
-
-pub percent_first : (l : List ℕ) → (length l ≡ 0 → ⊥) → eqb (get_or l 0 0) 37 ≡ begins_percent l
-unfolding begins_percent
-percent_first [] h = absurd (h refl)
-percent_first (b ∷ l) h = refl
+percent_test [] = refl
+percent_test (b ∷ l) = grind (arith, nat_tests)
 
 -- ---- a list that is not empty is its first part, and the parts behind the byte that ends it
 module _ (ends : ℕ → Bool) where
@@ -198,3 +197,9 @@ module _ (line : List ℕ) (from : ℕ) {begin end : ℕ} (b : begin ≡ word_st
   pub found_past : end ≡ word_past line from
   unfolding word_past
   found_past = rw (e, b)
+
+  pub end_within : from ≤ length line → end ≤ length line
+  end_within h = omega (arith, reach_within is_blank line begin (omega (arith, reach_within is_word_byte line from h)))
+
+  pub end_past : begin ≤ end
+  end_past = omega (arith, reach_from is_blank line begin)

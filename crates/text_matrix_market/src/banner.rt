@@ -1,8 +1,9 @@
 // The banner, word by word.
 ghost use Rattle.std.specs.Prelude.{◌≡◌, ◌≤◌, ◌<◌, length, IfSome};
+ghost use Rattle.std.specs.Bool.{then_some};
 ghost use Rattle.text_matrix_market.specs.Text.{words_of};
 ghost use Rattle.text_matrix_market.specs.Banner.{same_word, same_words, banner_words, is_banner, banner_kind};
-ghost use Rattle.text_matrix_market.specs.inner.Steps.{next_of, next_word, word_past, nothing_past};
+ghost use Rattle.text_matrix_market.specs.inner.Steps.{next_word, word_past, nothing_past};
 
 use crate::text;
 
@@ -19,14 +20,17 @@ fn same_word(word: &[u8], name: &[u8]) -> bool
     ensures { result ≡ same_word word.now name.now }
 {
     word.len() == name.len()
-        && word.iter().zip(name).all(|(x, y)| x.to_ascii_lowercase() == *y)
+        && word
+            .iter()
+            .zip(name)
+            .all(|(x, y)| x.to_ascii_lowercase() == *y)
 }
 
 // Where the next word of the line ends, if it is the name.
 fn next_is(line: &[u8], from: usize, name: &[u8]) -> Option<usize>
     requires { from ≤ length line.now }
     ensures { let word = next_word line.now from in
-        result ≡ next_of (same_word word name.now) (word_past line.now from) }
+        result ≡ then_some (same_word word name.now) (word_past line.now from) }
 {
     let start = text::word_start(line, from);
     let end = text::word_end(line, start);

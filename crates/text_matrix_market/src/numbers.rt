@@ -29,10 +29,7 @@ pub fn read_number(word: &[u8]) -> Option<u64>
 fn read_size(word: &[u8]) -> Option<u64>
     ensures { result ≡ size_read word.now }
 {
-    match word {
-        [b'-', digits @ ..] => read_number(digits),
-        _ => read_number(word),
-    }
+    read_number(word.strip_prefix(b"-").unwrap_or(word))
 }
 
 // The number of a word, which may begin with a minus if it is `signed`.

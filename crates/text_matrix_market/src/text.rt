@@ -54,5 +54,5 @@ pub fn is_blank_line(line: &[u8]) -> bool
 pub fn begins_percent(line: &[u8]) -> bool
     ensures { result ≡ begins_percent line.now }
 {
-    matches!(line, [b'%', ..])
+    line.starts_with(b"%")
 }

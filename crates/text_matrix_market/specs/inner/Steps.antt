@@ -57,10 +57,6 @@ weight_field kind.General line from = field_of (number_read (next_word line from
 weight_field kind.Symmetric line from = field_of (size_read (next_word line from)) (word_past line from)
 weight_field kind.Pattern line from = Some (0, from)
 
--- the next word is the name
-abbrev pub next_of : Bool → ℕ → Option ℕ
-next_of same past = cond same (Some past) None
-
 -- a place was found, and no word begins from there on
 abbrev pub nothing_past : Option ℕ → List ℕ → Bool
 nothing_past None line = false
