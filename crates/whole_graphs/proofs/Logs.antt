@@ -9,6 +9,7 @@ use lib.Dec.{T, eqb}
 use lib.IntN.{ℤ}
 use lib.Ieee.{Float, nan, inf, fin, binary64, up, down, fits, eq, of_int, of_bits}
 use lib.Ieee.Scale.{finite}
+use Rattle.std.specs.Prelude.{Result, Ok, Err}
 use Rattle.float64.specs.Number.{Whole, negative, magnitude, origin, units_per_one}
 use Rattle.float64.specs.inner.Keys.{place, position}
 use Rattle.float64.specs.Constants as Constants
@@ -17,8 +18,6 @@ use Rattle.float64.proofs.Scale.{units_pos, mag_lt}
 use Rattle.float64.proofs.WholeNumbers.{number_whole, whole_key}
 use Rattle.cost_limit.specs.Range.{times_below, in_log_range}
 use Rattle.whole_log.specs.Log.{whole_log, double_of}
-use Rattle.whole_log.specs.declared.Log.{Log}
-use Rattle.whole_log.specs.declared.Log.TheVariants.{Is, Refused}
 use Rattle.whole_log.proofs.Theorems.{log_small, log_whole}
 use Rattle.mc64_columns.proofs.Whole.{Short}
 
@@ -47,7 +46,7 @@ short_in_range n x z few w h g =
 
 -- ---- the log of a value
 -- a finite value that does not equal zero has one
-has_log : (x : Float) → T (finite x) → eq x Constants.zero ≡ false → (p : ℤ) × (whole_log x ≡ Is p)
+has_log : (x : Float) → T (finite x) → eq x Constants.zero ≡ false → (p : ℤ) × (whole_log x ≡ Ok p)
 unfolding whole_log eq of_bits
 has_log nan f h = absurd f
 has_log (inf s) f h = absurd f
@@ -67,7 +66,7 @@ value_log n x few t f h =
     let l = has_log x f h in
     let r = log_small x l.0 t l.1 in
     let w = log_whole x l.0 t l.1 in
-    subst (λ (y : Log). Short (double_of y) × (in_log_range n (double_of y) ≡ true)) (sym l.1) (
+    subst (λ (y : Result ℤ ℕ). Short (double_of y) × (in_log_range n (double_of y) ≡ true)) (sym l.1) (
       record { number = l.0; whole = w; up = omega arith; down = omega arith },
       short_in_range n (of_int binary64 l.0) l.0 few w (omega arith)
           (omega arith),
@@ -77,6 +76,6 @@ value_log n x few t f h =
 pub log_double : (x : Float) → T (fits binary64 x) → T (fits binary64 (double_of (whole_log x)))
 log_double x t = go (whole_log x) (λ p e. (log_whole x p t e).double)
   where
-    go : (a : Log) → ((p : ℤ) → a ≡ Is p → T (fits binary64 (of_int binary64 p))) → T (fits binary64 (double_of a))
-    go (Is p) g = g p refl
-    go (Refused number) g = unfold fits in tt
+    go : (a : Result ℤ ℕ) → ((p : ℤ) → a ≡ Ok p → T (fits binary64 (of_int binary64 p))) → T (fits binary64 (double_of a))
+    go (Ok p) g = g p refl
+    go (Err number) g = unfold fits in tt

@@ -14,6 +14,8 @@ use lib.ListN.{length, get_or, drop, length-map}
 use lib.Seq.{take_at}
 use Rattle.limits.specs.Limits.{max_symmetric, max_general}
 use Rattle.float64.specs.Constants as Constants
+use Rattle.std.specs.Prelude.{Result}
+use Rattle.refusal.specs.Number.{fault_of}
 use Rattle.refusal.specs.Refusal.{cost_range, value_not_finite}
 use Rattle.refusal.specs.Listed.{listed, general_numbers, symmetric_numbers, whole_general_numbers, whole_symmetric_numbers}
 use Rattle.sparse.specs.Fault.{unless, or_else}
@@ -34,8 +36,7 @@ use Rattle.hungarian.specs.Optimal.{WholeCosts}
 use Rattle.hungarian.proofs.Theorems.{match_optimal}
 use Rattle.whole_log.specs.Log.{whole_log, double_of}
 use Rattle.mc64_columns.specs.Columns.{value_logs}
-use Rattle.mc64_columns.specs.Graphs.{Slices, slices_fit, number_of, GraphColumns, kept_before, graph_pointers, graph_rows, graph_costs, graph_largest, built, outcome}
-use Rattle.mc64_columns.specs.declared.Built.{Built}
+use Rattle.mc64_columns.specs.Graphs.{Slices, slices_fit, GraphColumns, kept_before, graph_pointers, graph_rows, graph_costs, graph_largest, built, outcome}
 use Rattle.mc64_columns.proofs.Calls.{outcome_listed, lengths_fitting}
 use Rattle.mc64_columns.proofs.Graphs.{costs_length, ones_at}
 use Rattle.mc64_columns.proofs.Whole.{value_log_at, Short, columns_whole_lem}
@@ -78,9 +79,9 @@ left_is g m s after e =
     rw (e, last, rows, costs) refl
 
 -- and it is left if nothing is wrong
-pub left_built : (n : ℕ) (g : GraphColumns) (logs : List Float) (s after : Slices) (a : Built) (fault : ℕ)
+pub left_built : (n : ℕ) (g : GraphColumns) (logs : List Float) (s after : Slices) (a : Result ℕ ℕ) (fault : ℕ)
     → outcome_is a after ≡ outcome fault n g logs s → fault ≡ 0 → after ≡ built n g logs s
-left_built n g logs s after a fault o e = ap (λ (x : Outcome Built Slices). x.after) (o ∙ ap (λ (f : ℕ). outcome f n g logs s) e)
+left_built n g logs s after a fault o e = ap (λ (x : Outcome (Result ℕ ℕ) Slices). x.after) (o ∙ ap (λ (f : ℕ). outcome f n g logs s) e)
 
 -- ---- values of an accepted matrix
 pub all_finite : (values : List Float) → finite_fault values ≡ 0 → (k : ℕ) → k < length values → finite (get_or values k nan) ≡ true
@@ -211,7 +212,7 @@ symmetric_fault_listed m s =
     (or_listed (part symmetric_numbers (symmetric_listed m) refl)
     (first_listed (length m.values) 0 refl (λ k. test (finite (get_or m.values k nan)) value_not_finite refl refl)))
 
-pub symmetric_numbers_lem : (m : Matrix) (s : Slices) → Listed whole_symmetric_numbers (number_of (whole_symmetric_graph m s).answer)
+pub symmetric_numbers_lem : (m : Matrix) (s : Slices) → Listed whole_symmetric_numbers (fault_of (whole_symmetric_graph m s).answer)
 unfolding whole_symmetric_graph
 symmetric_numbers_lem m s =
     outcome_listed m.pattern.n (mirrored_columns m) (value_logs m.values) s (whole_symmetric_fault m s) (symmetric_fault_listed m s)
@@ -285,6 +286,6 @@ general_fault_listed m s =
     (or_listed (part general_numbers (general_listed m) refl)
     (first_listed (length m.values) 0 refl (λ k. test (finite (get_or m.values k nan)) value_not_finite refl refl)))
 
-pub general_numbers_lem : (m : Matrix) (s : Slices) → Listed whole_general_numbers (number_of (whole_general_graph m s).answer)
+pub general_numbers_lem : (m : Matrix) (s : Slices) → Listed whole_general_numbers (fault_of (whole_general_graph m s).answer)
 unfolding whole_general_graph
 general_numbers_lem m s = outcome_listed m.pattern.n (kept_columns m) (value_logs m.values) s (whole_general_fault m s) (general_fault_listed m s)
