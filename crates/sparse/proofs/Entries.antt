@@ -1,8 +1,8 @@
 -- The tests of one entry, from the comparisons that the code makes: which fault the entry has, or that it has none.
-use mathlib.Core.Path.{◌≡◌, sym}
+use mathlib.Core.Path.{◌≡◌, refl, sym}
 use mathlib.Core.Bool.{Bool, true, false, cond, ◌||◌}
 use mathlib.Core.List.{List}
-use Prim.Native.Nat.{ℕ, suc, pred, ◌+◌, ◌≤◌, ◌<◌}
+use Prim.Native.Nat.{ℕ, suc, pred, ◌+◌, ◌-◌, ◌≤◌, ◌<◌}
 use native.Mathlib.Numerals.{add-one}
 use native.Mathlib.Omega.{arith}
 use borrow.Author.Tests.{lt-ltb, le-ltb, le-leb, lt-leb}
@@ -46,8 +46,13 @@ module _ (n : ℕ) (rows : List ℕ) (k : ℕ) where
   pub lower_right : (j : ℕ) → get_or rows k 0 < n → j ≤ get_or rows k 0 → lower_entry n rows j k ≡ 0
   lower_right j h l = rw (lt-ltb (get_or rows k 0) n h, le-leb j (get_or rows k 0) l)
 
-pub pair_falls : (rows : List ℕ) (k : ℕ) → get_or rows (k + 1) 0 ≤ get_or rows k 0 → rising_pair rows k ≡ rows_not_rising
-pair_falls rows k h = rw (le-ltb (get_or rows k 0) (get_or rows (suc k) 0) (rw add-one at h))
+-- the pair that ends at place k
+pub pair_falls : (rows : List ℕ) (k : ℕ) → 0 < k → get_or rows k 0 ≤ get_or rows (k - 1) 0 → rising_pair rows (k - 1) ≡ rows_not_rising
+pair_falls rows k some h =
+    let next : suc (k - 1) ≡ k = omega arith in
+    rw (next, le-ltb (get_or rows (k - 1) 0) (get_or rows k 0) h) refl
 
-pub pair_rises : (rows : List ℕ) (k : ℕ) → get_or rows k 0 < get_or rows (k + 1) 0 → rising_pair rows k ≡ 0
-pair_rises rows k h = rw (lt-ltb (get_or rows k 0) (get_or rows (suc k) 0) (rw add-one at h))
+pub pair_rises : (rows : List ℕ) (k : ℕ) → 0 < k → get_or rows (k - 1) 0 < get_or rows k 0 → rising_pair rows (k - 1) ≡ 0
+pair_rises rows k some h =
+    let next : suc (k - 1) ≡ k = omega arith in
+    rw (next, lt-ltb (get_or rows (k - 1) 0) (get_or rows k 0) h) refl

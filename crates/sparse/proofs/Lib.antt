@@ -6,7 +6,6 @@ pub mod Columns
 pub mod Accepted
 pub mod Listed
 pub mod Theorems
-pub mod Validities
 mod Rising
 mod Triplets
 mod Examples

@@ -1,6 +1,6 @@
 -- Which numbers the tests of matrices and triplets answer, for any input: `..-listed`, from the tests of each fault.
 use mathlib.Core.Path.{◌≡◌, refl}
-use mathlib.Core.Bool.{Bool, true, ◌||◌, ◌&&◌}
+use mathlib.Core.Bool.{Bool, true, false, ◌||◌, ◌&&◌}
 use mathlib.Core.List.{List, [], ◌∷◌}
 use Prim.Native.Nat.{ℕ, zero, suc, pred, ◌-◌}
 use lib.Dec.{leb, ltb, eqb}
@@ -12,7 +12,9 @@ use Rattle.triplets.specs.Built.{Triplets, Slices}
 use Rattle.sparse.specs.Pattern.{Pattern, entries}
 use Rattle.sparse.specs.Matrix.{Matrix}
 use Rattle.sparse.specs.Validate
-use Rattle.sparse.specs.Assemble.{number_of, outcome, general_triplet, triplet_fault, general_triplet_fault, symmetric_triplet_fault, general_assembly}
+use Rattle.refusal.specs.Number.{fault_of}
+use Rattle.sparse.specs.Assemble.{outcome, general_triplet, triplet_fault, general_triplet_fault, symmetric_triplet_fault, general_assembly}
+use Rattle.sparse.specs.Assemble.{triplet_numbers, triplet_fault_of}
 use Rattle.sparse.specs.Assemble.{symmetric_assembly}
 use Rattle.sparse.proofs.Listed.{Listed, test, or_listed, first_listed, within, part}
 
@@ -101,9 +103,9 @@ module _ (m : Matrix) where
 -- ---- `from_triplets`
 module _ (n : ℕ) (t : Triplets) (s : Slices) where
   -- the number of an outcome is its fault
-  numbered : {l : List ℕ} (fault : ℕ) → Listed l fault → Listed l (number_of (outcome fault n t s).answer)
-  numbered zero p = p
-  numbered (suc fault) p = p
+  numbered_fault : {l : List ℕ} (fault : ℕ) → Listed l fault → Listed l (fault_of (outcome fault n t s).answer)
+  numbered_fault zero p = p
+  numbered_fault (suc fault) p = p
 
   within_range : {l : List ℕ} (k : ℕ) → listed l 0 ≡ true → listed l index_range ≡ true → Listed l (general_triplet n t.rows t.cols k)
   within_range k z p = test (ltb (get_or t.rows k 0) n && ltb (get_or t.cols k 0) n) index_range z p
@@ -121,10 +123,14 @@ module _ (n : ℕ) (t : Triplets) (s : Slices) where
       (first_listed (length t.rows) 0 refl
       (λ k. or_listed (within_range k refl refl) (test (leb (get_or t.cols k 0) (get_or t.rows k 0)) upper_triangle refl refl)))
 
-  pub general_triplets_listed : Listed general_triplet_numbers (number_of (general_assembly n t s).answer)
-  unfolding general_assembly
-  general_triplets_listed = numbered _ general_fault_listed
+  pub triplet_fault_listed : (lower : Bool) → Listed (triplet_numbers lower) (triplet_fault_of lower n t s)
+  triplet_fault_listed true = symmetric_fault_listed
+  triplet_fault_listed false = general_fault_listed
 
-  pub symmetric_triplets_listed : Listed symmetric_triplet_numbers (number_of (symmetric_assembly n t s).answer)
+  pub general_triplets_listed : Listed general_triplet_numbers (fault_of (general_assembly n t s).answer)
+  unfolding general_assembly
+  general_triplets_listed = numbered_fault _ general_fault_listed
+
+  pub symmetric_triplets_listed : Listed symmetric_triplet_numbers (fault_of (symmetric_assembly n t s).answer)
   unfolding symmetric_assembly
-  symmetric_triplets_listed = numbered _ symmetric_fault_listed
+  symmetric_triplets_listed = numbered_fault _ symmetric_fault_listed

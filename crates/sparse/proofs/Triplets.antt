@@ -1,6 +1,7 @@
 -- What the tests of triplets leave for the assembly: sizes, and indices below n. And how a call's answer and slices are what it promises.
+use Rattle.std.proofs.Common.{Result, Ok, Err}
 use mathlib.Core.Path.{◌≡◌, refl, sym, ap, ◌∙◌, subst}
-use mathlib.Core.Bool.{true}
+use mathlib.Core.Bool.{Bool, true, false}
 use mathlib.Core.List.{List}
 use mathlib.Core.Logic.{◌≢◌}
 use Prim.Native.Nat.{ℕ, zero, suc, ◌+◌, ◌*◌, ◌≤◌, ◌<◌}
@@ -13,12 +14,14 @@ use Rattle.refusal.specs.Listed.{OneOf}
 use Rattle.slices.specs.Outcome.{outcome_is}
 use Rattle.sparse.specs.Fault.{first_of}
 use Rattle.sparse.specs.Validate.{size_fault}
-use Rattle.triplets.specs.Built.{Triplets, Slices, kept_count}
+use Rattle.slices.proofs.Refusing.{refused_is}
+use Rattle.triplets.specs.Built.{Triplets, Slices, kept_count, built}
 use Rattle.triplets.specs.inner.Steps.{Built, Sized, Roomy}
-use Rattle.sparse.specs.Assemble.{AnswersBy, number_of, outcome, general_triplet, lower_triplet, triplet_lengths}
+use Rattle.refusal.specs.Number.{number, fault_of}
+use Rattle.refusal.specs.declared.Refusal.{Refusal}
+use Rattle.refusal.proofs.Numbers.{number_ne_zero}
+use Rattle.sparse.specs.Assemble.{AnswersBy, outcome, general_triplet, lower_triplet, triplet_of, triplet_lengths}
 use Rattle.triplets.specs.Order.{Below}
-use Rattle.sparse.specs.declared.layout.Assembled.{Assembled}
-use Rattle.sparse.specs.declared.layout.Assembled.TheVariants.{Kept, Refused}
 use Rattle.sparse.proofs.First.{or-zero, unless_holds, all_zero}
 use Rattle.sparse.proofs.Listed.{Listed}
 use Rattle.slices.proofs.Bools.{both}
@@ -27,19 +30,28 @@ use Rattle.sparse.proofs.Accepted.{sizes_accepted}
 -- ---- outcomes
 module _ (n : ℕ) (t : Triplets) (s : Slices) where
   -- what a call promises of its answer and the slices left
-  abbrev Promised : List ℕ → Assembled → Slices → ℕ → Type 0
-  Promised numbers a after fault = (outcome_is a after ≡ outcome fault n t s) × (AnswersBy fault (kept_count n t) a × OneOf numbers (number_of a))
+  pub record Promised (numbers : List ℕ) (answer : Result ℕ ℕ) (after : Slices) (fault : ℕ) : Type 0 where
+    pub outcome_lem : outcome_is answer after ≡ outcome fault n t s
+    pub answered : AnswersBy fault (kept_count n t) answer
+    pub number_lem : OneOf numbers (fault_of answer)
 
-  pub refused : {numbers : List ℕ} (x fault : ℕ) → Listed numbers fault → x ≡ fault → x ≢ 0 → Promised numbers (Refused x) s fault
-  refused zero fault l e h = absurd (h refl)
-  refused {numbers} (suc x) fault l e h =
-      (ap (λ (f : ℕ). outcome f n t s) e, (record { number = e; count = λ z. absurd (h z) }, subst (OneOf numbers) (sym e) l.is))
+  pub refused : {numbers : List ℕ} (e : Refusal) (fault : ℕ) → Listed numbers fault → number e ≡ fault → Promised numbers (Err (number e)) s fault
+  refused {numbers} e fault l q =
+      record {
+        outcome_lem = refused_is Err (outcome_is (Ok (kept_count n t)) (built n t s)) s q (number_ne_zero e);
+        answered = record { number = q; count = λ z. absurd (number_ne_zero e z) };
+        number_lem = subst (OneOf numbers) (sym q) l.is;
+      }
 
   pub accepted : {numbers : List ℕ} (after : Slices) (kept fault : ℕ) → Listed numbers fault → 0 ≡ fault → Built n t s after kept
-      → Promised numbers (Kept kept) after fault
-  accepted {numbers} after kept fault l e b =
-      let o : outcome_is (Kept kept) after ≡ outcome 0 n t s = λ i. record { answer = Kept (b.count i); after = b.slices i } in
-      (o ∙ ap (λ (f : ℕ). outcome f n t s) e, (record { number = e; count = λ z. b.count }, subst (OneOf numbers) (sym e) l.is))
+      → Promised numbers (Ok kept) after fault
+  accepted {numbers} after kept fault l q b =
+      let o : outcome_is (Ok kept) after ≡ outcome 0 n t s = λ i. record { answer = Ok (b.count i); after = b.slices i } in
+      record {
+        outcome_lem = o ∙ ap (λ (f : ℕ). outcome f n t s) q;
+        answered = record { number = q; count = λ z. b.count };
+        number_lem = subst (OneOf numbers) (sym q) l.is;
+      }
 
 -- ---- lengths
 pub pairs_fit_lem : (n count cols vals col_ptr row_idx values work : ℕ) → triplet_lengths n count cols vals col_ptr row_idx values work ≡ true → cols ≡ count
@@ -95,8 +107,13 @@ module _ (n : ℕ) (rows cols : List ℕ) where
       let b = both (ltb (get_or rows k 0) n) (ltb (get_or cols k 0) n) (unless_holds _ index_range (omega arith) e) in
       (ltb-true _ _ b.0, ltb-true _ _ b.1)
 
-  pub general_inside : first_of (length rows) (general_triplet n rows cols) 0 ≡ 0 → (k : ℕ) → k < length rows → (get_or rows k 0 < n) × (get_or cols k 0 < n)
+  general_inside : first_of (length rows) (general_triplet n rows cols) 0 ≡ 0 → (k : ℕ) → k < length rows → (get_or rows k 0 < n) × (get_or cols k 0 < n)
   general_inside e k h = in_range_lem k ((all_zero _ (length rows)).0 e k h)
 
-  pub lower_inside : first_of (length rows) (lower_triplet n rows cols) 0 ≡ 0 → (k : ℕ) → k < length rows → (get_or rows k 0 < n) × (get_or cols k 0 < n)
+  lower_inside : first_of (length rows) (lower_triplet n rows cols) 0 ≡ 0 → (k : ℕ) → k < length rows → (get_or rows k 0 < n) × (get_or cols k 0 < n)
   lower_inside e k h = in_range_lem k (or-zero (general_triplet n rows cols k) _ ((all_zero _ (length rows)).0 e k h)).0
+
+  pub either_inside : (lower : Bool) → first_of (length rows) (triplet_of lower n rows cols) 0 ≡ 0 → (k : ℕ) → k < length rows
+      → (get_or rows k 0 < n) × (get_or cols k 0 < n)
+  either_inside true = lower_inside
+  either_inside false = general_inside

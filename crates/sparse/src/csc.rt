@@ -7,9 +7,8 @@ ghost use Rattle.sparse.specs.Matrix.{matrix};
 ghost use Rattle.sparse.specs.Validate.{lower_column, rising_column, symmetric_column, symmetric_columns};
 ghost use Rattle.sparse.specs.Validate.{symmetric_fault};
 ghost use Rattle.sparse.specs.Columns.{Pointers};
-ghost use Rattle.sparse.specs.Fault.{first_of};
 ghost use Rattle.triplets.specs.Built.{triplets, slices, kept_count};
-ghost use Rattle.sparse.specs.Assemble.{AnswersBy, lower_triplet, symmetric_triplet_fault};
+ghost use Rattle.sparse.specs.Assemble.{AnswersBy, symmetric_triplet_fault};
 ghost use Rattle.sparse.specs.Assemble.{symmetric_assembly};
 
 use crate::{general, layout};
@@ -95,22 +94,6 @@ pub fn validate(n: u32, col_ptr: &[u32], row_idx: &[u32], values: &[f64]) -> Res
     columns_fault(n as usize, col_ptr, row_idx)
 }
 
-// Refusals 5 and 6 of the triplets, each in turn.
-fn triplets_fault(n: u32, rows: &[u32], cols: &[u32]) -> Result<(), Refusal>
-    requires { length cols.now ≡ length rows.now }
-    ensures { number_of result ≡ first_of (length rows.now) (lower_triplet n rows.now cols.now) 0 }
-{
-    for k in 0..rows.len() {
-        if rows[k] >= n || cols[k] >= n {
-            return Err(Refusal::IndexRange);
-        }
-        if rows[k] < cols[k] {
-            return Err(Refusal::UpperTriangle);
-        }
-    }
-    Ok(())
-}
-
 // The matrix of the triplets, those of one position summed in input order.
 pub fn from_triplets(
     n: u32,
@@ -123,27 +106,13 @@ pub fn from_triplets(
     work: &mut [u32],
 ) -> Result<u32, Refusal>
     ensures outcome { let t = triplets rows.now cols.now vals.now in
-        let before = slices col_ptr.old row_idx.old values.old
-        work.old in
+        let before = slices col_ptr.old row_idx.old values.old work.old in
         let after = slices col_ptr.new row_idx.new values.new work.new in
         outcome_is (numbered result) after ≡ symmetric_assembly n t before }
     ensures answered { let t = triplets rows.now cols.now vals.now in
-        let before = slices col_ptr.old row_idx.old values.old
-        work.old in
+        let before = slices col_ptr.old row_idx.old values.old work.old in
         AnswersBy (symmetric_triplet_fault n t before) (kept_count n t) (numbered result) }
     ensures number { OneOf symmetric_triplet_numbers (number_of result) }
 {
-    layout::triplet_sizes(
-        limits::MAX_SYMMETRIC,
-        n,
-        rows.len(),
-        cols.len(),
-        vals.len(),
-        col_ptr.len(),
-        row_idx.len(),
-        values.len(),
-        work.len(),
-    )?;
-    triplets_fault(n, rows, cols)?;
-    Ok(triplets_sorted::assemble(n as usize, rows, cols, vals, col_ptr, row_idx, values, work))
+    layout::from_triplets::<true>(n, rows, cols, vals, col_ptr, row_idx, values, work)
 }
