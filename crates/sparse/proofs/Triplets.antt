@@ -1,15 +1,15 @@
 -- What the tests of triplets leave for the assembly: sizes, and indices below n. And how a call's answer and slices are what it promises.
 use Rattle.std.proofs.Common.{Result, Ok, Err}
 use mathlib.Core.Path.{◌≡◌, refl, sym, ap, ◌∙◌, subst}
-use mathlib.Core.Bool.{Bool, true, false}
+use mathlib.Core.Bool.{Bool, true, false, false≢true, cond}
 use mathlib.Core.List.{List}
-use mathlib.Core.Logic.{◌≢◌}
+use mathlib.Core.Logic.{◌≢◌, ◌⊎◌, inl, inr}
 use Prim.Native.Nat.{ℕ, zero, suc, ◌+◌, ◌*◌, ◌≤◌, ◌<◌}
 use native.Mathlib.Omega.{arith}
-use borrow.Author.Tests.{eqb-true, ltb-true}
+use borrow.Author.Tests.{eqb-true, ltb-true, lt-ltb, le-ltb, lt-leb, le-leb}
 use lib.Dec.{eqb, ltb}
 use lib.ListN.{length, get_or}
-use Rattle.refusal.specs.Refusal.{index_range}
+use Rattle.refusal.specs.Refusal.{index_range, upper_triangle}
 use Rattle.refusal.specs.Listed.{OneOf}
 use Rattle.slices.specs.Outcome.{outcome_is}
 use Rattle.sparse.specs.Fault.{first_of}
@@ -20,9 +20,10 @@ use Rattle.triplets.specs.inner.Steps.{Built, Sized, Roomy}
 use Rattle.refusal.specs.Number.{number, fault_of}
 use Rattle.refusal.specs.declared.Refusal.{Refusal}
 use Rattle.refusal.proofs.Numbers.{number_ne_zero}
-use Rattle.sparse.specs.Assemble.{AnswersBy, outcome, general_triplet, lower_triplet, triplet_of, triplet_lengths}
+use Rattle.sparse.specs.Assemble.{AnswersBy, outcome, general_triplet, lower_triplet, triplet_of, triplet_lengths, triplet_fault, triplet_fault_of}
+use Rattle.limits.specs.Limits.{max_general, max_symmetric}
 use Rattle.triplets.specs.Order.{Below}
-use Rattle.sparse.proofs.First.{or-zero, unless_holds, all_zero}
+use Rattle.sparse.proofs.First.{or-zero, unless_holds, all_zero, answer_first, answer_second}
 use Rattle.sparse.proofs.Listed.{Listed}
 use Rattle.slices.proofs.Bools.{both}
 use Rattle.sparse.proofs.Accepted.{sizes_accepted}
@@ -117,3 +118,54 @@ module _ (n : ℕ) (rows cols : List ℕ) where
       → (get_or rows k 0 < n) × (get_or cols k 0 < n)
   either_inside true = lower_inside
   either_inside false = general_inside
+
+-- ---- the tests of one triplet, (row, col)
+module _ (n : ℕ) (rows cols : List ℕ) (k : ℕ) {row col : ℕ} (r : row ≡ get_or rows k 0) (c : col ≡ get_or cols k 0) where
+  outside : (n ≤ row) ⊎ ((row < n) × (n ≤ col)) → general_triplet n rows cols k ≡ index_range
+  outside (inl h) = rw (← r, le-ltb row n h)
+  outside (inr h) = rw (← r, ← c, lt-ltb row n h.0, le-ltb col n h.1)
+
+  within : row < n → col < n → general_triplet n rows cols k ≡ 0
+  within h l = rw (← r, ← c, lt-ltb row n h, lt-ltb col n l)
+
+  pub triplet_out : (lower : Bool) → (n ≤ row) ⊎ ((row < n) × (n ≤ col)) → triplet_of lower n rows cols k ≡ index_range
+  triplet_out true out = rw (outside out)
+  triplet_out false out = outside out
+
+  pub triplet_above : (lower : Bool) → lower ≡ true → row < n → col < n → row < col → triplet_of lower n rows cols k ≡ upper_triangle
+  triplet_above true low h l above = rw (within h l, ← r, ← c, lt-leb col row above)
+  triplet_above false low h l above = absurd (false≢true low)
+
+  pub triplet_right : (lower : Bool) → (lower ≡ true → col ≤ row) → row < n → col < n → triplet_of lower n rows cols k ≡ 0
+  triplet_right true below h l = rw (within h l, ← r, ← c, le-leb col row (below refl))
+  triplet_right false below h l = within h l
+
+-- ---- the calls: what is found is the fault, and without one the assembly has what it requires
+module _ (lower : Bool) (n : ℕ) (t : Triplets) (s : Slices) {limit : ℕ} (limit_is : limit ≡ cond lower max_symmetric max_general) where
+  abbrev Lengths : Bool
+  Lengths = triplet_lengths n (length t.rows) (length t.cols) (length t.vals) (length s.col_ptr) (length s.row_idx) (length s.values) (length s.work)
+
+  low : limit ≤ 262144
+  low = rw limit_is (go lower)
+    where
+      go : (l : Bool) → cond l max_symmetric max_general ≤ 262144
+      go true = omega arith
+      go false = omega arith
+
+  pub sizes_found : {found : ℕ} → found ≡ size_fault n limit (length t.rows) Lengths → found ≢ 0 → found ≡ triplet_fault_of lower n t s
+  unfolding triplet_fault
+  sizes_found e some = answer_first _ (e ∙ ap (λ (l : ℕ). size_fault n l (length t.rows) Lengths) limit_is) some
+
+  module _ (fine : 0 ≡ size_fault n limit (length t.rows) Lengths) where
+    pub indices_found : {found : ℕ} → found ≡ first_of (length t.rows) (triplet_of lower n t.rows t.cols) 0 → found ≡ triplet_fault_of lower n t s
+    unfolding triplet_fault
+    indices_found e = answer_second (fine ∙ ap (λ (l : ℕ). size_fault n l (length t.rows) Lengths) limit_is) refl e
+
+    pub paired : length t.cols ≡ length t.rows
+    paired = pairs_are limit n t s low (sym fine)
+
+    pub assembles : 0 ≡ first_of (length t.rows) (triplet_of lower n t.rows t.cols) 0
+        → Sized n t.rows t.cols s.col_ptr s.work × Roomy n t.rows t.cols t.vals s.row_idx s.values s.work
+    assembles e =
+        let i = either_inside n t.rows t.cols lower (sym e) in
+        ready limit n t s low (sym fine) (λ k h. (i k h).0) (λ k h. (i k (omega (arith, h, paired))).1)
