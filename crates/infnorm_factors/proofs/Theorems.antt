@@ -1,14 +1,14 @@
 -- A maximum above 0 has a root: the square root refuses only what is not above 0. By cases on the double.
+use Rattle.std.proofs.Common.{Ok}
 use mathlib.Core.Path.{◌≡◌, refl}
 use mathlib.Core.Bool.{true, false, false≢true}
 use Prim.Native.Nat.{zero, suc}
 use lib.Ieee.{Float, nan, inf, fin, lt, of_bits}
 use Rattle.float64.specs.Constants as Constants
 use Rattle.square_root.specs.Root.{sqrt_of}
-use Rattle.square_root.specs.declared.Root.TheVariants.{Is}
 use Rattle.infnorm_factors.specs.Factors.{root}
 
-pub root_is : (m : Float) → lt Constants.zero m ≡ true → sqrt_of m ≡ Is (root m)
+pub root_is : (m : Float) → lt Constants.zero m ≡ true → sqrt_of m ≡ Ok (root m)
 unfolding root sqrt_of lt of_bits
 root_is nan h = absurd (false≢true h)
 root_is (inf true) h = absurd (false≢true h)

@@ -8,7 +8,7 @@ ghost use Rattle.float64.specs.Constants as Constants;
 ghost use Rattle.infnorm_factors.specs.Maxima as Maxima;
 ghost use Rattle.infnorm_factors.specs.Factors as Factors;
 
-// The larger of two sizes; a NaN is never the larger one.
+// The larger of two sizes; a NaN is never the larger one. `f64::max` differs: it gives the new size for an old NaN.
 pub fn larger(old: f64, new: f64) -> f64
     ensures { result ≡ Maxima.larger old new }
 {
