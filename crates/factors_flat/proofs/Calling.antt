@@ -7,6 +7,7 @@ use native.Mathlib.Omega.{arith}
 use borrow.Author.Tests.{eqb-true}
 use lib.Dec.{eqb}
 use lib.ListN.{length, replicate}
+use Rattle.std.specs.Prelude.{Ok, Err}
 use Rattle.limits.specs.Limits.{max_symmetric}
 use Rattle.slices.specs.Outcome.{outcome_is}
 use Rattle.slices.proofs.Bools.{both}
@@ -18,7 +19,6 @@ use Rattle.sparse.proofs.Accepted.{sizes_accepted}
 use Rattle.mc64_symmetric.specs.Call.{values_fault, input_fault}
 use Rattle.mc64_symmetric.proofs.Calling.{triangle_of}
 use Rattle.factors_mc64.specs.declared.Scaled.{Scaled}
-use Rattle.factors_mc64.specs.declared.Scaled.TheVariants.{Refused}
 use Rattle.factors_mc64.specs.Calls.{Slices, slices, lengths, matching_fault, log_factors_fault, applied_or_partial}
 use Rattle.factors_mc64.specs.inner.Steps.{Accepted}
 use Rattle.factors_mc64.proofs.Outcomes as Outcomes
@@ -41,9 +41,9 @@ module _ (matched : ℕ) (g : Input) (s : Slices) where
       (matching_fault (columns g) matched g.pairs.perm) → fit ≡ flat_lengths g s → found ≡ flat_fault matched g s
   fault_is e f = e ∙ ap (λ (b : Bool). or_else (input_fault g.stored g.logs b) (matching_fault (columns g) matched g.pairs.perm)) f
 
-  pub refuses : {found : ℕ} → found ≡ flat_fault matched g s → found ≢ 0 → outcome_is (Refused found) s ≡ flat_outcome matched g s
+  pub refuses : {found : ℕ} → found ≡ flat_fault matched g s → found ≢ 0 → outcome_is (Err found) s ≡ flat_outcome matched g s
   unfolding flat_outcome
-  refuses e z = refused_is Refused (flat_scaled matched g) s e z
+  refuses e z = refused_is Err (flat_scaled matched g) s e z
 
   module _ (fine : flat_fault matched g s ≡ 0) where
     tests : (input_fault g.stored g.logs (flat_lengths g s) ≡ 0) × (matching_fault (columns g) matched g.pairs.perm ≡ 0)
@@ -83,6 +83,6 @@ module _ (matched : ℕ) (g : Input) (s : Slices) where
         record { triangle = triangle_of g.stored parts.1; logged = (logs_fit g s sized.2).0 }
 
     pub applies : {answer : Scaled} {after : Slices} → answer ≡ applied_or_partial (columns g) matched → after ≡ slices (flat_factors g) (replicate (columns g) 0)
-        → outcome_is answer after ≡ flat_outcome matched g s
+        → outcome_is (Ok answer) after ≡ flat_outcome matched g s
     unfolding flat_outcome
     applies a f = rw (a, f, fine) refl

@@ -1,14 +1,17 @@
 -- The call by a number: what each case of the answer leaves, that a refusal is no acceptance, and that the number is listed.
 use mathlib.Core.Path.{◌≡◌, refl, sym, ap, ◌∙◌, subst}
 use mathlib.Core.Logic.{◌≢◌}
-use mathlib.Core.Bool.{false, true≢false}
-use mathlib.Core.List.{List}
+use mathlib.Core.Bool.{Bool, true, false, cond, true≢false}
+use mathlib.Core.List.{List, [], ◌∷◌}
 use Prim.Native.Nat.{ℕ, zero, suc, ◌≤◌, ◌<◌}
 use native.Mathlib.Omega.{arith}
-use borrow.Author.Tests.{le-leb, lt-leb, eq-eqb, ne_eqb}
+use borrow.Author.Tests.{leb-true, leb-false, le-leb, lt-leb, eq-eqb, ne_eqb}
+use lib.Dec.{leb}
 use lib.ListN.{length, set}
+use Rattle.std.specs.Prelude.{Result, Ok, Err}
 use Rattle.limits.specs.Limits.{max_symmetric}
 use Rattle.refusal.specs.Refusal.{index_range}
+use Rattle.refusal.specs.Number.{fault_of}
 use Rattle.refusal.specs.Listed.{listed, OneOf, rule_numbers}
 use Rattle.slices.proofs.Lists.{only}
 use Rattle.slices.specs.Outcome.{outcome_is, Outcome, as_number, refusing}
@@ -18,27 +21,31 @@ use Rattle.sparse.proofs.Accepted.{sizes_accepted}
 use Rattle.sparse.proofs.Listed.{Listed, within, part}
 use Rattle.sparse.proofs.Theorems.{size_numbers, sizes_listed}
 use Rattle.factors_mc64.specs.declared.Scaled.{Scaled}
-use Rattle.factors_mc64.specs.declared.Scaled.TheVariants.{Applied, PartialSingular, Refused}
-use Rattle.factors_mc64.specs.Calls.{Slices, number_of, symmetric_outcome}
+use Rattle.factors_mc64.specs.Calls.{Slices, unmatched_of, symmetric_outcome}
 use Rattle.factors_flat.specs.declared.Rule.{Rule}
 use Rattle.factors_flat.specs.declared.Rule.TheVariants.{Identity, Flat}
 use Rattle.factors_flat.specs.Flat.{Input, columns}
 use Rattle.factors_flat.specs.Call.{rule_outcome, rule_fault, rule_scaled, flat_outcome, Promises}
-use Rattle.factors_flat.specs.ByNumber.{rule_of, unfit_fault, result_of, result_by, lent, number_fault, NumberPromises}
+use Rattle.factors_flat.specs.ByNumber.{rule_of, rule_by, unfit_fault, result_of, result_by, lent, number_fault, NumberPromises}
 
 -- ---- the rule of a number
-pub identity_of : (number : ℕ) → number ≡ 0 → Identity ≡ rule_of number
-identity_of number e = rw e refl
+-- a number that has a rule is 0 or 1
+pub rule_found : (number : ℕ) {rule : Rule} → Ok rule ≡ rule_by number → (number ≤ 1) × (rule ≡ rule_of number)
+rule_found number {rule} e = go (leb number 1) refl e
+  where
+    go : (b : Bool) → leb number 1 ≡ b → Ok rule ≡ cond b (Ok (rule_of number)) (Err index_range)
+        → (number ≤ 1) × (rule ≡ rule_of number)
+    go true t e = (leb-true number 1 t, cc)
+    go false t e = cc
 
-pub flat_of : (number : ℕ) → number ≢ 0 → Flat ≡ rule_of number
-flat_of zero e = absurd (e refl)
-flat_of (suc number) e = refl
-
-pub unfit_identity : (number n count : ℕ) {found : ℕ} → number ≡ 0 → found ≡ size_fault n 0 0 false → found ≡ unfit_fault (rule_of number) n count
-unfit_identity number n count e f = f ∙ ap (λ (r : Rule). unfit_fault r n count) (identity_of number e)
-
-pub unfit_flat : (number n count : ℕ) {found : ℕ} → number ≢ 0 → found ≡ size_fault n max_symmetric count false → found ≡ unfit_fault (rule_of number) n count
-unfit_flat number n count e f = f ∙ ap (λ (r : Rule). unfit_fault r n count) (flat_of number e)
+-- any other is refused
+pub rule_missing : (number : ℕ) {fault : ℕ} → Err fault ≡ rule_by number → (1 < number) × (fault ≡ index_range)
+rule_missing number {fault} e = go (leb number 1) refl e
+  where
+    go : (b : Bool) → leb number 1 ≡ b → Err fault ≡ cond b (Ok (rule_of number)) (Err index_range)
+        → (1 < number) × (fault ≡ index_range)
+    go true t e = cc
+    go false t e = (leb-false number 1 t, cc)
 
 -- wrong lengths are never accepted
 unfit_refuses : (rule : Rule) (n count : ℕ) → unfit_fault rule n count ≢ 0
@@ -60,9 +67,9 @@ module _ (number matched : ℕ) (g : Input) (s : Slices) (old : List ℕ) where
   rule_result : (rule : Rule) → result_of (rule_outcome rule matched g s) old ≡ refusing as_number (rule_fault rule matched g s)
       (result_of (rule_scaled rule matched g) old) (lent s old)
   unfolding symmetric_outcome flat_outcome
-  rule_result Identity = refusing_over (λ (o : Outcome Scaled Slices). result_of o old) Refused as_number (rule_fault Identity matched g s)
+  rule_result Identity = refusing_over (λ (o : Outcome (Result Scaled ℕ) Slices). result_of o old) Err as_number (rule_fault Identity matched g s)
       (rule_scaled Identity matched g) s (lent s old) (λ k. refl)
-  rule_result Flat = refusing_over (λ (o : Outcome Scaled Slices). result_of o old) Refused as_number (rule_fault Flat matched g s)
+  rule_result Flat = refusing_over (λ (o : Outcome (Result Scaled ℕ) Slices). result_of o old) Err as_number (rule_fault Flat matched g s)
       (rule_scaled Flat matched g) s (lent s old) (λ k. refl)
 
   pub no_rule : 1 < number → Promised index_range s old
@@ -81,36 +88,24 @@ module _ (number matched : ℕ) (g : Input) (s : Slices) (old : List ℕ) where
           number = subst (OneOf rule_numbers) (sym e) (unfit_listed (rule_of number) (columns g) (length g.stored.pattern.row_idx)).is;
         }
 
-    module _ (h : length old ≡ 1) {rule : Rule} {a : Scaled} {after : Slices} (r : rule ≡ rule_of number) (P : Promises rule matched g s a after) where
+    module _ (h : length old ≡ 1) {rule : Rule} {a : Result Scaled ℕ} {after : Slices} (r : rule ≡ rule_of number) (P : Promises rule matched g s a after) where
       result_of_lem : result_of (outcome_is a after) old ≡ result_by number matched g s old
       unfolding result_by number_fault
       result_of_lem =
           let same : rule_fault (rule_of number) matched g s ≡ number_fault number matched g s old = rw (le-leb number 1 low, eq-eqb (length old) 1 h) refl in
-          ap (λ (o : Outcome Scaled Slices). result_of o old) (P.outcome ∙ ap (λ (x : Rule). rule_outcome x matched g s) r)
+          ap (λ (o : Outcome (Result Scaled ℕ) Slices). result_of o old) (P.outcome ∙ ap (λ (x : Rule). rule_outcome x matched g s) r)
           ∙ rule_result (rule_of number)
           ∙ ap (λ (f : ℕ). refusing as_number f (result_of (rule_scaled (rule_of number) matched g) old) (lent s old)) same
 
-      result_as : {b : Scaled} → a ≡ b → result_of (outcome_is b after) old ≡ result_by number matched g s old
-      result_as q = sym (ap (λ (x : Scaled). result_of (outcome_is x after) old) q) ∙ result_of_lem
-
-      in_list : {b : Scaled} → a ≡ b → OneOf rule_numbers (number_of b)
-      in_list q = subst (λ (x : Scaled). OneOf rule_numbers (number_of x)) q P.number
-
-      pub applied : a ≡ Applied → Promised 0 after (set old 0 0)
-      applied q =
+    module _ (h : length old ≡ 1) {rule : Rule} {after : Slices} (r : rule ≡ rule_of number) where
+      pub done : {a : Scaled} → Promises rule matched g s (Ok a) after → (count : ℕ) → count ≡ unmatched_of (Ok a)
+          → Promised 0 after (set old 0 count)
+      done P count q =
           record {
-            result = ap (λ (l : List ℕ). outcome_is 0 (lent after l)) (only old 0 h) ∙ result_as q;
-            shared = λ z. P.shared (ap number_of q);
-            number = in_list q;
+            result = ap (λ (l : List ℕ). outcome_is 0 (lent after l)) (only old count h ∙ ap (λ (k : ℕ). k ∷ []) q) ∙ result_of_lem h r P;
+            shared = P.shared;
+            number = P.number;
           }
 
-      pub partial : {count : ℕ} → a ≡ PartialSingular count → Promised 0 after (set old 0 count)
-      partial {count} q =
-          record {
-            result = ap (λ (l : List ℕ). outcome_is 0 (lent after l)) (only old count h) ∙ result_as q;
-            shared = λ z. P.shared (ap number_of q);
-            number = in_list q;
-          }
-
-      pub refused : {found : ℕ} → a ≡ Refused found → Promised found after old
-      refused q = record { result = result_as q; shared = λ z. P.shared (ap number_of q ∙ z); number = in_list q }
+      pub refused : {found : ℕ} → Promises rule matched g s (Err found) after → Promised found after old
+      refused P = record { result = result_of_lem h r P; shared = P.shared; number = P.number }

@@ -5,15 +5,16 @@ use mathlib.Core.Bool.{Bool, true, false}
 use Prim.Native.Nat.{ℕ, zero, suc, ◌-◌, ◌<◌}
 use native.Mathlib.Omega.{arith}
 use lib.Ieee.{Float}
+use Rattle.std.specs.Prelude.{Result, Err}
+use Rattle.refusal.specs.Number.{fault_of}
 use Rattle.refusal.specs.Listed.{listed, OneOf, symmetric_graph_numbers, log_factor_numbers, rule_numbers}
 use Rattle.slices.specs.Outcome.{outcome_is, Outcome, refusing}
 use Rattle.sparse.proofs.Listed.{Listed, or_listed, within, part}
 use Rattle.matching.specs.Match.{Match}
-use Rattle.factors_mc64.specs.declared.Scaled.TheVariants.{Refused}
 use Rattle.mc64_symmetric.proofs.Theorems.{input_listed}
 use Rattle.factors_mc64.specs.declared.Scaled.{Scaled}
 use Rattle.factors_mc64.specs.Factors.{factor_at, symmetric_factors}
-use Rattle.factors_mc64.specs.Calls.{Slices, log_factors_fault, number_of, AnswersBy, symmetric_outcome, scaled}
+use Rattle.factors_mc64.specs.Calls.{Slices, log_factors_fault, AnswersBy, symmetric_outcome, scaled}
 use Rattle.factors_mc64.proofs.Outcomes.{answered_scaled}
 use Rattle.factors_mc64.proofs.Theorems.{matching_listed, log_factors_listed}
 use Rattle.factors_flat.specs.declared.Rule.{Rule}
@@ -60,13 +61,13 @@ module _ (matched : ℕ) (g : Input) (s : Slices) (fine : flat_fault matched g s
 
 -- ---- the call, by either rule
 module _ (matched : ℕ) (g : Input) (s : Slices) where
-  identity_shares : (f : ℕ) → Shares (columns g) g.pairs (refusing Refused f (scaled (columns g) matched g.pairs) s).answer
-      (refusing Refused f (scaled (columns g) matched g.pairs) s).after.factors
+  identity_shares : (f : ℕ) → Shares (columns g) g.pairs (refusing Err f (scaled (columns g) matched g.pairs) s).answer
+      (refusing Err f (scaled (columns g) matched g.pairs) s).after.factors
   identity_shares zero e = identity_shared (columns g) g.pairs
   identity_shares (suc f) e = let z : ⊥ = omega arith in absurd z
 
-  flat_shares : (f : ℕ) → flat_fault matched g s ≡ f → Shares (columns g) g.pairs (refusing Refused f (flat_scaled matched g) s).answer
-      (refusing Refused f (flat_scaled matched g) s).after.factors
+  flat_shares : (f : ℕ) → flat_fault matched g s ≡ f → Shares (columns g) g.pairs (refusing Err f (flat_scaled matched g) s).answer
+      (refusing Err f (flat_scaled matched g) s).after.factors
   flat_shares zero q e = flat_shared matched g s q
   flat_shares (suc f) q e = let z : ⊥ = omega arith in absurd z
 
@@ -76,11 +77,11 @@ module _ (matched : ℕ) (g : Input) (s : Slices) where
   rule_shares Flat = flat_shares (flat_fault matched g s) refl
 
   -- ---- the number and the count
-  identity_answered : (f : ℕ) → AnswersBy f (columns g - matched) (refusing Refused f (scaled (columns g) matched g.pairs) s).answer
+  identity_answered : (f : ℕ) → AnswersBy f (columns g - matched) (refusing Err f (scaled (columns g) matched g.pairs) s).answer
   identity_answered zero = answered_scaled (columns g) matched refl refl
   identity_answered (suc f) = record { number = refl; count = λ e. let z : ⊥ = omega arith in absurd z }
 
-  flat_answered : (f : ℕ) → AnswersBy f (columns g - matched) (refusing Refused f (flat_scaled matched g) s).answer
+  flat_answered : (f : ℕ) → AnswersBy f (columns g - matched) (refusing Err f (flat_scaled matched g) s).answer
   flat_answered zero = answered_scaled (columns g) matched refl refl
   flat_answered (suc f) = record { number = refl; count = λ e. let z : ⊥ = omega arith in absurd z }
 
@@ -97,17 +98,17 @@ module _ (matched : ℕ) (g : Input) (s : Slices) where
       or_listed (part symmetric_graph_numbers (input_listed g.stored g.logs (flat_lengths g s)) refl)
       (part log_factor_numbers (matching_listed (columns g) matched g.pairs.perm) refl)
 
-  pub rule_listed : (rule : Rule) → OneOf rule_numbers (number_of (rule_outcome rule matched g s).answer)
+  pub rule_listed : (rule : Rule) → OneOf rule_numbers (fault_of (rule_outcome rule matched g s).answer)
   rule_listed rule = subst (OneOf rule_numbers) (sym (rule_answered rule).number) (rule_fault_listed rule).is
 
   -- all that the call promises, from the outcome of the rule
-  pub promised : (rule known : Rule) → rule ≡ known → {answer : Scaled} {after : Slices} → outcome_is answer after ≡ rule_outcome known matched g s
+  pub promised : (rule known : Rule) → rule ≡ known → {answer : Result Scaled ℕ} {after : Slices} → outcome_is answer after ≡ rule_outcome known matched g s
       → Promises rule matched g s answer after
   promised rule known q {answer} {after} w =
       let e : outcome_is answer after ≡ rule_outcome rule matched g s = w ∙ ap (λ (r : Rule). rule_outcome r matched g s) (sym q) in
       record {
         outcome = e;
-        answered = subst (λ (o : Outcome Scaled Slices). AnswersBy (rule_fault rule matched g s) (columns g - matched) o.answer) (sym e) (rule_answered rule);
-        number = subst (λ (o : Outcome Scaled Slices). OneOf rule_numbers (number_of o.answer)) (sym e) (rule_listed rule);
-        shared = subst (λ (o : Outcome Scaled Slices). Shares (columns g) g.pairs o.answer o.after.factors) (sym e) (rule_shares rule);
+        answered = subst (λ (o : Outcome (Result Scaled ℕ) Slices). AnswersBy (rule_fault rule matched g s) (columns g - matched) o.answer) (sym e) (rule_answered rule);
+        number = subst (λ (o : Outcome (Result Scaled ℕ) Slices). OneOf rule_numbers (fault_of o.answer)) (sym e) (rule_listed rule);
+        shared = subst (λ (o : Outcome (Result Scaled ℕ) Slices). Shares (columns g) g.pairs o.answer o.after.factors) (sym e) (rule_shares rule);
       }
