@@ -6,57 +6,40 @@ use mathlib.Core.Bool.{Bool, true, false, ◌||◌, true≢false}
 use mathlib.Core.List.{List, [], ◌∷◌, map}
 use Prim.Native.Nat.{ℕ, ◌+◌, ◌*◌, ◌≤◌, ◌<◌}
 use native.Mathlib.Decide.{ℕ_discrete}
+use native.Mathlib.Numerals.{add-one}
 use native.Mathlib.Omega.{arith}
 use borrow.Author.Tests.{ne_eqb}
 use lib.Dec.{T, eqb}
 use lib.ListN.{length, get_or, set, take, drop, length-set}
-use lib.Seq.{get_or-set_same, get_or-set_other}
+use lib.Seq.{get_or-set_same, get_or-set_other, drop-cons}
+use Rattle.std.proofs.lemmas.List.{drop_all}
 use lib.Ieee.{Float}
 use Rattle.float64.specs.Constants.{rinf}
 use Rattle.index_heap.proofs.Marks.{map-set}
 use Rattle.hungarian.specs.inner.Layout.{region, touched_at}
 use Rattle.hungarian.specs.Search.{among, restore}
 use Rattle.hungarian_path.specs.inner.Views.{unmarked}
-use Rattle.hungarian_path.specs.inner.StepsArrays.{ResetReady, Resets}
+use Rattle.hungarian_path.specs.inner.StepsArrays.{Resets}
 use Rattle.hungarian_path.proofs.Memory.{unmarked_zero}
-use Rattle.hungarian_path.proofs.Lists.{list_from, list_over}
 
--- at place p
-pub record ResetAt (n : ℕ) (w pos₀ : List ℕ) (d₀ : List Float) (touched : ℕ) (pos : List ℕ) (d : List Float) (p : ℕ) : Type 0 where
-  pub within : p ≤ touched
-  pub long : length pos ≡ length pos₀
-  pub d_count : length d ≡ length d₀
-  pub distances : restore rinf (drop p (take touched (region touched_at n w))) d ≡ restore rinf (take touched (region touched_at n w)) d₀
-  pub places : restore 0 (drop p (take touched (region touched_at n w))) pos ≡ restore 0 (take touched (region touched_at n w)) pos₀
+-- before place p of the list `rows`
+pub record ResetAt (rows pos₀ : List ℕ) (d₀ : List Float) (pos : List ℕ) (d : List Float) (p : ℕ) : Type 0 where
+  pub distances : restore rinf (drop p rows) d ≡ restore rinf rows d₀
+  pub places : restore 0 (drop p rows) pos ≡ restore 0 rows pos₀
 
-module _ (n : ℕ) (w pos₀ : List ℕ) (d₀ : List Float) (touched : ℕ) (R : ResetReady n w pos₀ d₀ touched) where
-  pub reset_start : ResetAt n w pos₀ d₀ touched pos₀ d₀ 0
-  reset_start = record { within = omega arith; long = refl; d_count = refl; distances = refl; places = refl }
-
-  pub reset_turn : (pos : List ℕ) (d : List Float) (p : ℕ) → ResetAt n w pos₀ d₀ touched pos d p → p < touched → ResetAt n w pos₀ d₀ touched
-      (set pos (get_or w (6 * n + p) 0) 0) (set d (get_or w (6 * n + p) 0) rinf) (p + 1)
+module _ {rows pos₀ : List ℕ} {d₀ : List Float} {pos : List ℕ} {d : List Float} {p : ℕ} (I : ResetAt rows pos₀ d₀ pos d p) where
+  pub reset_turn : p < length rows → ResetAt rows pos₀ d₀ (set pos (get_or rows p 0) 0) (set d (get_or rows p 0) rinf) (p + 1)
   unfolding restore
-  reset_turn pos d p I h =
-      let e : drop p (take touched (region touched_at n w)) ≡ get_or w (6 * n + p) 0 ∷ drop (p + 1) (take touched (region touched_at n w)) =
-      list_from 6 n touched p w (omega (arith, R.workspace.words)) R.room h in
-      record {
-        within = omega arith;
-        long = simp length-set I.long;
-        d_count = simp length-set I.d_count;
-        distances = sym (ap (λ (l : List ℕ). restore rinf l d) e) ∙ I.distances;
-        places = sym (ap (λ (l : List ℕ). restore 0 l pos) e) ∙ I.places;
-      }
+  reset_turn h = record {
+    distances = rw add-one (rw (drop-cons rows p 0 h) at I.distances);
+    places = rw add-one (rw (drop-cons rows p 0 h) at I.places);
+  }
 
-  pub reset_end : (pos : List ℕ) (d : List Float) (p : ℕ) → ResetAt n w pos₀ d₀ touched pos d p → touched ≤ p → Resets n w pos₀ pos d₀ d touched
+  pub reset_end : (n touched : ℕ) (w : List ℕ) → rows ≡ take touched (region touched_at n w) → length rows ≤ p → Resets n w pos₀ pos d₀ d touched
   unfolding restore
-  reset_end pos d p I h =
-      let e : p ≡ touched = omega (arith, I.within) in
-      let f : drop p (take touched (region touched_at n w)) ≡ [] = ap (λ (m : ℕ). drop m (take touched (region touched_at n w))) e
-      ∙ list_over 6 n touched w (omega (arith, R.workspace.words)) R.room in
-      record {
-        distances = sym (ap (λ (l : List ℕ). restore rinf l d) f) ∙ I.distances;
-        places = sym (ap (λ (l : List ℕ). restore 0 l pos) f) ∙ I.places;
-      }
+  reset_end n touched w e h =
+      let z : drop p rows ≡ [] = drop_all p rows h in
+      record { distances = rw e at (rw z at I.distances); places = rw e at (rw z at I.places) }
 
 -- ---- the places of the heap
 pub unmarked_restored : (rows pos : List ℕ) → map unmarked (restore 0 rows pos) ≡ restore 0 rows (map unmarked pos)

@@ -2,6 +2,7 @@
 -- the theory's, in TreeGrow, which does not hand them out; sums are not exact here, so its order is void.)
 use mathlib.Core.Path.{◌≡◌, refl, sym, ap, ◌∙◌, subst}
 use mathlib.Core.Logic.{◌⊎◌, inl, inr}
+use Rattle.std.proofs.Common.{Option}
 use mathlib.Core.Bool.{true, cond}
 use mathlib.Core.List.{List, []}
 use Prim.Native.Nat.{ℕ, suc, ◌+◌, ◌-◌, ◌*◌, ◌≤◌, ◌<◌, ◌^◌, zero-le}
@@ -35,7 +36,7 @@ use Rattle.hungarian.proofs.Regions.{region_set, region_apart}
 use Rattle.hungarian.proofs.HeapSteps.{heap_laws}
 use Rattle.hungarian.proofs.TreeScan.{Distances, scan_keeps}
 use Rattle.hungarian_path.specs.declared.Frontier.{Frontier}
-use Rattle.hungarian_path.specs.declared.SearchEnd.{SearchEnd}
+use Rattle.hungarian_path.specs.declared.Path.{Path}
 use Rattle.hungarian_path.specs.inner.Views.{heap_in, tree_of, pairs_of, entry_distance, scan_by, Flagged}
 use Rattle.hungarian_path.specs.inner.StepsGrow.{ScanReady, Scans, Growing, Grows}
 use Rattle.hungarian_path.specs.inner.StepsSearch.{running_of, found_of, left_of, SearchReady, Finds}
@@ -260,7 +261,7 @@ module _ (g : CostGraph) (u : List Float) (w pos : List ℕ) (keys d : List Floa
         room = unfold column_scanned search_begun in omega (arith, root_ranges)
 
     pub root_finds : (w₂ pos₂ : List ℕ) (d₂ : List Float) (frontier₂ : Frontier) (stats₂ : HungarianStats)
-        → Grows g u w₁ w₂ pos₁ pos₂ d₁ d₂ frontier₁ frontier₂ counted stats₂ → (end : SearchEnd) → found_of end ≡ cond (lt frontier₂.csp rinf)
+        → Grows g u w₁ w₂ pos₁ pos₂ d₁ d₂ frontier₁ frontier₂ counted stats₂ → (end : Option Path) → found_of end ≡ cond (lt frontier₂.csp rinf)
         (path frontier₂.csp frontier₂.isp frontier₂.jsp) no_path → Finds g u w w₂ pos pos₂ d d₂ j stats
         (record { end = end; touched = frontier₂.touched; popped = frontier₂.popped; peak = frontier₂.peak; stats = stats₂ })
     unfolding tree_from tree_of
