@@ -217,7 +217,7 @@ pub logs_finite : (m : Matrix) (logs : List Float) → values_fault m.pattern.n 
 unfolding values_fault
 logs_finite m logs e size k h s =
     let z = (all_zero (place_fault m.pattern.n m.values logs) (length m.values)).0 e k (omega arith) in
-    let l = (or-zero (value_fault m.values k) (log_fault m.pattern.n m.values logs k) z).1 in
+    let l = (or-zero (value_fault (get_or m.values k nan)) (log_fault m.pattern.n (get_or m.values k nan) (get_or logs k nan)) z).1 in
     log_finite m.pattern.n (get_or logs k nan)
     (other (eq (get_or m.values k nan) Constants.zero) (in_log_range m.pattern.n (get_or logs k nan)) s
     (unless_holds (eq (get_or m.values k nan) Constants.zero || in_log_range m.pattern.n (get_or logs k nan)) cost_range (omega arith) l))

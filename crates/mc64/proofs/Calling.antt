@@ -12,6 +12,8 @@ use lib.Ieee.{Float, nan, binary64, fits}
 use lib.ListN.{length, get_or, take, drop, length-append}
 use lib.Seq.{take_at}
 use Rattle.limits.specs.Limits.{max_symmetric}
+use Rattle.std.specs.Prelude.{Result, Ok, Err}
+use Rattle.refusal.specs.Number.{fault_of}
 use Rattle.refusal.specs.Listed.{OneOf, symmetric_graph_numbers}
 use Rattle.slices.specs.Outcome.{outcome_is, Outcome, refusing}
 use Rattle.slices.proofs.Refusing.{refused_is}
@@ -25,8 +27,6 @@ use Rattle.hungarian.specs.Accepted.{Accepted}
 use Rattle.hungarian.specs.Match.{hungarian_match}
 use Rattle.hungarian_match.specs.Call as Match
 use Rattle.hungarian_match.proofs.Callers.{graph_fits}
-use Rattle.mc64_columns.specs.declared.Built.{Built}
-use Rattle.mc64_columns.specs.declared.Built.TheVariants.{Kept, Refused}
 use Rattle.mc64_columns.specs.Columns.{largest}
 use Rattle.mc64_columns.specs.Graphs as Graphs
 use Rattle.mc64_columns.proofs.Graphs.{ones_length}
@@ -43,25 +43,20 @@ use Rattle.mc64.specs.Call.{symmetric_scaling, Balances, cache_left, Promises, s
 use Rattle.mc64.specs.inner.Steps.{Ready, Scales}
 
 -- ---- answers
-kept_or_refused : {k r : ℕ} → Kept k ≡ Refused r → ⊥
-kept_or_refused e = let z : ◌≡◌ {A = ℕ} 0 1 = cc in omega arith
-
-same_kept : {k r : ℕ} → Kept k ≡ Kept r → k ≡ r
-same_kept e = cc
-
-same_refused : {k r : ℕ} → Refused k ≡ Refused r → k ≡ r
-same_refused e = cc
-
-applied_or_refused : {r : ℕ} → Scaled.Applied ≡ Scaled.Refused r → ⊥
-applied_or_refused e = let z : ◌≡◌ {A = ℕ} 0 1 = cc in omega arith
-
 -- every column is matched
-applied_full : (n matched : ℕ) → Factors.applied_or_partial n matched ≡ Scaled.Applied → matched ≡ n
+applied_full : (n matched : ℕ) → Ok (Factors.applied_or_partial n matched) ≡ Ok {E = ℕ} Scaled.Applied → matched ≡ n
 applied_full n matched e = go (eqb matched n) refl e
   where
-    go : (b : Bool) → eqb matched n ≡ b → cond b Scaled.Applied (Scaled.PartialSingular (n - matched)) ≡ Scaled.Applied → matched ≡ n
+    go : (b : Bool) → eqb matched n ≡ b
+        → Ok (cond b Scaled.Applied (Scaled.PartialSingular (n - matched))) ≡ Ok {E = ℕ} Scaled.Applied → matched ≡ n
     go true q e = eqb-true matched n q
-    go false q e = let z : ◌≡◌ {A = ℕ} 0 1 = cc in absurd (omega arith)
+    go false q e = cc
+
+same_kept : {k r : ℕ} → Ok {E = ℕ} k ≡ Ok r → k ≡ r
+same_kept e = cc
+
+same_refused : {k r : ℕ} → Err {T = ℕ} k ≡ Err r → k ≡ r
+same_refused e = cc
 
 -- ---- lengths
 record Fitting (n : ℕ) (p : Match.Slices) (f : Factors.Slices) : Type 0 where
@@ -99,137 +94,142 @@ module _ (m : Matrix) (logs : List Float) (s : Graphs.Slices) where
   -- ---- a length of the match or of the factors is wrong: 1, 2 or 3
   module _ (p : Match.Slices) (f : Factors.Slices) {fit : Bool} (e : fit ≡ rest_lengths m.pattern.n p f) where
     pub lengths_refused : {x : ℕ} → fit ≡ false → x ≡ size_fault m.pattern.n max_symmetric (length m.pattern.row_idx) false
-        → outcome_is (Scaled.Refused x) (scaling_slices s p f) ≡ symmetric_scaling m logs (scaling_slices s p f)
+        → outcome_is (Err x) (scaling_slices s p f) ≡ symmetric_scaling m logs (scaling_slices s p f)
     unfolding symmetric_scaling input_fault rest_fits
     lengths_refused {x} z q =
         let some : size_fault m.pattern.n max_symmetric (length m.pattern.row_idx) false ≢ 0 =
         λ y. false≢true ((sizes_accepted m.pattern.n max_symmetric (length m.pattern.row_idx) false).0 y).2 in
         let r : rest_lengths m.pattern.n p f ≡ false = sym e ∙ z in
         let same : whole p f ≡ x = rw (r, and-false (lengths_fit m logs s)) (or_some _ _ some ∙ sym q) in
-        refused_is Scaled.Refused (done m logs (scaling_slices s p f)) (scaling_slices s p f) (sym same) (λ y. some (sym q ∙ y))
+        refused_is Err (done m logs (scaling_slices s p f)) (scaling_slices s p f) (sym same) (λ y. some (sym q ∙ y))
 
     pub same_fault : fit ≡ true → whole p f ≡ input_fault m logs (lengths_fit m logs s)
     unfolding rest_fits
     same_fault z = let r : rest_lengths m.pattern.n p f ≡ true = sym e ∙ z in rw (r, and-true (lengths_fit m logs s)) refl
 
-  module _ {a : Built} {after : Graphs.Slices} (e : outcome_is a after ≡ cost_graph m logs s) where
-    -- ---- the building refuses
-    pub building_refused : {k : ℕ} {fit : Bool} (p : Match.Slices) (f : Factors.Slices) → fit ≡ rest_lengths m.pattern.n p f → fit ≡ true → a ≡ Refused k
-        → outcome_is (Scaled.Refused k) (scaling_slices after p f) ≡ symmetric_scaling m logs (scaling_slices s p f)
-    unfolding symmetric_scaling cost_graph
-    building_refused {k} p f t z q =
-        go (input_fault m logs (lengths_fit m logs s)) e
-        ∙ ap (λ (i : ℕ). refusing Scaled.Refused i (done m logs (scaling_slices s p f)) (scaling_slices s p f)) (sym (same_fault p f t z))
+  -- ---- the building refuses
+  pub building_refused : {k : ℕ} {after : Graphs.Slices} {fit : Bool} (p : Match.Slices) (f : Factors.Slices)
+      → outcome_is (Err k) after ≡ cost_graph m logs s → fit ≡ rest_lengths m.pattern.n p f → fit ≡ true
+      → outcome_is (Err k) (scaling_slices after p f) ≡ symmetric_scaling m logs (scaling_slices s p f)
+  unfolding symmetric_scaling cost_graph
+  building_refused {k} {after} p f e t z =
+      go (input_fault m logs (lengths_fit m logs s)) e
+      ∙ ap (λ (i : ℕ). refusing Err i (done m logs (scaling_slices s p f)) (scaling_slices s p f)) (sym (same_fault p f t z))
+    where
+      go : (i : ℕ) → outcome_is (Err k) after ≡ Graphs.outcome i m.pattern.n (mirrored_columns m) logs s
+          → outcome_is (Err k) (scaling_slices after p f) ≡ refusing Err i (done m logs (scaling_slices s p f)) (scaling_slices s p f)
+      go zero o = let q = ap (λ (x : Outcome (Result ℕ ℕ) Graphs.Slices). x.answer) o in cc
+      go (suc i) o = rw (
+        same_refused (ap (λ (x : Outcome (Result ℕ ℕ) Graphs.Slices). x.answer) o),
+        ap (λ (x : Outcome (Result ℕ ℕ) Graphs.Slices). x.after) o,
+      ) refl
+
+  -- ---- the graph is built
+  module _ {k : ℕ} {after : Graphs.Slices} (e : outcome_is (Ok k) after ≡ cost_graph m logs s)
+      (doubles : (i : ℕ) → i < length logs → T (fits binary64 (get_or logs i nan))) where
+    builds : (input_fault m logs (lengths_fit m logs s) ≡ 0) × (k ≡ kept_before (mirrored_columns m) m.pattern.n) ×
+        (after ≡ built m.pattern.n (mirrored_columns m) logs s)
+    unfolding cost_graph
+    builds = go (input_fault m logs (lengths_fit m logs s)) e
       where
-        go : (i : ℕ) → outcome_is a after ≡ Graphs.outcome i m.pattern.n (mirrored_columns m) logs s
-            → outcome_is (Scaled.Refused k) (scaling_slices after p f) ≡ refusing Scaled.Refused i (done m logs (scaling_slices s p f)) (scaling_slices s p f)
-        go zero o = absurd (kept_or_refused (sym (ap (λ (x : Outcome Built Graphs.Slices). x.answer) o) ∙ q))
-        go (suc i) o = rw (
-          same_refused (sym q ∙ ap (λ (x : Outcome Built Graphs.Slices). x.answer) o),
-          ap (λ (x : Outcome Built Graphs.Slices). x.after) o,
-        ) refl
+        go : (i : ℕ) → outcome_is (Ok k) after ≡ Graphs.outcome i m.pattern.n (mirrored_columns m) logs s
+            → (i ≡ 0) × (k ≡ kept_before (mirrored_columns m) m.pattern.n)
+            × (after ≡ built m.pattern.n (mirrored_columns m) logs s)
+        go zero o = (
+          refl,
+          same_kept (ap (λ (x : Outcome (Result ℕ ℕ) Graphs.Slices). x.answer) o),
+          ap (λ (x : Outcome (Result ℕ ℕ) Graphs.Slices). x.after) o,
+        )
+        go (suc i) o = let q = ap (λ (x : Outcome (Result ℕ ℕ) Graphs.Slices). x.answer) o in cc
 
-    -- ---- the graph is built
-    module _ {k : ℕ} (q : a ≡ Kept k) (doubles : (i : ℕ) → i < length logs → T (fits binary64 (get_or logs i nan))) where
-      builds : (input_fault m logs (lengths_fit m logs s) ≡ 0) × (k ≡ kept_before (mirrored_columns m) m.pattern.n) ×
-          (after ≡ built m.pattern.n (mirrored_columns m) logs s)
-      unfolding cost_graph
-      builds = go (input_fault m logs (lengths_fit m logs s)) e
-        where
-          go : (i : ℕ) → outcome_is a after ≡ Graphs.outcome i m.pattern.n (mirrored_columns m) logs s
-              → (i ≡ 0) × (k ≡ kept_before (mirrored_columns m) m.pattern.n)
-              × (after ≡ built m.pattern.n (mirrored_columns m) logs s)
-          go zero o = (refl, same_kept (sym q ∙ ap (λ (x : Outcome Built Graphs.Slices). x.answer) o), ap (λ (x : Outcome Built Graphs.Slices). x.after) o)
-          go (suc i) o = absurd (kept_or_refused (sym q ∙ ap (λ (x : Outcome Built Graphs.Slices). x.answer) o))
+    accepted : Accepted (symmetric_graph m logs)
+    accepted = graph_matched m logs s builds.0 doubles
 
-      accepted : Accepted (symmetric_graph m logs)
-      accepted = graph_matched m logs s builds.0 doubles
+    costs : length (graph_costs (mirrored_columns m) logs m.pattern.n) ≡ k
+    costs =
+        let l = both (eqb (length (graph_pointers (mirrored_columns m) m.pattern.n)) (m.pattern.n + 1)) _ (graph_fits (symmetric_graph m logs) accepted) in
+        eqb-true _ _ l.1 ∙ sym builds.1
 
-      costs : length (graph_costs (mirrored_columns m) logs m.pattern.n) ≡ k
-      costs =
-          let l = both (eqb (length (graph_pointers (mirrored_columns m) m.pattern.n)) (m.pattern.n + 1)) _ (graph_fits (symmetric_graph m logs) accepted) in
-          eqb-true _ _ l.1 ∙ sym builds.1
+    pub rows_room : k ≤ length after.graph_idx
+    unfolding built
+    rows_room = rw builds.2
+        (omega (
+          arith,
+          builds.1,
+          length-append (graph_rows (mirrored_columns m) m.pattern.n)
+              (drop (kept_before (mirrored_columns m) m.pattern.n) s.graph_idx),
+        ))
 
-      pub rows_room : k ≤ length after.graph_idx
-      unfolding built
-      rows_room = rw builds.2
-          (omega (
-            arith,
-            builds.1,
-            length-append (graph_rows (mirrored_columns m) m.pattern.n)
-                (drop (kept_before (mirrored_columns m) m.pattern.n) s.graph_idx),
-          ))
+    pub cost_room_lem : k ≤ length after.cost
+    unfolding built
+    cost_room_lem = rw builds.2
+        (omega (
+          arith,
+          costs,
+          length-append (graph_costs (mirrored_columns m) logs m.pattern.n)
+              (drop (kept_before (mirrored_columns m) m.pattern.n) s.cost),
+        ))
 
-      pub cost_room_lem : k ≤ length after.cost
-      unfolding built
-      cost_room_lem = rw builds.2
-          (omega (
-            arith,
-            costs,
-            length-append (graph_costs (mirrored_columns m) logs m.pattern.n)
-                (drop (kept_before (mirrored_columns m) m.pattern.n) s.cost),
-          ))
+    -- the parts that are lent are the graph
+    abbrev parts : CostGraph
+    parts = graph_of m.pattern.n after.graph_ptr (take k after.graph_idx) (take k after.cost)
 
-      -- the parts that are lent are the graph
-      abbrev parts : CostGraph
-      parts = graph_of m.pattern.n after.graph_ptr (take k after.graph_idx) (take k after.cost)
+    graph_is : parts ≡ symmetric_graph m logs
+    unfolding built
+    graph_is =
+        let rows = take_at (graph_rows (mirrored_columns m) m.pattern.n) (drop (kept_before (mirrored_columns m) m.pattern.n) s.graph_idx) k
+        (sym builds.1) in
+        let paid = take_at (graph_costs (mirrored_columns m) logs m.pattern.n) (drop (kept_before (mirrored_columns m) m.pattern.n) s.cost) k costs in
+        rw (builds.2, rows, paid) refl
 
-      graph_is : parts ≡ symmetric_graph m logs
-      unfolding built
-      graph_is =
-          let rows = take_at (graph_rows (mirrored_columns m) m.pattern.n) (drop (kept_before (mirrored_columns m) m.pattern.n) s.graph_idx) k
-          (sym builds.1) in
-          let paid = take_at (graph_costs (mirrored_columns m) logs m.pattern.n) (drop (kept_before (mirrored_columns m) m.pattern.n) s.cost) k costs in
-          rw (builds.2, rows, paid) refl
+    largest_is : after.cmax ≡ graph_largest (mirrored_columns m) logs m.pattern.n
+    unfolding built
+    largest_is = ap (λ (x : Graphs.Slices). x.cmax) builds.2
 
-      largest_is : after.cmax ≡ graph_largest (mirrored_columns m) logs m.pattern.n
-      unfolding built
-      largest_is = ap (λ (x : Graphs.Slices). x.cmax) builds.2
+    module _ (p : Match.Slices) (f : Factors.Slices) {fit : Bool} (t : fit ≡ rest_lengths m.pattern.n p f) (z : fit ≡ true) where
+      fitting : Fitting m.pattern.n p f
+      fitting = rest_fitting m.pattern.n p f (sym t ∙ z)
 
-      module _ (p : Match.Slices) (f : Factors.Slices) {fit : Bool} (t : fit ≡ rest_lengths m.pattern.n p f) (z : fit ≡ true) where
-        fitting : Fitting m.pattern.n p f
-        fitting = rest_fitting m.pattern.n p f (sym t ∙ z)
+      pub ready : Ready parts after.cmax p f
+      ready =
+          let x : Accepted parts = subst (λ (g : CostGraph). Accepted g) (sym graph_is) accepted in
+          record {
+            solvable = record {
+              accepted = x;
+              perms = fitting.perms;
+              row_duals = fitting.row_duals;
+              column_duals = fitting.column_duals;
+              words = fitting.words;
+              values = fitting.doubles;
+            };
+            largest = rw largest_is (ones_length (λ c. largest (logs_of (mirrored_columns m) logs c)) m.pattern.n);
+            factors = fitting.factors;
+            marks = fitting.marks;
+          }
 
-        pub ready : Ready parts after.cmax p f
-        ready =
-            let x : Accepted parts = subst (λ (g : CostGraph). Accepted g) (sym graph_is) accepted in
-            record {
-              solvable = record {
-                accepted = x;
-                perms = fitting.perms;
-                row_duals = fitting.row_duals;
-                column_duals = fitting.column_duals;
-                words = fitting.words;
-                values = fitting.doubles;
-              };
-              largest = rw largest_is (ones_length (λ c. largest (logs_of (mirrored_columns m) logs c)) m.pattern.n);
-              factors = fitting.factors;
-              marks = fitting.marks;
-            }
-
-        pub complete : {pairs : Match.Slices} {scaled : Factors.Slices} {r : Scaled} → Scales parts after.cmax p pairs scaled r
-            → outcome_is r (scaling_slices after pairs scaled) ≡ symmetric_scaling m logs (scaling_slices s p f)
-        unfolding symmetric_scaling done
-        complete {pairs} {scaled} {r} C =
-            let c : Scales (symmetric_graph m logs) (graph_largest (mirrored_columns m) logs m.pattern.n) p pairs scaled r = rw (graph_is, largest_is) at C in
-            rw (c.answered, c.pairs, c.scaled, builds.2, same_fault p f t z, builds.0) refl
+      pub complete : {pairs : Match.Slices} {scaled : Factors.Slices} {r : Scaled} → Scales parts after.cmax p pairs scaled r
+          → outcome_is (Ok r) (scaling_slices after pairs scaled) ≡ symmetric_scaling m logs (scaling_slices s p f)
+      unfolding symmetric_scaling done
+      complete {pairs} {scaled} {r} C =
+          let c : Scales (symmetric_graph m logs) (graph_largest (mirrored_columns m) logs m.pattern.n) p pairs scaled r = rw (graph_is, largest_is) at C in
+          rw (c.answered, c.pairs, c.scaled, builds.2, same_fault p f t z, builds.0) refl
 
 -- ---- the number and the unmatched count
-pub answered : (m : Matrix) (logs : List Float) (l : ScalingSlices) {answer : Scaled} {after : ScalingSlices}
+pub answered : (m : Matrix) (logs : List Float) (l : ScalingSlices) {answer : Result Scaled ℕ} {after : ScalingSlices}
     → outcome_is answer after ≡ symmetric_scaling m logs l
     → Factors.AnswersBy (scaling_fault m logs l) (unmatched_columns m logs) answer
 unfolding symmetric_scaling done
-answered m logs l {answer} e = go (scaling_fault m logs l) (ap (λ (o : Outcome Scaled ScalingSlices). o.answer) e)
+answered m logs l {answer} e = go (scaling_fault m logs l) (ap (λ (o : Outcome (Result Scaled ℕ) ScalingSlices). o.answer) e)
   where
-    go : (fault : ℕ) → answer ≡ (refusing Scaled.Refused fault (done m logs l) l).answer → Factors.AnswersBy fault (unmatched_columns m logs) answer
+    go : (fault : ℕ) → answer ≡ (refusing Err fault (done m logs l) l).answer → Factors.AnswersBy fault (unmatched_columns m logs) answer
     go zero q = answered_scaled m.pattern.n (hungarian_match (symmetric_graph m logs)).matched q refl
     go (suc fault) q =
-        let number : Factors.number_of answer ≡ suc fault = ap Factors.number_of q in
+        let number : fault_of answer ≡ suc fault = ap fault_of q in
         record { number = number; count = λ z. let w : ⊥ = omega arith in absurd w }
 
 -- the number is listed: neither the match nor the factors refuse, so it is the building's
-pub numbered : (m : Matrix) (logs : List Float) (l : ScalingSlices) {answer : Scaled} {after : ScalingSlices}
-    → outcome_is answer after ≡ symmetric_scaling m logs l → OneOf symmetric_graph_numbers (Factors.number_of answer)
+pub numbered : (m : Matrix) (logs : List Float) (l : ScalingSlices) {answer : Result Scaled ℕ} {after : ScalingSlices}
+    → outcome_is answer after ≡ symmetric_scaling m logs l → OneOf symmetric_graph_numbers (fault_of answer)
 numbered m logs l e =
     subst (OneOf symmetric_graph_numbers) (sym (answered m logs l e).number)
     (input_listed m logs (lengths_fit m logs l.graph && rest_fits m.pattern.n l)).is
@@ -246,20 +246,20 @@ module _ (m : Matrix) (logs : List Float) where
       (or-zero (size_fault m.pattern.n max_symmetric (length m.pattern.row_idx) false) _ e).0).2)
 
   -- the factors of whole logs
-  pub balances : (l : ScalingSlices) {answer : Scaled} {after : ScalingSlices} → ((k : ℕ) → k < length logs → T (fits binary64 (get_or logs k nan)))
+  pub balances : (l : ScalingSlices) {answer : Result Scaled ℕ} {after : ScalingSlices} → ((k : ℕ) → k < length logs → T (fits binary64 (get_or logs k nan)))
       → (fault : ℕ) → scaling_fault m logs l ≡ fault
-      → outcome_is answer after ≡ refusing Scaled.Refused fault (done m logs l) l → Balances m logs answer (cache_left after) after.scaled.factors
+      → outcome_is answer after ≡ refusing Err fault (done m logs l) l → Balances m logs answer (cache_left after) after.scaled.factors
   unfolding done built
   balances l {answer} {after} doubles zero z o = λ applied whole.
       let is-full : (hungarian_match (symmetric_graph m logs)).matched ≡ m.pattern.n =
-      applied_full m.pattern.n (hungarian_match (symmetric_graph m logs)).matched (sym (ap (λ (x : Outcome Scaled ScalingSlices). x.answer) o) ∙ applied) in
-      let left : after ≡ slices_after m logs l = ap (λ (x : Outcome Scaled ScalingSlices). x.after) o in
+      applied_full m.pattern.n (hungarian_match (symmetric_graph m logs)).matched (sym (ap (λ (x : Outcome (Result Scaled ℕ) ScalingSlices). x.answer) o) ∙ applied) in
+      let left : after ≡ slices_after m logs l = ap (λ (x : Outcome (Result Scaled ℕ) ScalingSlices). x.after) o in
       rw left (symmetric_balanced m logs l.graph (part_fine (lengths_fit m logs l.graph) (rest_fits m.pattern.n l) z) doubles whole is-full)
   balances l {answer} {after} doubles (suc fault) z o =
-      λ applied whole free. absurd (applied_or_refused (sym applied ∙ ap (λ (x : Outcome Scaled ScalingSlices). x.answer) o))
+      λ applied whole free. let q = sym applied ∙ ap (λ (x : Outcome (Result Scaled ℕ) ScalingSlices). x.answer) o in cc
 
 -- the unmatched count, the number and the factors' bound
-pub promised : (m : Matrix) (logs : List Float) (l : ScalingSlices) {answer : Scaled} {after : ScalingSlices}
+pub promised : (m : Matrix) (logs : List Float) (l : ScalingSlices) {answer : Result Scaled ℕ} {after : ScalingSlices}
     → ((k : ℕ) → k < length logs → T (fits binary64 (get_or logs k nan)))
     → outcome_is answer after ≡ symmetric_scaling m logs l
     → Promises m logs l answer after

@@ -26,7 +26,8 @@ use Rattle.mc64_columns.specs.Graphs as Graphs
 use Rattle.mc64_columns.specs.Graphs.{joined, slices_fit, built}
 use Rattle.mc64_symmetric.specs.Graph.{places_to}
 use Rattle.mc64_symmetric.specs.Call.{values_fault, input_fault}
-use Rattle.factors_mc64.specs.declared.Scaled.TheVariants.{Applied, Refused}
+use Rattle.std.specs.Prelude.{Ok, Err}
+use Rattle.factors_mc64.specs.declared.Scaled.TheVariants.{Applied}
 use Rattle.factors_mc64.specs.Factors.{doubles_of, is_matched_row, argument, log_factor}
 use Rattle.factors_mc64.specs.Calls as Factors
 use Rattle.factors_balance.specs.Balance.{WholeLogs, NoneHeld, Balanced}
@@ -39,7 +40,7 @@ three = of_bits binary64 0x4008_0000_0000_0000
 -- no columns: all work is cleared
 none : symmetric_scaling (matrix 0 (0 ∷ []) [] []) []
     (scaling_slices (Graphs.slices (9 ∷ []) [] [] [] (9 ∷ 9 ∷ [])) (Match.slices [] [] [] (9 ∷ []) []) (Factors.slices [] []))
-    ≡ outcome_is Applied (scaling_slices (Graphs.slices (0 ∷ []) [] [] [] (0 ∷ 0 ∷ [])) (Match.slices [] [] [] (0 ∷ []) []) (Factors.slices [] []))
+    ≡ outcome_is (Ok Applied) (scaling_slices (Graphs.slices (0 ∷ []) [] [] [] (0 ∷ 0 ∷ [])) (Match.slices [] [] [] (0 ∷ []) []) (Factors.slices [] []))
 unfolding symmetric_scaling scaled rest_fits slices_fit input_fault values_fault built size_fault pointer_fault frame_fault symmetric_columns symmetric_fault
     first_of joined hungarian_match doubles_of
 none = refl
@@ -56,7 +57,7 @@ slices_one factors =
 
 -- the log 3 gives -1.5; the second places of the graph stay
 log_3 : symmetric_scaling single (three ∷ []) (slices_one (one ∷ []))
-    ≡ outcome_is Applied
+    ≡ outcome_is (Ok Applied)
     (scaling_slices (Graphs.slices (0 ∷ 1 ∷ []) (0 ∷ 9 ∷ []) (fzero ∷ one ∷ []) (three ∷ []) (0 ∷ 0 ∷ 0 ∷ 0 ∷ 0 ∷ []))
     (Match.slices (0 ∷ []) (fzero ∷ []) (fzero ∷ []) (0 ∷ 0 ∷ 0 ∷ 0 ∷ 0 ∷ 0 ∷ 0 ∷ 0 ∷ 0 ∷ 0 ∷ 0 ∷ 0 ∷ 0 ∷ []) (fzero ∷ fzero ∷ []))
     (Factors.slices (of_bits binary64 0xBFF8_0000_0000_0000 ∷ []) (0 ∷ [])))
@@ -72,7 +73,7 @@ abbrev low : Float
 low = of_bits binary64 0xC096_2800_0000_0000
 
 log_1418 : symmetric_scaling single (low ∷ []) (slices_one (one ∷ []))
-    ≡ outcome_is Applied
+    ≡ outcome_is (Ok Applied)
     (scaling_slices (Graphs.slices (0 ∷ 1 ∷ []) (0 ∷ 9 ∷ []) (fzero ∷ one ∷ []) (low ∷ []) (0 ∷ 0 ∷ 0 ∷ 0 ∷ 0 ∷ []))
     (Match.slices (0 ∷ []) (fzero ∷ []) (fzero ∷ []) (0 ∷ 0 ∷ 0 ∷ 0 ∷ 0 ∷ 0 ∷ 0 ∷ 0 ∷ 0 ∷ 0 ∷ 0 ∷ 0 ∷ 0 ∷ []) (fzero ∷ fzero ∷ []))
     (Factors.slices (log_huge ∷ []) (0 ∷ [])))
@@ -106,11 +107,11 @@ pub sample_8_balanced : Balanced single (low ∷ []) (0 ∷ []) (log_huge ∷ []
 sample_8_balanced = (promised single (low ∷ []) (slices_one (one ∷ [])) low_double (sym log_1418)).balanced refl low_whole unheld_709
 
 -- two factors for one column: 3, and all stays; but 1 comes first
-too_long : symmetric_scaling single (three ∷ []) (slices_one (one ∷ one ∷ [])) ≡ outcome_is (Refused 3) (slices_one (one ∷ one ∷ []))
+too_long : symmetric_scaling single (three ∷ []) (slices_one (one ∷ one ∷ [])) ≡ outcome_is (Err 3) (slices_one (one ∷ one ∷ []))
 unfolding symmetric_scaling scaled rest_fits slices_fit input_fault size_fault
 too_long = refl
 
 too_many : symmetric_scaling (matrix 4097 (0 ∷ 1 ∷ []) (0 ∷ []) (one ∷ [])) (three ∷ []) (slices_one (one ∷ one ∷ []))
-    ≡ outcome_is (Refused 1) (slices_one (one ∷ one ∷ []))
+    ≡ outcome_is (Err 1) (slices_one (one ∷ one ∷ []))
 unfolding symmetric_scaling scaled rest_fits slices_fit input_fault size_fault
 too_many = refl

@@ -2,13 +2,13 @@
 use mathlib.Core.Path.{refl}
 use mathlib.Core.List.{List}
 use lib.Ieee.{Float}
+use Rattle.refusal.specs.Number.{fault_of}
 use Rattle.refusal.specs.Listed.{symmetric_graph_numbers}
 use Rattle.sparse.specs.Matrix.{Matrix}
 use Rattle.sparse.proofs.Listed.{Listed}
-use Rattle.factors_mc64.specs.Calls.{number_of}
 use Rattle.mc64.specs.Call.{ScalingSlices, symmetric_scaling}
 use Rattle.mc64.proofs.Calling.{numbered}
 
 pub scaling_listed : (m : Matrix) (logs : List Float) (l : ScalingSlices) → Listed symmetric_graph_numbers
-    (number_of (symmetric_scaling m logs l).answer)
+    (fault_of (symmetric_scaling m logs l).answer)
 scaling_listed m logs l = record { is = numbered m logs l refl }
