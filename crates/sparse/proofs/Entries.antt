@@ -1,5 +1,6 @@
 -- The tests of one entry, from the comparisons that the code makes: which fault the entry has, or that it has none.
-use mathlib.Core.Path.{◌≡◌, refl, sym}
+use Rattle.std.proofs.lemmas.List.{length-take, length-drop, get_or-take, get_or-drop}
+use mathlib.Core.Path.{◌≡◌, refl, sym, ◌∙◌}
 use mathlib.Core.Bool.{Bool, true, false, cond, ◌||◌}
 use mathlib.Core.List.{List}
 use Prim.Native.Nat.{ℕ, suc, pred, ◌+◌, ◌-◌, ◌≤◌, ◌<◌}
@@ -7,9 +8,19 @@ use native.Mathlib.Numerals.{add-one}
 use native.Mathlib.Omega.{arith}
 use borrow.Author.Tests.{lt-ltb, le-ltb, le-leb, lt-leb}
 use lib.Dec.{leb, ltb, leb-zero}
-use lib.ListN.{get_or}
+use lib.ListN.{length, get_or, take, drop}
 use Rattle.refusal.specs.Refusal.{index_range, upper_triangle, rows_not_rising}
 use Rattle.sparse.specs.Validate.{general_entry, lower_entry, rising_pair}
+
+-- a column's entries are those of its stretch
+pub stretch_length : (rows : List ℕ) (from to : ℕ) → from ≤ to → to ≤ length rows → length (take (to - from) (drop from rows)) ≡ to - from
+stretch_length rows from to h l = simp (length-take, length-drop) (omega arith)
+
+pub stretch_at : (rows : List ℕ) (from to i : ℕ) → from ≤ to → to ≤ length rows → i < length (take (to - from) (drop from rows))
+    → (from + i < to) × (get_or (take (to - from) (drop from rows)) i 0 ≡ get_or rows (from + i) 0)
+stretch_at rows from to i h l u =
+    let within : i < to - from = omega (arith, stretch_length rows from to h l) in
+    (omega arith, get_or-take (to - from) (drop from rows) i 0 within ∙ get_or-drop from rows i 0)
 
 -- the least row that place k of a column from `from` on may have
 abbrev pub least : List ℕ → ℕ → ℕ → ℕ

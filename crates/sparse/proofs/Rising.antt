@@ -1,12 +1,12 @@
 -- A column has no fault exactly if its rows rise to one below n: every row is below the last one, or it.
-use mathlib.Core.Path.{◌≡◌, refl, sym, ◌∙◌, subst}
+use mathlib.Core.Path.{◌≡◌, refl, sym, ◌∙◌}
 use mathlib.Core.Bool.{Bool, true, false, cond, ◌&&◌}
 use mathlib.Core.List.{List}
 use mathlib.Core.Logic.{◌↔◌}
 use Prim.Native.Nat.{ℕ, zero, suc, pred, ◌+◌, ◌-◌, ◌≤◌, ◌<◌, zero-le}
 use native.Mathlib.Nat.{le_refl}
 use native.Mathlib.Omega.{arith}
-use borrow.Author.Tests.{ltb-true, ltb-false, leb-false, lt-ltb, eqb-true, eq-eqb}
+use borrow.Author.Tests.{ltb-true, leb-false, lt-ltb, eqb-true, eq-eqb}
 use lib.Dec.{ltb, leb, eqb}
 use lib.ListN.{get_or}
 use Rattle.sparse.specs.Fault.{or_else}
@@ -19,28 +19,6 @@ use Rattle.sparse.proofs.Entries.{general_right}
 -- the rows from `from` on rise, below k
 abbrev pub RisesTo : List ℕ → ℕ → ℕ → Type 0
 RisesTo rows from k = (i : ℕ) → from ≤ i → suc i < k → get_or rows i 0 < get_or rows (suc i) 0
-
-pub rises_first : (rows : List ℕ) (from : ℕ) → RisesTo rows from (from + 1)
-rises_first rows from i l h = absurd (omega arith)
-
-pub rises_more : (rows : List ℕ) (from k : ℕ) (fine : Bool) → (fine ≡ true → RisesTo rows from k) → (fine && ltb (get_or rows (k - 1) 0) (get_or rows k 0))
-    ≡ true → RisesTo rows from (k + 1)
-rises_more rows from k fine r t i l h = go (ltb (suc i) k) refl
-  where
-    last : (m : ℕ) → suc i ≡ k → m ≡ i → get_or rows m 0 < get_or rows k 0 → get_or rows i 0 < get_or rows (suc i) 0
-    last m e d q = rw (e, ← d) q
-
-    go : (b : Bool) → ltb (suc i) k ≡ b → get_or rows i 0 < get_or rows (suc i) 0
-    go true e = r (both fine _ t).0 i l (ltb-true _ _ e)
-    go false e = let q : k ≤ suc i = ltb-false _ _ e in last (k - 1) (omega arith) (omega arith) (ltb-true _ _ (both fine _ t).1)
-
--- and the other way: the test of one place more holds where the rows rise that far
-pub more_rises : (rows : List ℕ) (from k : ℕ) (fine : Bool) → from < k → (RisesTo rows from k → fine ≡ true) → RisesTo rows from (k + 1)
-    → (fine && ltb (get_or rows (k - 1) 0) (get_or rows k 0)) ≡ true
-more_rises rows from k fine p f r =
-    let e : suc (k - 1) ≡ k = omega arith in
-    let q : get_or rows (k - 1) 0 < get_or rows k 0 = subst (λ (i : ℕ). get_or rows (k - 1) 0 < get_or rows i 0) e (r (k - 1) (omega arith) (omega arith)) in
-    rw (f (λ i l h. r i l (omega arith)), lt-ltb (get_or rows (k - 1) 0) (get_or rows k 0) q) refl
 
 -- no row is above the last
 below_last : (rows : List ℕ) (from last : ℕ) → RisesTo rows from (suc last) → (d i : ℕ) → from ≤ i → i + d ≡ last → get_or rows i 0 ≤ get_or rows last 0

@@ -14,7 +14,8 @@ ghost use Rattle.sparse.specs.Assemble.{symmetric_assembly};
 use crate::{general, layout};
 use refusal::Refusal;
 
-// Refusals 5 and 6 of column j, whose entries are those from `from` up to `to`.
+// Refusals 5 and 6 of column j, whose entries are those from `from` up to `to`: none where `from` is above `to`, so the
+// loop takes no slice.
 pub fn lower_fault(
     n: usize,
     row_idx: &[u32],

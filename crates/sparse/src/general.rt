@@ -33,12 +33,13 @@ pub fn column_rises(n: usize, row_idx: &[u32], from: usize, to: usize) -> bool
 
 // The first of refusals 5 and 7 in a column. `least` is the least row that an entry may have.
 fn first_fault(n: usize, row_idx: &[u32], from: usize, to: usize) -> Result<(), Refusal>
-    requires { to ≤ length row_idx.now }
+    requires from_le_to { from ≤ to }
+    requires to_in_bounds { to ≤ length row_idx.now }
     ensures { number_of result ≡ general_column n row_idx.now from to }
 {
     let mut least: usize = 0;
-    for k in from..to {
-        let row = row_idx[k] as usize;
+    for &row in &row_idx[from..to] {
+        let row = row as usize;
         if row >= n {
             return Err(Refusal::IndexRange);
         }
@@ -62,7 +63,8 @@ fn column_fault(n: usize, row_idx: &[u32], from: usize, to: usize) -> Result<(),
     first_fault(n, row_idx, from, to)
 }
 
-// Refusals 5 and 7 of all columns.
+// Refusals 5 and 7 of all columns. A function for this and for `csc::columns_fault`, lent the test of a column, would be
+// longer than the two loops.
 pub fn columns_fault(n: usize, col_ptr: &[u32], row_idx: &[u32]) -> Result<(), Refusal>
     requires col_ptr_len { length col_ptr.now ≡ n + 1 }
     requires pointers { Pointers n col_ptr.now (length row_idx.now) }

@@ -1,12 +1,12 @@
--- `general::first_fault`: no entry before k has a fault, and `least` is the least row that entry k may have.
-use Rattle.std.proofs.Common.{◌≡◌}
+-- `general::first_fault`: no entry before this one has a fault, and `least` is the least row that it may have.
+use Rattle.std.proofs.Common.{◌≡◌, ◌+◌}
 use Rattle.sparse.specs.Validate.{general_entry, general_column}
 use Rattle.sparse.proofs.First.{Passed}
 use Rattle.sparse.proofs.Entries as Entries
 use Rattle.sparse.proofs.general.first_fault.Given as goal
 
-abbrev pub invariant-loop-k : goal.invariant-loop-k
-invariant-loop-k l = record {
-  least : l.least ≡ Entries.least l.row_idx l.from l.k;
-  passed : Passed (general_column l.n l.row_idx l.from l.to) (general_entry l.n l.row_idx l.from) l.to l.k;
+abbrev pub invariant-loop-row : goal.invariant-loop-row
+invariant-loop-row l = record {
+  least : l.least ≡ Entries.least l.row_idx l.from (l.from + l.row-index);
+  passed : Passed (general_column l.n l.row_idx l.from l.to) (general_entry l.n l.row_idx l.from) l.to (l.from + l.row-index);
 }

@@ -1,5 +1,5 @@
 -- `general::validate` meets its contract: the columns are tested where nothing else is wrong, and the number is one of the call's list.
-use Rattle.std.proofs.Common.{◌≡◌, refl, sym, subst}
+use Rattle.std.proofs.Common.{refl, sym, subst}
 use Rattle.std.proofs.lemmas.Result.{err_from_is_err_and}
 use Rattle.limits.specs.Limits.{max_general}
 use Rattle.refusal.specs.Listed.{OneOf, general_numbers}

@@ -1,5 +1,5 @@
 -- `layout::frame_fault` meets its contract: `lengths` is the definition's test, and the two faults follow one another.
-use Rattle.std.proofs.Common.{◌≡◌, ◌+◌, Bool, ◌&&◌, length, refl, sym, ◌∙◌, ap, rules, tests}
+use Rattle.std.proofs.Common.{◌≡◌, ◌+◌, length, refl, sym, ◌∙◌, ap}
 use Rattle.std.proofs.lemmas.Result.{err_from_is_err_and}
 use borrow.Author.Tests.{eqb-true, eq-eqb, ne_eqb}
 use Rattle.refusal.proofs.Numbers.{number_ne_zero}

@@ -1,5 +1,5 @@
 -- `layout::from_triplets` meets its contract: what the tests leave is what the assembly asks for.
-use Rattle.std.proofs.Common.{◌≡◌, Bool, cond, not, eqb, refl, ◌∙◌}
+use Rattle.std.proofs.Common.{◌≡◌, Bool, cond, not, eqb, ◌∙◌}
 use Rattle.std.proofs.lemmas.Result.{err_from_is_err_and}
 use borrow.Author.Tests.{ne_eqb, eq-eqb}
 use Rattle.limits.specs.Limits.{max_general, max_symmetric}

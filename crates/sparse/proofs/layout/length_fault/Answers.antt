@@ -1,5 +1,5 @@
 -- `layout::length_fault` meets its contract: each return follows the tests before it.
-use Rattle.std.proofs.Common.{arith, rules, tests}
+use Rattle.std.proofs.Common.{rules, tests}
 use Rattle.sparse.specs.Validate.{size_fault}
 use Rattle.sparse.proofs.layout.length_fault.Goals as goal
 
