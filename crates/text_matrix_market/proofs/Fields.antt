@@ -72,6 +72,12 @@ found line from h e = found_by number_read line from no_number h e
 pub lost : (line : List ℕ) (from : ℕ) → field_of (number_read (next_word line from)) (word_past line from) ≡ None → Lost number_read line from
 lost line from e = lost_by number_read line from e
 
+-- three numbers that are the same are so one by one
+pub same_three : {a b c x y z : ℕ} → ◌≡◌ {A = Option (ℕ × ℕ × ℕ)} (Some (a, b, c)) (Some (x, y, z)) → (a ≡ x) × (b ≡ y) × (c ≡ z)
+same_three {a} {b} {c} {x} {y} {z} e =
+    let same : ◌≡◌ {A = ℕ × ℕ × ℕ} (a, b, c) (x, y, z) = cc in
+    (ap (λ (t : ℕ × ℕ × ℕ). t.0) same, ap (λ (t : ℕ × ℕ × ℕ). t.1) same, ap (λ (t : ℕ × ℕ × ℕ). t.2) same)
+
 -- ---- three words
 module _ (last : List ℕ → Option ℕ) where
   first_lost : (ws : List (List ℕ)) → number_read (head_word ws) ≡ None → None ≡ three_of last ws

@@ -6,7 +6,7 @@ mod Reaching
 pub mod Words
 mod Digits
 mod Names
-mod Fields
+pub mod Fields
 mod Banners
 pub mod Entries
 mod Taken

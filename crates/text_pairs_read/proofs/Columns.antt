@@ -1,5 +1,6 @@
 -- The pairs read line by line: the lines of the first columns leave the entries of these columns, followed by any text (`columns_read`). By
 -- induction on the columns.
+use Rattle.std.proofs.Common.{Ok}
 use mathlib.Core.Path.{◌≡◌, refl, sym, ap, ap₂, ◌∙◌}
 use mathlib.Core.Bool.{Bool, true, false, cond}
 use mathlib.Core.Logic.{◌⊎◌, inl, inr}
@@ -11,7 +12,6 @@ use lib.Dec.{eqb}
 use lib.ListN.{length, get_or, length-append}
 use Rattle.text_matrix_market.specs.declared.banner.Kind.TheVariants.{Pattern}
 use Rattle.text_matrix_market.specs.declared.stages.Entry.{Entry}
-use Rattle.text_matrix_market.specs.declared.stages.EntryRead.TheVariants.{Is}
 use Rattle.text_matrix_market.specs.Text.{lines_of}
 use Rattle.text_matrix_market.specs.File.{is_within, weight_fits, line_entry, entering, read_line, read_lines}
 use Rattle.text_matrix_market.proofs.Entries.{an_entry, entered, short}
@@ -26,14 +26,14 @@ within n index h = rw (le-leb 1 (index + 1) (omega arith), le-leb (index + 1) n 
 
 module _ (n count : ℕ) (few : n ≤ 64) where
   module _ (row column : ℕ) (h : row < n) (k : column < n) where
-    pair_entry_lem : line_entry Pattern n (two_numbers (row + 1) (column + 1)) ≡ Is (pair_entry row column)
+    pair_entry_lem : line_entry Pattern n (two_numbers (row + 1) (column + 1)) ≡ Ok (pair_entry row column)
     pair_entry_lem =
         let line : List ℕ = two_numbers (row + 1) (column + 1) in
         let w : weight_fits Pattern n 0 ≡ true = lt-ltb (n * 0) (2 ^ 48) (omega arith) in
         let r : row + 1 - 1 ≡ row = omega arith in
         let c : column + 1 - 1 ≡ column = omega arith in
         sym (an_entry Pattern n line (two_read (row + 1) (column + 1) (omega arith) (omega arith)) (within n row h) (within n column k) w refl)
-        ∙ ap Is (ap₂ pair_entry r c)
+        ∙ ap Ok (ap₂ pair_entry r c)
 
     pair_added : (entries : List Entry) → length entries < count
         → entering Pattern n count (entries ++ (pair_entry row column ∷ [])) ≡ read_line (entering Pattern n count entries) (two_numbers (row + 1) (column + 1))

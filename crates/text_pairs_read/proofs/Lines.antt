@@ -1,5 +1,6 @@
 -- The lines of the text as they are read: two numbers, or three, each a word (`two_read`, `three_read`), none of them blank or a comment. By the words
 -- of a line, one after the other.
+use Rattle.std.proofs.Common.{Some}
 use mathlib.Core.Path.{◌≡◌, refl, ap, ◌∙◌}
 use mathlib.Core.Bool.{false}
 use mathlib.Core.List.{List, [], ◌∷◌, ◌++◌, append_assoc}
@@ -9,7 +10,6 @@ use borrow.Author.Tests.{ne_eqb}
 use lib.Dec.{eqb}
 use lib.ListN.{length, length-append}
 use Rattle.text_matrix_market.specs.declared.banner.Kind.TheVariants.{General, Pattern}
-use Rattle.text_matrix_market.specs.declared.numbers.Numbers.TheVariants.{Three}
 use Rattle.text_matrix_market.specs.Text.{is_blank, is_line_feed, is_nil, words_of, is_blank_line, begins_percent}
 use Rattle.text_matrix_market.specs.Numbers.{three_of, two_of, numbers_of}
 use Rattle.text_report.specs.Decimal.{decimal}
@@ -56,7 +56,7 @@ module _ (a b : ℕ) where
   two_blank = ap is_nil two_words
 
   module _ (h : Taken a) (k : Taken b) where
-    pub two_read : numbers_of Pattern (two_numbers a b) ≡ Three a b 0
+    pub two_read : numbers_of Pattern (two_numbers a b) ≡ Some (a, b, 0)
     unfolding numbers_of two_of
     two_read = rw (two_words, number_back a h, number_back b k)
 
@@ -83,7 +83,7 @@ module _ (a b c : ℕ) where
       ∙ percent_first (decimal a) (spaced (two_numbers b c)) (decimal_some a) (decimal_none (λ x. eqb x 37) (λ x l. ne_eqb x 37 (λ e. omega arith)) a)
 
   module _ (h : Taken a) (k : Taken b) (l : Taken c) where
-    pub three_read : numbers_of General (three_numbers a b c) ≡ Three a b c
+    pub three_read : numbers_of General (three_numbers a b c) ≡ Some (a, b, c)
     unfolding numbers_of three_of
     three_read = rw (three_words, number_back a h, number_back b k, number_back c l)
 

@@ -1,5 +1,6 @@
 -- A number's digits read back as the number (`number_back`), and hold no byte below the digits (`decimal_none`). By induction on the number, a tenth
 -- of it at a time.
+use Rattle.std.proofs.Common.{Some}
 use mathlib.Core.Path.{◌≡◌, refl, sym, ap, ◌∙◌, subst, subst₂}
 use mathlib.Core.Bool.{Bool, true, false}
 use mathlib.Core.List.{List, [], ◌∷◌, ◌++◌, append-nil, append_assoc}
@@ -8,7 +9,6 @@ use native.Mathlib.Omega.{arith}
 use borrow.Author.Tests.{le-leb, ltb-true, ltb-false}
 use lib.Dec.{ltb}
 use lib.ListN.{length, length-append}
-use Rattle.text_matrix_market.specs.declared.numbers.Number.TheVariants.{Is}
 use Rattle.text_matrix_market.specs.Numbers.{decimal_value, number_read}
 use Rattle.text_report.specs.Decimal.{digit, decimal}
 use Rattle.text_report.proofs.Digits.{decimal_one, decimal_more, decimal_length}
@@ -63,7 +63,7 @@ decimal_some n = (numeral_below n n (omega arith)).some
 pub decimal_none : (test : ℕ → Bool) → ((b : ℕ) → 48 ≤ b → test b ≡ false) → (n : ℕ) → None test (decimal n)
 decimal_none test low n = (numeral_below n n (omega arith)).none test low
 
-pub number_back : (n : ℕ) → Taken n → number_read (decimal n) ≡ Is n
+pub number_back : (n : ℕ) → Taken n → number_read (decimal n) ≡ Some n
 unfolding number_read decimal_value
 number_back n h =
     let l : length (decimal n) ≤ 18 = decimal_length 17 n h in

@@ -1,5 +1,6 @@
 -- The text of a match's pairs, read again, is the pattern file of these pairs (`read_again`). Banner, size line and pairs by what each line leaves; at
 -- the end the count is met and no pair is repeated.
+use Rattle.std.proofs.Common.{Some}
 use mathlib.Core.Path.{◌≡◌, refl, sym, ap, ◌∙◌}
 use mathlib.Core.List.{List, [], ◌∷◌, ◌++◌, append-nil, append_assoc}
 use Prim.Native.Nat.{ℕ, ◌≤◌}
@@ -7,7 +8,6 @@ use native.Mathlib.Omega.{arith}
 use borrow.Author.Tests.{le-leb, eq-eqb}
 use lib.ListN.{length}
 use Rattle.text_matrix_market.specs.declared.banner.Kind.TheVariants.{Pattern}
-use Rattle.text_matrix_market.specs.declared.banner.BannerRead.TheVariants as banner
 use Rattle.text_matrix_market.specs.Text.{cut, non_empty, lines_of, words_of, is_blank_line, begins_percent}
 use Rattle.text_matrix_market.specs.Numbers.{decimal_value, number_read, three_of, two_of, numbers_of}
 use Rattle.text_matrix_market.specs.Banner.{same_word, same_words, codes, is_banner, banner_kind}
@@ -31,7 +31,7 @@ banner_line_lem : (rest : List ℕ) → lines_of (pattern_banner ++ rest) ≡ ba
 unfolding lines_of cut
 banner_line_lem rest = refl
 
-banner_pattern : banner_kind banner_line ≡ banner.Is Pattern
+banner_pattern : banner_kind banner_line ≡ Some Pattern
 unfolding cut non_empty words_of begins_percent same_word same_words is_banner banner_kind
 banner_pattern = refl
 

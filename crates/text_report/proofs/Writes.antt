@@ -1,11 +1,13 @@
 -- Texts written one after the other are one text written (`and_then`, with a byte first or last as cases of it). By induction on the first text.
 use mathlib.Core.Path.{◌≡◌, refl, sym, ap, ◌∙◌, subst}
-use mathlib.Core.List.{List, [], ◌∷◌, ◌++◌}
-use Prim.Native.Nat.{ℕ, suc, ◌+◌}
+use mathlib.Core.List.{List, [], ◌∷◌, ◌++◌, append_assoc}
+use Prim.Native.Nat.{ℕ, suc, ◌+◌, ◌-◌, ◌≤◌}
 use native.Mathlib.Nat.{add-zero, zero-add}
 use native.Mathlib.Omega.{arith}
-use lib.ListN.{length, set, length-append}
-use lib.Seq.{sets}
+use borrow.Rule.Slice.PartMut.{put_mid}
+use Rattle.std.proofs.lemmas.List.Edits.{sets-eq}
+use lib.ListN.{length, set, take, drop, length-append}
+use lib.Seq.{sets, drop-drop}
 use Rattle.text_report.specs.inner.Steps.{Wrote}
 
 sets_append : (out : List ℕ) (at : ℕ) (s t : List ℕ) → sets out at (s ++ t) ≡ sets (sets out at s) (at + length s) t
@@ -27,6 +29,13 @@ byte_first {out} {left} {t} {at} {next} b q = and_then (byte out at b) q
 
 pub byte_last : {out mid s : List ℕ} {at place : ℕ} (b : ℕ) → Wrote out at s mid place → Wrote out at (s ++ (b ∷ [])) (set mid place b) (place + 1)
 byte_last {out} {mid} {s} {at} {place} b p = and_then p (byte mid place b)
+
+-- a text copied over a part
+pub copied : (out text : List ℕ) (at : ℕ) → at + length text ≤ length out
+    → Wrote out at text (put_mid at (at + length text - at) out text) (at + length text)
+copied out text at h =
+    let size : at + length text - at ≡ length text = omega arith in
+    record { bytes = rw (size, drop-drop (length text) at out) (sym (sets-eq text out at h ∙ append_assoc (take at out) text (drop (at + length text) out))); place = refl }
 
 -- the same text and place, said otherwise
 pub restated : {out left s t : List ℕ} {at m n : ℕ} → s ≡ t → m ≡ n → Wrote out at s left m → Wrote out at t left n

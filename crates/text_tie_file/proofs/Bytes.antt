@@ -1,5 +1,6 @@
 -- Lines and words are what their bytes say: the parts that `cut` makes are parts by their bytes (`cut_parts`), and parts by their bytes are found
 -- again, one after the other. Numbers: digit by digit.
+use Rattle.std.proofs.Common.{Option, Some}
 use mathlib.Core.Path.{◌≡◌, refl, sym, ap, ◌∙◌, subst}
 use mathlib.Core.Bool.{Bool, true, false, cond, ◌&&◌, ◌||◌}
 use mathlib.Core.Logic.{◌⊎◌, inl, inr, ◌↔◌}
@@ -11,8 +12,6 @@ use borrow.Author.Tests.{eq-eqb, ne_eqb, le-leb, leb-true, eqb-true, eqb-false}
 use lib.Dec.{eqb, leb}
 use lib.ListN.{length}
 use Rattle.slices.proofs.Bools.{both}
-use Rattle.text_matrix_market.specs.declared.numbers.Number.{Number}
-use Rattle.text_matrix_market.specs.declared.numbers.Number.TheVariants.{Is}
 use Rattle.text_matrix_market.specs.Text.{is_line_feed, is_blank, prepend, cut, non_empty, lines_of, words_of}
 use Rattle.text_matrix_market.specs.Numbers.{is_digit, only_if, decimal_value, number_read, size_read}
 use Rattle.text_matrix_market.proofs.Words.{word_kept}
@@ -177,51 +176,51 @@ digit_found b e = let p = both (leb 48 b) (leb b 57) e in (leb-true 48 b p.0, le
 next_place : (v d p s : ℕ) → (10 * v + d) * p + s ≡ v * (10 * p) + (d * p + s)
 next_place v d p s = rw (add-mul (10 * v) d p, mul_assoc 10 v p, mul_left_comm 10 v p, add_assoc (v * (10 * p)) (d * p) s) refl
 
-decimal_back : (v : ℕ) (digits : List ℕ) → Every Digit digits → decimal_value v digits ≡ Is (v * 10 ^ length digits + place_sum digits)
+decimal_back : (v : ℕ) (digits : List ℕ) → Every Digit digits → decimal_value v digits ≡ Some (v * 10 ^ length digits + place_sum digits)
 unfolding decimal_value
-decimal_back v [] p = let e : v ≡ v * 1 + 0 = omega arith in ap Is e
+decimal_back v [] p = let e : v ≡ v * 1 + 0 = omega arith in ap Some e
 decimal_back v (b ∷ digits) p =
     rw (digit_test b p.0, pow-succ' 10 (length digits))
-    (decimal_back (10 * v + (b - 48)) digits p.1 ∙ ap Is (next_place v (b - 48) (10 ^ length digits) (place_sum digits)))
+    (decimal_back (10 * v + (b - 48)) digits p.1 ∙ ap Some (next_place v (b - 48) (10 ^ length digits) (place_sum digits)))
 
-decimal_zero : (digits : List ℕ) → Every Digit digits → decimal_value 0 digits ≡ Is (place_sum digits)
+decimal_zero : (digits : List ℕ) → Every Digit digits → decimal_value 0 digits ≡ Some (place_sum digits)
 decimal_zero digits p =
     let e : 0 * 10 ^ length digits + place_sum digits ≡ place_sum digits = rw (zero-mul (10 ^ length digits)) (omega arith) in
-    decimal_back 0 digits p ∙ ap Is e
+    decimal_back 0 digits p ∙ ap Some e
 
-only_then : (t : Bool) (x : Number) (w : ℕ) → only_if t x ≡ Is w → (t ≡ true) × (x ≡ Is w)
+only_then : (t : Bool) (x : Option ℕ) (w : ℕ) → only_if t x ≡ Some w → (t ≡ true) × (x ≡ Some w)
 only_then true x w e = (refl, e)
 only_then false x w e = never cc
 
-decimal_found : (v w : ℕ) (digits : List ℕ) → decimal_value v digits ≡ Is w → Every Digit digits
+decimal_found : (v w : ℕ) (digits : List ℕ) → decimal_value v digits ≡ Some w → Every Digit digits
 unfolding decimal_value
 decimal_found v w [] e = tt
 decimal_found v w (b ∷ digits) e =
     let p = only_then (is_digit b) (decimal_value (10 * v + (b - 48)) digits) w e in
     (digit_found b p.0, decimal_found (10 * v + (b - 48)) w digits p.1)
 
-number_back : (word : List ℕ) (value : ℕ) → IsNumber word value → number_read word ≡ Is value
+number_back : (word : List ℕ) (value : ℕ) → IsNumber word value → number_read word ≡ Some value
 unfolding number_read
 number_back word value n =
     rw (le-leb 1 (length word) n.some, le-leb (length word) 18 n.few, n.sum) (decimal_zero word n.digits)
 
-number_found : (word : List ℕ) (value : ℕ) → number_read word ≡ Is value → IsNumber word value
+number_found : (word : List ℕ) (value : ℕ) → number_read word ≡ Some value → IsNumber word value
 unfolding number_read
 number_found word value e =
     let p = only_then (leb 1 (length word) && leb (length word) 18) (decimal_value 0 word) value e in
     let q = both (leb 1 (length word)) (leb (length word) 18) p.0 in
     let d = decimal_found 0 value word p.1 in
-    let s : decimal_value 0 word ≡ Is (place_sum word) = decimal_zero word d in
+    let s : decimal_value 0 word ≡ Some (place_sum word) = decimal_zero word d in
     record { some = leb-true 1 (length word) q.0; few = leb-true (length word) 18 q.1; digits = d; sum = let f = p.1 in cc }
 
 -- a word that is read as a number is one, and its value is the sum of its digits by their places
-pub number_exactly : (word : List ℕ) (value : ℕ) → (number_read word ≡ Is value) ↔ IsNumber word value
+pub number_exactly : (word : List ℕ) (value : ℕ) → (number_read word ≡ Some value) ↔ IsNumber word value
 number_exactly word value = (number_found word value, number_back word value)
 
 no_minus : (b : ℕ) (word : List ℕ) (value : ℕ) → IsNumber (b ∷ word) value → eqb b 45 ≡ false
 no_minus b word value n = ne_eqb b 45 (λ e. omega (arith, n.digits.0.0))
 
-signed_back : (word : List ℕ) (size : ℕ) → IsSigned word size → size_read word ≡ Is size
+signed_back : (word : List ℕ) (size : ℕ) → IsSigned word size → size_read word ≡ Some size
 unfolding size_read
 signed_back [] size (inl n) = let z : ⊥ = omega (arith, n.some) in absurd z
 signed_back [] size (inr (digits, e, n)) = never cc
@@ -231,14 +230,14 @@ signed_back (b ∷ word) size (inr (digits, e, n)) =
     let t : word ≡ digits = cc in
     rw (eq-eqb b 45 h, t) (number_back digits size n)
 
-signed_found : (word : List ℕ) (size : ℕ) → size_read word ≡ Is size → IsSigned word size
+signed_found : (word : List ℕ) (size : ℕ) → size_read word ≡ Some size → IsSigned word size
 unfolding size_read
 signed_found [] size e = never cc
 signed_found (b ∷ word) size e = first (eqb b 45) refl e
   where
-    first : (t : Bool) → eqb b 45 ≡ t → cond t (number_read word) (number_read (b ∷ word)) ≡ Is size → IsSigned (b ∷ word) size
+    first : (t : Bool) → eqb b 45 ≡ t → cond t (number_read word) (number_read (b ∷ word)) ≡ Some size → IsSigned (b ∷ word) size
     first true h x = inr (word, ap (λ (c : ℕ). c ∷ word) (eqb-true b 45 h), number_found word size x)
     first false h x = inl (number_found (b ∷ word) size x)
 
-pub signed_exactly : (word : List ℕ) (size : ℕ) → (size_read word ≡ Is size) ↔ IsSigned word size
+pub signed_exactly : (word : List ℕ) (size : ℕ) → (size_read word ≡ Some size) ↔ IsSigned word size
 signed_exactly word size = (signed_found word size, signed_back word size)

@@ -1,5 +1,7 @@
 -- A line is read as exactly what it states. Each law goes from what a line states to what the reader makes of it; the converse is by the cases of the
 -- reader's tests.
+use Rattle.std.proofs.Common.{Option, Some, None, Ok, Err}
+use Rattle.refusal.specs.Refusal.{entry_line, upper_entry}
 use mathlib.Core.Path.{◌≡◌, refl, sym, ap, ◌∙◌, subst}
 use mathlib.Core.Bool.{Bool, true, false, ◌&&◌}
 use mathlib.Core.Logic.{◌⊎◌, inl, inr, ⊎_elim, ◌↔◌}
@@ -13,19 +15,13 @@ use lib.ListN.{get_or}
 use Rattle.slices.proofs.Bools.{both}
 use Rattle.text_matrix_market.specs.declared.banner.Kind.{Kind}
 use Rattle.text_matrix_market.specs.declared.banner.Kind.TheVariants.{General, Symmetric, Pattern}
-use Rattle.text_matrix_market.specs.declared.banner.BannerRead.{BannerRead}
-use Rattle.text_matrix_market.specs.declared.banner.BannerRead.TheVariants as banner
-use Rattle.text_matrix_market.specs.declared.numbers.Number.{Number}
-use Rattle.text_matrix_market.specs.declared.numbers.Number.TheVariants as number
-use Rattle.text_matrix_market.specs.declared.numbers.Numbers.{Numbers}
-use Rattle.text_matrix_market.specs.declared.numbers.Numbers.TheVariants.{Three, Other}
 use Rattle.text_matrix_market.specs.declared.stages.Entry.{Entry}
-use Rattle.text_matrix_market.specs.declared.stages.EntryRead.TheVariants.{Is, Misshapen, Upper}
 use Rattle.text_matrix_market.specs.Text.{words_of, is_nil, is_blank_line, begins_percent}
 use Rattle.text_matrix_market.specs.Numbers.{number_read, size_read, three, three_of, two_of, numbers_of}
 use Rattle.text_matrix_market.specs.Banner.{lower_case, same_word, same_words, codes, banner_words, is_banner, kind_if, banner_kind}
 use Rattle.text_matrix_market.specs.File.{is_within, weight_fits, is_upper, zero_based, line_entry}
 use Rattle.text_matrix_market.proofs.Entries.{inside, an_entry, upper_entry_lem}
+use Rattle.text_matrix_market.proofs.Fields.{same_three}
 use Rattle.text_tie_file.specs.Bytes.{IsNumber, IsSigned}
 use Rattle.text_tie_file.specs.Lines.{BannerOf, BlankLine, ThreeWords, TwoWords, EntryWords, InRange, Shaped, Stored, Unstored, Says}
 use Rattle.text_tie_file.proofs.Bytes.{never, number_exactly, signed_exactly}
@@ -129,7 +125,7 @@ pattern_not_general line s g = let e : ◌≡◌ {A = ℕ} 112 105 = ap (letter 
 pattern_not_symmetric : (line : List ℕ) → BannerOf Pattern line → BannerOf Symmetric line → ⊥
 pattern_not_symmetric line s g = let e : ◌≡◌ {A = ℕ} 112 105 = ap (letter 3) (sym s.words ∙ g.words) in omega arith
 
-banner_back : (kind : Kind) (line : List ℕ) → BannerOf kind line → banner_kind line ≡ banner.Is kind
+banner_back : (kind : Kind) (line : List ℕ) → BannerOf kind line → banner_kind line ≡ Some kind
 unfolding banner_kind
 banner_back General line b = rw ((kind_test_lem General line).1 b)
 banner_back Symmetric line b = rw (denied (kind_test_lem General line) (symmetric_not_general line b), (kind_test_lem Symmetric line).1 b)
@@ -140,45 +136,46 @@ banner_back Pattern line b =
       (kind_test_lem Pattern line).1 b,
     )
 
-banner_found : (kind : Kind) (line : List ℕ) → banner_kind line ≡ banner.Is kind → BannerOf kind line
+banner_found : (kind : Kind) (line : List ℕ) → banner_kind line ≡ Some kind → BannerOf kind line
 unfolding banner_kind
 banner_found kind line e = first (kind_test General line) (kind_test Symmetric line) (kind_test Pattern line) refl refl refl e
   where
     first : (s t u : Bool) → kind_test General line ≡ s → kind_test Symmetric line ≡ t → kind_test Pattern line ≡ u
-        → kind_if s General (kind_if t Symmetric (kind_if u Pattern banner.Other)) ≡ banner.Is kind → BannerOf kind line
+        → kind_if s General (kind_if t Symmetric (kind_if u Pattern None)) ≡ Some kind → BannerOf kind line
     first true t u p q r x = let k : General ≡ kind = cc in subst (λ (y : Kind). BannerOf y line) k ((kind_test_lem General line).0 p)
     first false true u p q r x = let k : Symmetric ≡ kind = cc in subst (λ (y : Kind). BannerOf y line) k ((kind_test_lem Symmetric line).0 q)
     first false false true p q r x = let k : Pattern ≡ kind = cc in subst (λ (y : Kind). BannerOf y line) k ((kind_test_lem Pattern line).0 r)
     first false false false p q r x = never cc
 
-pub banner_exactly : (kind : Kind) (line : List ℕ) → (banner_kind line ≡ banner.Is kind) ↔ BannerOf kind line
+pub banner_exactly : (kind : Kind) (line : List ℕ) → (banner_kind line ≡ Some kind) ↔ BannerOf kind line
 banner_exactly kind line = (banner_found kind line, banner_back kind line)
 
 -- a line is a banner or none
-pub banner_told : (line : List ℕ) → ((kind : Kind) × BannerOf kind line) ⊎ ((banner_kind line ≡ banner.Other) × ((kind : Kind) → BannerOf kind line → ⊥))
+pub banner_told : (line : List ℕ) → ((kind : Kind) × BannerOf kind line) ⊎ ((banner_kind line ≡ None) × ((kind : Kind) → BannerOf kind line → ⊥))
 banner_told line = first (banner_kind line) refl
   where
-    first : (r : BannerRead) → banner_kind line ≡ r → ((kind : Kind) × BannerOf kind line)
-        ⊎ ((banner_kind line ≡ banner.Other) × ((kind : Kind) → BannerOf kind line → ⊥))
-    first (banner.Is kind) e = inl (kind, banner_found kind line e)
-    first banner.Other e = inr (e, λ kind b. never (let x : banner_kind line ≡ banner.Is kind = banner_back kind line b in cc))
+    first : (r : Option Kind) → banner_kind line ≡ r → ((kind : Kind) × BannerOf kind line)
+        ⊎ ((banner_kind line ≡ None) × ((kind : Kind) → BannerOf kind line → ⊥))
+    first (Some kind) e = inl (kind, banner_found kind line e)
+    first None e = inr (e, λ kind b. never (let x : banner_kind line ≡ Some kind = banner_back kind line b in cc))
 
 -- ---- numbers of a line
-abbrev Exactly : (List ℕ → Number) → (List ℕ → ℕ → Type 0) → Type 0
-Exactly read P = (word : List ℕ) (value : ℕ) → (read word ≡ number.Is value) ↔ P word value
+abbrev Exactly : (List ℕ → Option ℕ) → (List ℕ → ℕ → Type 0) → Type 0
+Exactly read P = (word : List ℕ) (value : ℕ) → (read word ≡ Some value) ↔ P word value
 
-three_known : (x y z : Number) (a b c : ℕ) → three x y z ≡ Three a b c → (x ≡ number.Is a) × (y ≡ number.Is b) × (z ≡ number.Is c)
-three_known number.Misshapen y z a b c e = never cc
-three_known (number.Is x) number.Misshapen z a b c e = never cc
-three_known (number.Is x) (number.Is y) number.Misshapen a b c e = never cc
-three_known (number.Is x) (number.Is y) (number.Is z) a b c e = (cc, cc, cc)
+three_known : (x y z : Option ℕ) (a b c : ℕ) → three x y z ≡ Some (a, b, c) → (x ≡ Some a) × (y ≡ Some b) × (z ≡ Some c)
+three_known None y z a b c e = never cc
+three_known (Some x) None z a b c e = never cc
+three_known (Some x) (Some y) None a b c e = never cc
+three_known (Some x) (Some y) (Some z) a b c e =
+    let same = same_three e in (ap Some same.0, ap Some same.1, ap Some same.2)
 
-module _ (read : List ℕ → Number) (P : List ℕ → ℕ → Type 0) (exactly : Exactly read P) (line : List ℕ) (a b c : ℕ) where
-  three_back : ThreeWords P line a b c → three_of read (words_of line) ≡ Three a b c
+module _ (read : List ℕ → Option ℕ) (P : List ℕ → ℕ → Type 0) (exactly : Exactly read P) (line : List ℕ) (a b c : ℕ) where
+  three_back : ThreeWords P line a b c → three_of read (words_of line) ≡ Some (a, b, c)
   unfolding three_of
   three_back t = rw (t.words, (number_exactly t.first a).1 t.is_first, (number_exactly t.second b).1 t.is_second, (exactly t.third c).1 t.is_third)
 
-  three_by : (words : List (List ℕ)) → words_of line ≡ words → three_of read words ≡ Three a b c → ThreeWords P line a b c
+  three_by : (words : List (List ℕ)) → words_of line ≡ words → three_of read words ≡ Some (a, b, c) → ThreeWords P line a b c
   unfolding three_of
   three_by [] w e = never cc
   three_by (x ∷ []) w e = never cc
@@ -197,28 +194,28 @@ module _ (read : List ℕ → Number) (P : List ℕ → ℕ → Type 0) (exactly
       }
   three_by (x ∷ y ∷ z ∷ u ∷ words) w e = never cc
 
-two_back : (line : List ℕ) (a b : ℕ) → TwoWords line a b → two_of (words_of line) ≡ Three a b 0
+two_back : (line : List ℕ) (a b : ℕ) → TwoWords line a b → two_of (words_of line) ≡ Some (a, b, 0)
 unfolding two_of
 two_back line a b t = rw (t.words, (number_exactly t.first a).1 t.is_first, (number_exactly t.second b).1 t.is_second)
 
-two_by : (line : List ℕ) (a b c : ℕ) (words : List (List ℕ)) → words_of line ≡ words → two_of words ≡ Three a b c → TwoWords line a b × (c ≡ 0)
+two_by : (line : List ℕ) (a b c : ℕ) (words : List (List ℕ)) → words_of line ≡ words → two_of words ≡ Some (a, b, c) → TwoWords line a b × (c ≡ 0)
 unfolding two_of
 two_by line a b c [] w e = never cc
 two_by line a b c (x ∷ []) w e = never cc
 two_by line a b c (x ∷ y ∷ []) w e =
-    let k = three_known (number_read x) (number_read y) (number.Is 0) a b c e in
+    let k = three_known (number_read x) (number_read y) (Some 0) a b c e in
     let z = k.2 in
     (record { first = x; second = y; words = w; is_first = (number_exactly x a).0 k.0; is_second = (number_exactly y b).0 k.1 }, cc)
 two_by line a b c (x ∷ y ∷ z ∷ words) w e = never cc
 
 -- what a kind's line is read as is what its words say
-pub numbers_exactly : (kind : Kind) (line : List ℕ) (a b c : ℕ) → (numbers_of kind line ≡ Three a b c) ↔ EntryWords kind line a b c
+pub numbers_exactly : (kind : Kind) (line : List ℕ) (a b c : ℕ) → (numbers_of kind line ≡ Some (a, b, c)) ↔ EntryWords kind line a b c
 unfolding numbers_of
 numbers_exactly General line a b c =
     (three_by number_read IsNumber number_exactly line a b c (words_of line) refl, three_back number_read IsNumber number_exactly line a b c)
 numbers_exactly Symmetric line a b c =
     (three_by size_read IsSigned signed_exactly line a b c (words_of line) refl, three_back size_read IsSigned signed_exactly line a b c)
-numbers_exactly Pattern line a b c = (two_by line a b c (words_of line) refl, λ p. two_back line a b p.0 ∙ ap (Three a b) (sym p.1))
+numbers_exactly Pattern line a b c = (two_by line a b c (words_of line) refl, λ p. two_back line a b p.0 ∙ ap (λ (z : ℕ). Some (a, b, z)) (sym p.1))
 
 -- ---- an entry line
 weight_test : (kind : Kind) (line : List ℕ) (n row column weight : ℕ) → EntryWords kind line row column weight → InRange kind n weight
@@ -252,18 +249,18 @@ from_zero e =
     rw (r, c) refl
 
 module _ (kind : Kind) (n : ℕ) (line : List ℕ) (e : Entry) (s : Shaped kind n line e) where
-  numbers_there : numbers_of kind line ≡ Three (suc e.row) (suc e.column) e.weight
+  numbers_there : numbers_of kind line ≡ Some (suc e.row, suc e.column, e.weight)
   numbers_there = (numbers_exactly kind line (suc e.row) (suc e.column) e.weight).1 s.words
 
   weight_there : weight_fits kind n e.weight ≡ true
   weight_there = weight_test kind line n (suc e.row) (suc e.column) e.weight s.words s.weight
 
-  pub says_read : Stored kind e → line_entry kind n line ≡ Is e
+  pub says_read : Stored kind e → line_entry kind n line ≡ Ok e
   says_read h =
       sym (an_entry kind n line numbers_there (within_test n e.row s.row) (within_test n e.column s.column) weight_there (stored_test kind e h))
-      ∙ ap Is (from_zero e)
+      ∙ ap Ok (from_zero e)
 
-  pub above_read : Unstored kind e → line_entry kind n line ≡ Upper
+  pub above_read : Unstored kind e → line_entry kind n line ≡ Err upper_entry
   above_read h =
       sym (upper_entry_lem kind n line numbers_there (within_test n e.row s.row) (within_test n e.column s.column) weight_there
       (unstored_test kind e h))
@@ -281,14 +278,14 @@ stored_or_not Pattern e = inl tt
 pub data Told (kind : Kind) (n : ℕ) (line : List ℕ) : Type 0 where
   says : (e : Entry) → Says kind n line e → Told kind n line
   above : (e : Entry) → Shaped kind n line e → Unstored kind e → Told kind n line
-  nothing : line_entry kind n line ≡ Misshapen → ((e : Entry) → Shaped kind n line e → ⊥) → Told kind n line
+  nothing : line_entry kind n line ≡ Err entry_line → ((e : Entry) → Shaped kind n line e → ⊥) → Told kind n line
 
-no_shape : (kind : Kind) (n : ℕ) (line : List ℕ) → line_entry kind n line ≡ Misshapen → (e : Entry) → Shaped kind n line e → ⊥
+no_shape : (kind : Kind) (n : ℕ) (line : List ℕ) → line_entry kind n line ≡ Err entry_line → (e : Entry) → Shaped kind n line e → ⊥
 no_shape kind n line x e s =
-    never (⊎_elim (λ h. let y : line_entry kind n line ≡ Is e = says_read kind n line e s h in cc) (λ h. let y : line_entry kind n line ≡ Upper =
+    never (⊎_elim (λ h. let y : line_entry kind n line ≡ Ok e = says_read kind n line e s h in cc) (λ h. let y : line_entry kind n line ≡ Err upper_entry =
     above_read kind n line e s h in cc) (stored_or_not kind e))
 
-shape_by : (kind : Kind) (n : ℕ) (line : List ℕ) (row column weight : ℕ) → numbers_of kind line ≡ Three row column weight
+shape_by : (kind : Kind) (n : ℕ) (line : List ℕ) (row column weight : ℕ) → numbers_of kind line ≡ Some (row, column, weight)
     → is_within n row ≡ true → is_within n column ≡ true → weight_fits kind n weight ≡ true → Shaped kind n line (zero_based row column weight)
 shape_by kind n line row column weight e h k w =
     let i = inside n row h in
@@ -307,7 +304,7 @@ pub entry_told : (kind : Kind) (n : ℕ) (line : List ℕ) → Told kind n line
 unfolding line_entry
 entry_told kind n line = by (numbers_of kind line) refl
   where
-    when : (row column weight : ℕ) (t : Bool) → numbers_of kind line ≡ Three row column weight
+    when : (row column weight : ℕ) (t : Bool) → numbers_of kind line ≡ Some (row, column, weight)
         → (is_within n row && (is_within n column && weight_fits kind n weight)) ≡ t → Told kind n line
     when row column weight true e h =
         let p = both (is_within n row) (is_within n column && weight_fits kind n weight) h in
@@ -315,8 +312,8 @@ entry_told kind n line = by (numbers_of kind line) refl
         let x = zero_based row column weight in
         let s : Shaped kind n line x = shape_by kind n line row column weight e p.0 q.0 q.1 in
         ⊎_elim (λ i. says x (s, i)) (λ i. above x s i) (stored_or_not kind x)
-    when row column weight false e h = let x : line_entry kind n line ≡ Misshapen = rw (e, h) in nothing x (no_shape kind n line x)
+    when row column weight false e h = let x : line_entry kind n line ≡ Err entry_line = rw (e, h) in nothing x (no_shape kind n line x)
 
-    by : (x : Numbers) → numbers_of kind line ≡ x → Told kind n line
-    by Other e = let x : line_entry kind n line ≡ Misshapen = rw e in nothing x (no_shape kind n line x)
-    by (Three row column weight) e = when row column weight _ e refl
+    by : (x : Option (ℕ × ℕ × ℕ)) → numbers_of kind line ≡ x → Told kind n line
+    by None e = let x : line_entry kind n line ≡ Err entry_line = rw e in nothing x (no_shape kind n line x)
+    by (Some (row, column, weight)) e = when row column weight _ e refl

@@ -1,5 +1,6 @@
 -- What is a file is read as that file, and what is to be refused is refused with its number: the reader passes the well-formed lines, and then one
 -- more line decides.
+use Rattle.std.proofs.Common.{Option, Some, None, Err}
 use mathlib.Core.Path.{◌≡◌, refl, sym, ap, ◌∙◌, subst}
 use mathlib.Core.Bool.{false}
 use mathlib.Core.Logic.{inl, inr, ⊎_elim}
@@ -12,10 +13,7 @@ use Rattle.refusal.specs.Refusal as number
 use Rattle.refusal.specs.Refusal.{size_line, input_limit, entry_line, entry_count, repeated_pair, upper_entry}
 use Rattle.text_matrix_market.specs.declared.banner.Kind.{Kind}
 use Rattle.text_matrix_market.specs.declared.banner.Kind.TheVariants.{General}
-use Rattle.text_matrix_market.specs.declared.numbers.Numbers.{Numbers}
-use Rattle.text_matrix_market.specs.declared.numbers.Numbers.TheVariants.{Three, Other}
 use Rattle.text_matrix_market.specs.declared.stages.Entry.{Entry}
-use Rattle.text_matrix_market.specs.declared.stages.EntryRead.TheVariants.{Misshapen}
 use Rattle.text_matrix_market.specs.Text.{lines_of, is_blank_line, begins_percent}
 use Rattle.text_matrix_market.specs.Numbers.{numbers_of}
 use Rattle.text_matrix_market.specs.File.{max_input, line_entry, State, start, sizing, entering, refused, content, read_line, read_lines, Reading, file}
@@ -70,10 +68,10 @@ size_fails kind line w c f = entries.short line (sizing kind) w (by (numbers_of 
     p : begins_percent line ≡ false
     p = denied (percent_exactly line) (λ x. c (inr x))
 
-    by : (x : Numbers) → numbers_of General line ≡ x → refused size_line ≡ content (sizing kind) line
-    by Other e = entries.no_size kind line b p e
-    by (Three m n count) e =
-        entries.not_square kind line b p e (λ (h : m ≡ n). f n count ((numbers_exactly General line n n count).0 (e ∙ ap (λ (x : ℕ). Three x n count) h)))
+    by : (x : Option (ℕ × ℕ × ℕ)) → numbers_of General line ≡ x → refused size_line ≡ content (sizing kind) line
+    by None e = entries.no_size kind line b p e
+    by (Some (m, n, count)) e =
+        entries.not_square kind line b p e (λ (h : m ≡ n). f n count ((numbers_exactly General line n n count).0 (e ∙ ap (λ (x : ℕ). Some (x, n, count)) h)))
 
 no_size : (lines : List (List ℕ)) → NoSize lines → lines_read lines ≡ refusal size_line
 no_size lines x = by x.rest x.opens x.fails
@@ -108,10 +106,10 @@ no_entry lines x =
     stops (entering x.kind x.n x.count x.entries) entry_line lines x.line x.rest
     (enters_run lines x.kind x.n x.count x.entries (x.line ∷ x.rest) x.enters)
     (entries.short x.line (entering x.kind x.n x.count x.entries) x.narrow
-    (entries.misshapen x.kind x.n x.count x.entries x.line (denied (blank_exactly x.line) x.non_blank) x.awaited
+    (entries.refused_entry x.kind x.n x.count x.entries x.line (denied (blank_exactly x.line) x.non_blank) x.awaited
     (by (entry_told x.kind x.n x.line))))
   where
-    by : Told x.kind x.n x.line → line_entry x.kind x.n x.line ≡ Misshapen
+    by : Told x.kind x.n x.line → line_entry x.kind x.n x.line ≡ Err entry_line
     by (says e s) = absurd (x.fails e s.0)
     by (above e s u) = absurd (x.fails e s)
     by (nothing m f) = m
@@ -121,7 +119,7 @@ above_diagonal lines x =
     stops (entering x.kind x.n x.count x.entries) upper_entry lines x.line x.rest
     (enters_run lines x.kind x.n x.count x.entries (x.line ∷ x.rest) x.enters)
     (entries.short x.line (entering x.kind x.n x.count x.entries) x.narrow
-    (entries.above x.kind x.n x.count x.entries x.line (shaped_written x.kind x.n x.line x.entry x.shaped) x.awaited
+    (entries.refused_entry x.kind x.n x.count x.entries x.line (shaped_written x.kind x.n x.line x.entry x.shaped) x.awaited
     (above_read x.kind x.n x.line x.entry x.shaped x.unstored)))
 
 too_few : (kind : Kind) (n count : ℕ) (es : List Entry) → length es < count → reading_at_end (entering kind n count es) ≡ refusal entry_count

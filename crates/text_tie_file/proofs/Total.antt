@@ -1,4 +1,5 @@
 -- Every input is a file or is to be refused: line by line, after the well-formed ones. By induction on the lines that are left.
+use Rattle.std.proofs.Common.{Option, Some, None}
 use mathlib.Core.Path.{◌≡◌, refl, sym, ap, ◌∙◌, subst}
 use mathlib.Core.Bool.{Bool, true, false}
 use mathlib.Core.Logic.{◌⊎◌, inl, inr, ⊎_elim}
@@ -10,8 +11,6 @@ use lib.Dec.{eqb, leb}
 use lib.ListN.{length}
 use Rattle.text_matrix_market.specs.declared.banner.Kind.{Kind}
 use Rattle.text_matrix_market.specs.declared.banner.Kind.TheVariants.{General}
-use Rattle.text_matrix_market.specs.declared.numbers.Numbers.{Numbers}
-use Rattle.text_matrix_market.specs.declared.numbers.Numbers.TheVariants.{Three, Other}
 use Rattle.text_matrix_market.specs.declared.stages.Entry.{Entry}
 use Rattle.text_matrix_market.specs.Text.{lines_of, is_blank_line, begins_percent}
 use Rattle.text_matrix_market.specs.Numbers.{numbers_of}
@@ -21,6 +20,7 @@ use Rattle.text_tie_file.specs.Lines.{Narrow, BlankLine, BlankOrComment, ThreeWo
 use Rattle.text_tie_file.specs.File.{Laid, IsFile}
 use Rattle.text_tie_file.specs.Refused.{Opens, Enters, NoBanner, WideLine, IsRefused, by_20, by_21, by_22, by_23, by_24, by_25, by_26}
 use Rattle.text_tie_file.proofs.Bytes.{never}
+use Rattle.text_matrix_market.proofs.Fields.{same_three}
 use Rattle.text_tie_file.proofs.Lines.{blank_exactly, percent_exactly, banner_told, numbers_exactly, Told, says, above, nothing, entry_told}
 use Rattle.text_tie_file.proofs.Pairs.{twice_exactly}
 use Rattle.text_tie_file.proofs.Fronts.{every_join, opens_more, enters_none, enters_blank, enters_entry}
@@ -62,12 +62,12 @@ comment_or_not line = ⊎_elim (λ b. inl (inl b)) (λ n. by (begins_percent lin
 sized_or_not : (line : List ℕ) → ((n : ℕ) × (count : ℕ) × ThreeWords IsNumber line n n count) ⊎ ((n count : ℕ) → ThreeWords IsNumber line n n count → ⊥)
 sized_or_not line = by (numbers_of General line) refl
   where
-    by : (x : Numbers) → numbers_of General line ≡ x → ((n : ℕ) × (count : ℕ) × ThreeWords IsNumber line n n count)
+    by : (x : Option (ℕ × ℕ × ℕ)) → numbers_of General line ≡ x → ((n : ℕ) × (count : ℕ) × ThreeWords IsNumber line n n count)
         ⊎ ((n count : ℕ) → ThreeWords IsNumber line n n count → ⊥)
-    by Other e = inr (λ n count t. never (let x : numbers_of General line ≡ Three n n count = (numbers_exactly General line n n count).1 t in cc))
-    by (Three m n count) e = ⊎_elim
-        (λ (h : m ≡ n). inl (n, count, (numbers_exactly General line n n count).0 (e ∙ ap (λ (x : ℕ). Three x n count) h)))
-        (λ (h : m ≡ n → ⊥). inr (λ k l t. h (let x : numbers_of General line ≡ Three k k l = (numbers_exactly General line k k l).1 t in cc)))
+    by None e = inr (λ n count t. never (let x : numbers_of General line ≡ Some (n, n, count) = (numbers_exactly General line n n count).1 t in cc))
+    by (Some (m, n, count)) e = ⊎_elim
+        (λ (h : m ≡ n). inl (n, count, (numbers_exactly General line n n count).0 (e ∙ ap (λ (x : ℕ). Some (x, n, count)) h)))
+        (λ (h : m ≡ n → ⊥). inr (λ k l t. h (let s = same_three (sym e ∙ (numbers_exactly General line k k l).1 t) in s.0 ∙ sym s.1)))
         (same m n)
 
 module _ (input : List ℕ) (short : length input ≤ max_input) where
