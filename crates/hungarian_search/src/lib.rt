@@ -26,7 +26,7 @@ fn raise(n: usize, u: &mut [f64], work: &[u32], d: &[f64], popped: usize, csp: f
     let from = POPPED * n;
     for row in &work[from..from + popped] {
         let i = *row as usize;
-        u[i] = u[i] + (d[i] - csp);
+        u[i] += d[i] - csp;
     }
 }
 
