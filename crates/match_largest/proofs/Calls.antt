@@ -1,5 +1,6 @@
 -- The call: its tests establish what its parts require, what they write are the definition's marks, and what it answers keeps the contract's
 -- clauses. Our own matches are accepted by the match's theorem on its range, which speaks of no cost.
+use Rattle.std.proofs.Common.{Err}
 use mathlib.Core.Path.{◌≡◌, refl, sym, ap, ◌∙◌, subst}
 use mathlib.Core.Logic.{◌≢◌}
 use mathlib.Core.Bool.{Bool, true, cond, ◌||◌}
@@ -14,9 +15,10 @@ use lib.Seq.{ext_get_or}
 use lib.Ieee.Fits.{eq→eqb}
 use Rattle.limits.specs.Limits.{none}
 use Rattle.refusal.specs.Refusal.{incomplete_matching, not_largest}
+use Rattle.refusal.specs.Number.{fault_of}
 use Rattle.refusal.specs.Listed.{listed, OneOf, general_numbers, largest_numbers}
 use Rattle.slices.specs.Lists.{tabulate}
-use Rattle.slices.specs.Outcome.{Outcome, outcome_is, refusing}
+use Rattle.slices.specs.Outcome.{Outcome, outcome_is, refusing, as_number}
 use Rattle.slices.proofs.Bools.{both}
 use Rattle.slices.proofs.Refusing.{refused_is}
 use Rattle.slices.proofs.Lists.{length_table, table_at}
@@ -36,16 +38,13 @@ use Rattle.hungarian.specs.Optimal.{LargestMatch, matched_entries}
 use Rattle.hungarian.specs.inner.Setting.{Setting}
 use Rattle.hungarian.proofs.Accepts.{near_setting}
 use Rattle.hungarian.proofs.Theorems.{match_largest}
-use Rattle.hungarian_match.specs.Call.{match_fault, number_of as match_number, finished, match_outcome}
-use Rattle.hungarian_match.specs.declared.Answer.TheVariants as Answer
+use Rattle.hungarian_match.specs.Call.{match_fault, finished, match_outcome}
 use Rattle.hungarian_match.proofs.Calls.{accepted_lengths}
 use Rattle.match_check.specs.inner.Steps.{AcceptedPattern}
 use Rattle.match_largest.specs.Marks.{row_at, is_free, mark, pairs_fit, is_met, marked_columns, marked_rows, is_largest, pairing_fault}
-use Rattle.match_largest.specs.Call.{number_of, Slices, slices, largest_lengths, largest_fault, pair_count, marks_of, largest_outcome, pairs, Promises}
+use Rattle.match_largest.specs.Call.{Slices, slices, largest_lengths, largest_fault, pair_count, marks_of, largest_outcome, pairs, Promises}
 use Rattle.match_largest.specs.Call.{IsLargestOf, Room, Exactly, Shown, Ours, OursAccepted}
 use Rattle.match_largest.specs.inner.Sweeps.{Searched}
-use Rattle.match_largest.specs.declared.Verdict.{Verdict}
-use Rattle.match_largest.specs.declared.Verdict.TheVariants.{Accepted, Refused}
 use Rattle.match_largest.proofs.Berge.{Good}
 use Rattle.match_largest.proofs.Rounds.{columns_length, rows_length, column-is, row_is}
 use Rattle.match_largest.proofs.Pairs.{fits_at, fits_good, good_fits}
@@ -175,8 +174,8 @@ ours_largest g perm o = go (match_fault (with_costs g o.cost) o.before) refl o.n
         }
 
     go : (f : ℕ) → match_fault (with_costs g o.cost) o.before ≡ f
-        → match_number (refusing Answer.Refused f (finished (with_costs g o.cost) o.before) o.before).answer ≡ 0
-        → perm ≡ (refusing Answer.Refused f (finished (with_costs g o.cost) o.before) o.before).after.perm
+        → fault_of (refusing Err f (finished (with_costs g o.cost) o.before) o.before).answer ≡ 0
+        → perm ≡ (refusing Err f (finished (with_costs g o.cost) o.before) o.before).after.perm
         → IsLargestOf g perm
     go zero e z left = subst (IsLargestOf g) (sym left) (found e)
     go (suc f) e z left = let y : ⊥ = omega (arith, z) in absurd y
@@ -190,7 +189,7 @@ largest_listed g perm s =
 
 -- ---- the clauses, of any answer
 module _ (g : Pattern) (perm : List ℕ) (s : Slices) where
-  pub all_promised : {r : Verdict} {after : Slices} → outcome_is r after ≡ largest_outcome g perm s → Promises g perm s r after
+  pub all_promised : {r : ℕ} {after : Slices} → outcome_is r after ≡ largest_outcome g perm s → Promises g perm s r after
   unfolding largest_outcome
   all_promised {r} {after} o = go (largest_fault g perm s) refl o
     where
@@ -203,11 +202,10 @@ module _ (g : Pattern) (perm : List ℕ) (s : Slices) where
       numbered : {number : ℕ} → number ≡ largest_fault g perm s → OneOf largest_numbers number
       numbered e = subst (OneOf largest_numbers) (sym e) (largest_listed g perm s).is
 
-      go : (f : ℕ) → largest_fault g perm s ≡ f → outcome_is r after ≡ refusing Refused f (outcome_is Accepted (marks_of g perm)) s → Promises g perm s r after
+      go : (f : ℕ) → largest_fault g perm s ≡ f → outcome_is r after ≡ refusing as_number f (outcome_is 0 (marks_of g perm)) s → Promises g perm s r after
       go zero z e =
-          let a : r ≡ Accepted = ap (λ (x : Outcome Verdict Slices). x.answer) e in
-          let l : after ≡ marks_of g perm = ap (λ (x : Outcome Verdict Slices). x.after) e in
-          let n : number_of r ≡ largest_fault g perm s = ap number_of a ∙ sym z in
+          let n : r ≡ largest_fault g perm s = ap (λ (x : Outcome ℕ Slices). x.answer) e ∙ sym z in
+          let l : after ≡ marks_of g perm = ap (λ (x : Outcome ℕ Slices). x.after) e in
           let p = passed g perm s z in
           record {
             outcome = o;
@@ -217,8 +215,7 @@ module _ (g : Pattern) (perm : List ℕ) (s : Slices) where
             ours = ours n;
           }
       go (suc f) z e =
-          let a : r ≡ Refused (suc f) = ap (λ (x : Outcome Verdict Slices). x.answer) e in
-          let n : number_of r ≡ largest_fault g perm s = ap number_of a ∙ sym z in
+          let n : r ≡ largest_fault g perm s = ap (λ (x : Outcome ℕ Slices). x.answer) e ∙ sym z in
           record {
             outcome = o;
             number = numbered n;
@@ -229,9 +226,9 @@ module _ (g : Pattern) (perm : List ℕ) (s : Slices) where
 
 -- ---- the answers
 refused_by : (g : Pattern) (perm : List ℕ) (s : Slices) {fault : ℕ} → fault ≢ 0 → fault ≡ largest_fault g perm s
-    → outcome_is (Refused fault) s ≡ largest_outcome g perm s
+    → outcome_is fault s ≡ largest_outcome g perm s
 unfolding largest_outcome
-refused_by g perm s z e = refused_is Refused (outcome_is Accepted (marks_of g perm)) s e z
+refused_by g perm s z e = refused_is as_number (outcome_is 0 (marks_of g perm)) s e z
 
 module _ (n : ℕ) (col_ptr row_idx perm : List ℕ) (s : Slices) {lengths : Bool} (l : lengths ≡ largest_lengths n col_ptr perm s) where
   pub pointers_fit : lengths ≡ true → length col_ptr ≡ n + 1
@@ -241,7 +238,7 @@ module _ (n : ℕ) (col_ptr row_idx perm : List ℕ) (s : Slices) {lengths : Boo
     tested : shape ≡ pattern_fault (pattern n col_ptr row_idx) (largest_lengths n col_ptr perm s)
     tested = f ∙ ap (pattern_fault (pattern n col_ptr row_idx)) l
 
-    pub by_shape : shape ≢ 0 → outcome_is (Refused shape) s ≡ largest_outcome (pattern n col_ptr row_idx) perm s
+    pub by_shape : shape ≢ 0 → outcome_is shape s ≡ largest_outcome (pattern n col_ptr row_idx) perm s
     unfolding largest_fault
     by_shape z = refused_by (pattern n col_ptr row_idx) perm s z (answer_first _ tested z)
 
@@ -257,7 +254,7 @@ module _ (n : ℕ) (col_ptr row_idx perm : List ℕ) (s : Slices) {lengths : Boo
         unfolding largest_fault
         whole = answer_second tested z p
 
-        pub by_pairing : fault ≢ 0 → outcome_is (Refused fault) s ≡ largest_outcome (pattern n col_ptr row_idx) perm s
+        pub by_pairing : fault ≢ 0 → outcome_is fault s ≡ largest_outcome (pattern n col_ptr row_idx) perm s
         by_pairing y = refused_by (pattern n col_ptr row_idx) perm s y whole
 
         module _ (y : fault ≡ 0) where
@@ -298,7 +295,7 @@ module _ (n : ℕ) (col_ptr row_idx perm : List ℕ) (s : Slices) {lengths : Boo
 
             pub found : {columns rows matched : List ℕ} → columns ≡ tabulate (length perm) (λ j. cond (eqb (row_at perm j) none) 1 (get_or met (row_at perm j) 0))
                 → rows ≡ tabulate (length s.rows) (λ i. get_or met i 0) → matched ≡ pair_count (pattern (length perm) col_ptr row_idx) perm ∷ []
-                → outcome_is Accepted (slices columns rows matched) ≡ largest_outcome (pattern n col_ptr row_idx) perm s
+                → outcome_is 0 (slices columns rows matched) ≡ largest_outcome (pattern n col_ptr row_idx) perm s
             unfolding largest_outcome marks_of
             found c r k =
                 let w : largest_fault (pattern n col_ptr row_idx) perm s ≡ 0 = sym whole ∙ y in

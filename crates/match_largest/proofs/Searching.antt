@@ -145,21 +145,21 @@ held_is {g} {perm} {inverse} {met} a s = every_same (λ i. not (eqb (get_or met 
 
 -- ---- 30 and 33
 module _ (g : Pattern) (perm : List ℕ) {fit : Bool} (p : fit ≡ pairs_fit g perm) where
-  pub by_pairs : {X : Type 0} → fit ≡ false → (incomplete_matching ≡ pairing_fault g perm) × (incomplete_matching ≡ 0 → X)
+  pub by_pairs : fit ≡ false → incomplete_matching ≡ pairing_fault g perm
   unfolding pairing_fault
-  by_pairs z = let q : pairs_fit g perm ≡ false = sym p ∙ z in (rw q refl, λ e. let y : ⊥ = omega (arith, e) in absurd y)
+  by_pairs z = let q : pairs_fit g perm ≡ false = sym p ∙ z in rw q refl
 
   module _ (y : fit ≡ true) {held : Bool} (h : held ≡ is_largest g perm) where
-    pub by_rows : {X : Type 0} → held ≡ false → (not_largest ≡ pairing_fault g perm) × (not_largest ≡ 0 → X)
+    pub by_rows : held ≡ false → not_largest ≡ pairing_fault g perm
     unfolding pairing_fault
     by_rows z =
         let q : pairs_fit g perm ≡ true = sym p ∙ y in
         let r : is_largest g perm ≡ false = sym h ∙ z in
-        (rw (q, r) refl, λ e. let y : ⊥ = omega (arith, e) in absurd y)
+        rw (q, r) refl
 
-    pub by_nothing : {X : Type 0} → X → held ≡ true → (accepted ≡ pairing_fault g perm) × (accepted ≡ 0 → X)
+    pub by_nothing : held ≡ true → accepted ≡ pairing_fault g perm
     unfolding pairing_fault
-    by_nothing x z =
+    by_nothing z =
         let q : pairs_fit g perm ≡ true = sym p ∙ y in
         let r : is_largest g perm ≡ true = sym h ∙ z in
-        (rw (q, r) refl, λ e. x)
+        rw (q, r) refl

@@ -240,8 +240,8 @@ fn write_columns(perm: &[u32], met: &[u8], columns: &mut [u32])
         columns.new ≡ tabulate (length perm.now)
         (λ j. cond (eqb (row j) none) 1 (get_or met.now (row j) 0)) }
 {
-    for (mark, &row) in columns.iter_mut().zip(perm) {
-        *mark = column_mark(row, met);
+    for (j, mark) in columns.iter_mut().enumerate() {
+        *mark = column_mark(perm[j], met);
     }
 }
 
@@ -250,8 +250,8 @@ fn write_rows(met: &[u8], rows: &mut [u32])
     requires { (length rows.old ≤ max_columns) × (length met.now ≡ max_columns) }
     ensures { rows.new ≡ tabulate (length rows.old) (λ i. get_or met.now i 0) }
 {
-    for (mark, &seen) in rows.iter_mut().zip(met) {
-        *mark = u32::from(seen);
+    for (i, mark) in rows.iter_mut().enumerate() {
+        *mark = u32::from(met[i]);
     }
 }
 
