@@ -2,7 +2,6 @@
 use Rattle.refusal.proofs.Numbers.{number_ne_zero}
 use Rattle.std.proofs.Common.{◌≡◌, refl, rules}
 use Rattle.std.specs.Prelude.{Err}
-use Rattle.std.proofs.lemmas.Result.{err_from_is_err_and}
 use Rattle.sparse.proofs.First.{answer_first, answer_second}
 use Rattle.factors_mc64.proofs.call_fault.Goals as goal
 

@@ -1,5 +1,5 @@
 -- `write_factors`: cleared work is marked, the factors are filled, the work is cleared again.
-use Rattle.std.proofs.Common.{refl, arith}
+use Rattle.std.proofs.Common.{refl}
 use Rattle.factors_mc64.proofs.Loops.{no_marks_lem}
 use Rattle.factors_mc64.proofs.write_factors.Goals as goal
 
