@@ -1,25 +1,28 @@
 -- Laws of lanes and of the words made of them: one digit by words of 32 digits (`word`), one lane written (`put_lane`), the stages of a pass, the
--- sixteen digits of a lane (by whole_log's `Running`), one word more (`words_next`), and what a word stands for (`lane_word`).
+-- sixteen digits of a lane (by whole_log's `Running`), the words of one block more (`going_on`), and what a word stands for (`lane_word`).
 use mathlib.Core.Path.{◌≡◌, refl, sym, ap, ◌∙◌, subst}
 use mathlib.Core.Bool.{true, false}
 use mathlib.Core.Logic.{◌≢◌}
-use mathlib.Core.List.{List}
+use mathlib.Core.List.{List, ◌++◌}
 use Prim.Native.Nat.{ℕ, ◌+◌, ◌-◌, ◌*◌, ◌/◌, ◌%◌, ◌^◌, ◌≤◌, ◌<◌}
 use native.Mathlib.Nat.{le_refl}
-use native.Mathlib.Decide.{ℕ_discrete}
+use native.Mathlib.Decide.{ℕ_discrete, dec_lt}
 use native.Mathlib.Omega.{arith}
 use lib.Dec.{ltb, lt→ltb, ltb→lt}
 use lib.Ieee.{Float, nan}
-use lib.ListN.{length, get_or, set, replicate, length-set, get_or-replicate}
-use lib.Seq.{get_or-set_same, get_or-set_other}
+use lib.ListN.{length, get_or, set, drop, length-append, length-take, length-drop, get_or-append}
+use borrow.Rule.Slice.PartMut.{put_mid}
+use Rattle.std.proofs.Common.{rules, get_or-drop}
+use Rattle.std.proofs.lemmas.List.{places}
+use lib.Seq.{get_or-set_same, get_or-set_other, drop_at, drop-drop}
 use Rattle.refusal.specs.Refusal.{value_not_finite}
 use Rattle.slices.proofs.Bools.{same_test}
 use Rattle.whole_log.specs.Log.{digit_of, squared, log_from, from_units, whole_log}
-use Rattle.whole_log.specs.declared.Log.TheVariants.{Is, Refused}
+use Rattle.std.specs.Prelude.{Ok, Err}
 use Rattle.whole_log.specs.inner.Steps.{Running}
 use Rattle.whole_log.proofs.Loop.{start, turn_facts, turn}
 use Rattle.whole_log.proofs.Squares.{halves, log_range}
-use Rattle.log_lanes.specs.inner.Lanes.{Ready, Every, Words, answer_of, no_log}
+use Rattle.log_lanes.specs.inner.Lanes.{Ready, Every, Answered, Words, answer_of, no_log}
 
 -- ---- one digit
 
@@ -91,52 +94,89 @@ lane_turn m₀ e₀ k m e m' e' r l p q =
 pub lane_known : (m₀ e₀ k m e : ℕ) → Running 2099 m₀ e₀ k m e → (2 ^ 31 ≤ m) × (e < 2 ^ 30)
 lane_known m₀ e₀ k m e r = (r.full, omega (arith, (turn_facts 2099 m₀ e₀ k m e (m * m) r refl).known))
 
--- lanes before a value is loaded
-pub fresh : Every (λ j m e. Ready m e) (replicate {A = ℕ} 16 2147483648) (replicate {A = ℕ} 16 0)
-fresh j h =
-    rw (get_or-replicate {A = ℕ} 16 j 2147483648 0 h, get_or-replicate {A = ℕ} 16 j 0 0 h) (record { full = omega arith; short = omega arith; room = omega arith })
-
--- ---- values in lanes: the first of them have their values' digits
-abbrev pub Loaded : List Float → ℕ → ℕ → ℕ → ℕ → ℕ → Type 0
-Loaded values from count j m e = Ready m e × (j < count → answer_of (log_from 16 m e) ≡ whole_log (get_or values (from + j) nan))
-
-pub load_next : (values : List Float) (from i : ℕ) (l k : List ℕ) (m e : ℕ) → from ≤ i → i - from < length l → i - from < length k
-    → Every (Loaded values from (i - from)) l k → Ready m e × (answer_of (log_from 16 m e) ≡ whole_log (get_or values i nan))
-    → Every (Loaded values from (i + 1 - from)) (set l (i - from) m) (set k (i - from) e)
-load_next values from i l k m e h p q s made =
-    let at : from + (i - from) ≡ i = omega arith in
-    put_lane (Loaded values from (i + 1 - from)) l k (i - from) m e p q (λ j h d. ((s j h).0, λ r. (s j h).1 (omega arith)))
-    (made.0, λ r. rw (at) made.1)
-
 -- ---- words
-pub words_start : (values : List Float) (at : ℕ) (words : List ℕ) → Words values at 0 words words
-words_start values at words = record { same = refl; there = λ j l. absurd (let z : ⊥ = omega arith in z); kept = λ j l. refl }
-
-pub words_next : (values : List Float) (at i : ℕ) (before words : List ℕ) (x : ℕ) → Words values at i before words → at + i < length words
-    → answer_of x ≡ whole_log (get_or values i nan) → Words values at (i + 1) before (set words (at + i) x)
-words_next values at i before words x w l e = record {
-  same = length-set words (at + i) x ∙ w.same;
-  there = λ j h. go j h (ℕ_discrete j i);
-  kept = λ j h. get_or-set_other words (at + i) j x 0 (λ q. omega arith) ∙ w.kept j h;
+-- the words xs of a block of values, written from `place` on
+block_written : (values : List Float) (at done : ℕ) (before words : List ℕ) (block rest : List Float) (xs : List ℕ)
+    → Words values at done before words → drop done values ≡ block ++ rest → Answered block xs → length xs ≡ length block
+    → at + done + length block ≤ length words
+    → Words values at (done + length block) before (put_mid (at + done) (length block) words xs)
+block_written values at done before words block rest xs w e a n fits = record {
+  same = simp (length-append, length-take, length-drop) (omega (arith, w.same));
+  there = λ j h. there j h (dec_lt j done);
+  kept = λ j h. search (rules, places) ∙ w.kept j h;
 }
   where
-    go : (j : ℕ) → j < i + 1 → Dec (j ≡ i) → answer_of (get_or (set words (at + i) x) (at + j) 0) ≡ whole_log (get_or values j nan)
-    go j h (yes q) = rw (q, get_or-set_same words (at + i) x 0 l) e
-    go j h (no q) = rw (get_or-set_other words (at + i) (at + j) x 0 (λ r. q (omega arith))) (w.there j (omega arith))
+    there : (j : ℕ) → j < done + length block → Dec (j < done)
+        → answer_of (get_or (put_mid (at + done) (length block) words xs) (at + j) 0) ≡ whole_log (get_or values j nan)
+    there j h (yes l) =
+        let old : get_or (put_mid (at + done) (length block) words xs) (at + j) 0 ≡ get_or words (at + j) 0 = search (rules, places) in
+        ap answer_of old ∙ w.there j l
+    there j h (no l) =
+        let new : get_or (put_mid (at + done) (length block) words xs) (at + j) 0 ≡ get_or xs (j - done) 0 = search (rules, places) in
+        let place : done + (j - done) ≡ j = omega arith in
+        let value : get_or block (j - done) nan ≡ get_or values j nan =
+        sym (get_or-append block rest nan (j - done) (omega arith)) ∙ ap (λ (t : List Float). get_or t (j - done) nan) (sym e)
+        ∙ get_or-drop done values (j - done) nan ∙ ap (λ (k : ℕ). get_or values k nan) place in
+        ap answer_of new ∙ a (j - done) (omega arith) ∙ ap whole_log value
+
+-- some values have their words, up to `place`, and the others are `rest`
+pub record Going (values : List Float) (at place : ℕ) (rest : List Float) (before words : List ℕ) : Type 0 where
+  pub done : ℕ
+  pub here : place ≡ at + done
+  pub left : drop done values ≡ rest
+  pub within : done + length rest ≡ length values
+  pub words_so_far : Words values at done before words
+
+pub going_start : (values : List Float) (at : ℕ) (words : List ℕ) → Going values at at values words words
+going_start values at words = record {
+  done = 0;
+  here = omega arith;
+  left = refl;
+  within = omega arith;
+  words_so_far = record { same = refl; there = λ j l. absurd (let z : ⊥ = omega arith in z); kept = λ j l. refl };
+}
+
+pub going_within : (values : List Float) (at place : ℕ) (rest later block : List Float) (before words : List ℕ)
+    → Going values at place rest before words → rest ≡ block ++ later → place + length block ≤ at + length values
+going_within values at place rest later block before words g e =
+    let count : length rest ≡ length block + length later = rw e (length-append block later) in
+    omega (arith, g.here, g.within)
+
+pub going_on : (values : List Float) (at place : ℕ) (rest later block : List Float) (before words xs : List ℕ)
+    → Going values at place rest before words → rest ≡ block ++ later → Answered block xs → length xs ≡ length block
+    → at + length values ≤ length words
+    → Going values at (place + length block) later before (put_mid place (place + length block - place) words xs)
+going_on values at place rest later block before words xs g e a n fits =
+    let count : length rest ≡ length block + length later = rw e (length-append block later) in
+    let size : place + length block - place ≡ length block = omega arith in
+    record {
+      done = g.done + length block;
+      here = omega (arith, g.here);
+      left = sym (drop-drop (length block) g.done values) ∙ ap (drop (length block)) (g.left ∙ e) ∙ drop_at block later (length block) refl;
+      within = omega (arith, g.within);
+      words_so_far = rw (size, g.here) (block_written values at g.done before words block later xs g.words_so_far (g.left ∙ e) a n
+          (omega (arith, g.within)));
+    }
+
+pub going_end : (values : List Float) (at place : ℕ) (rest : List Float) (before words : List ℕ) → Going values at place rest before words
+    → length rest ≡ 0 → Words values at (length values) before words
+going_end values at place rest before words g e =
+    let all : g.done ≡ length values = omega (arith, g.within) in
+    rw (← all) g.words_so_far
 
 -- ---- what a word stands for
-pub word_is : (w : ℕ) → w < no_log → answer_of w ≡ Is (from_units w)
+pub word_is : (w : ℕ) → w < no_log → answer_of w ≡ Ok (from_units w)
 unfolding answer_of
 word_is w h = rw (same_test (ltb w no_log) true (λ t. tt) (λ t. lt→ltb w no_log h)) refl
 
-pub no_word : (w : ℕ) → no_log ≤ w → answer_of w ≡ Refused value_not_finite
+pub no_word : (w : ℕ) → no_log ≤ w → answer_of w ≡ Err value_not_finite
 unfolding answer_of
 no_word w h = rw (same_test (ltb w no_log) false (λ t. let z : ⊥ = omega (arith, ltb→lt w no_log t) in z) (λ t. absurd t)) refl
 
 -- a lane that starts with the digits of a logarithm, and one that starts with none
-pub lane_word : (m e : ℕ) → 2 ^ 31 ≤ m → m < 2 ^ 32 → e < 2098 → answer_of (log_from 16 m e) ≡ Is (from_units (log_from 16 m e))
+pub lane_word : (m e : ℕ) → 2 ^ 31 ≤ m → m < 2 ^ 32 → e < 2098 → answer_of (log_from 16 m e) ≡ Ok (from_units (log_from 16 m e))
 lane_word m e lo hi h = word_is (log_from 16 m e) (omega (arith, log_range 16 m e lo hi))
 
-pub none_word : answer_of (log_from 16 (2 ^ 31) 2098) ≡ Refused value_not_finite
+pub none_word : answer_of (log_from 16 (2 ^ 31) 2098) ≡ Err value_not_finite
 unfolding answer_of log_from
 none_word = refl

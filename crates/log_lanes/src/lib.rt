@@ -2,16 +2,12 @@
 // so that the compiler takes several lanes in one instruction.
 #![tactic(auto)]
 
-ghost use Rattle.std.specs.Prelude.{◌≡◌, List, ℕ, ◌+◌, ◌*◌, ◌-◌, ◌^◌, ◌≤◌, ◌<◌, Float, length, get_or};
-ghost use Rattle.std.specs.Float.{nan};
+ghost use Rattle.std.specs.Prelude.{◌≡◌, ◌+◌, ◌*◌, ◌^◌, ◌≤◌, ◌<◌, length, get_or};
 ghost use Rattle.whole_log.specs.Log.{digit_of, squared, log_from, whole_log, double_of};
-ghost use Rattle.log_lanes.specs.inner.Lanes.{Ready, Wide, Every, Block, answer_of, Words};
+ghost use Rattle.log_lanes.specs.inner.Lanes.{Ready, Wide, Every, Loaded, Answered, answer_of, Words};
 
 // How many lanes there are.
 const LANES: usize = 16;
-
-// How many binary digits of a logarithm stand behind the point.
-const DIGITS: u32 = 16;
 
 // The word of a value that has no logarithm: words of logarithms are below it.
 const NO_LOG: u32 = 137494528;
@@ -71,7 +67,7 @@ fn all_digits(leading: &mut [u32], known: &mut [u32])
         let e = known.old in
         Every (λ j m' e'. e' ≡ log_from 16 (get_or m j 0) (get_or e j 0)) leading.new known.new }
 {
-    for _ in 0..DIGITS {
+    for _ in 0..whole_log::DIGITS {
         next_digits(leading, known);
     }
 }
@@ -96,55 +92,30 @@ fn lane_of(x: f64) -> Lane
     }
 }
 
-// The values from `from` up to `to` start in the lanes, the first in lane 0.
-fn load(values: &[f64], from: usize, to: usize, leading: &mut [u32], known: &mut [u32])
-    requires block { Block (length values.now) from to × Wide leading.old known.old }
+// The values start in the lanes, the first in lane 0.
+fn load(values: &[f64], leading: &mut [u32], known: &mut [u32])
+    requires wide { (length values.now ≤ 16) × Wide leading.old known.old }
     requires every { Every (λ j m e. Ready m e) leading.old known.old }
-    ensures { let v = values.now in
-        Every (λ j m e. Ready m e × (j < to - from → answer_of (log_from 16 m e) ≡ whole_log (get_or v (from + j) nan)))
-        leading.new known.new }
+    ensures { Every (Loaded values.now (length values.now)) leading.new known.new }
 {
-    for i in from..to {
-        let lane = lane_of(values[i]);
-        leading[i - from] = lane.leading;
-        known[i - from] = lane.known;
+    for (i, value) in values.iter().enumerate() {
+        let lane = lane_of(*value);
+        leading[i] = lane.leading;
+        known[i] = lane.known;
     }
 }
 
-// What is known in the lanes becomes the words of the values from `from` up to `to`: value i has its word at `at` + i.
-fn store(from: usize, to: usize, known: &[u32], at: usize, words: &mut [u32])
-    requires { Block (length words.old - at) from to × (at ≤ length words.old) × (length known.now ≡ 16) }
-    ensures { (values : List Float) (before : List ℕ)
-        → ((j : ℕ) → j < to - from → answer_of (get_or known.now j 0) ≡ whole_log (get_or values (from + j) nan))
-        → Words values at from before words.old → Words values at to before words.new }
-{
-    for i in from..to {
-        words[at + i] = known[i - from];
-    }
-}
-
-// The words of the values from `from` up to `to`, at most one in each lane.
-fn log_block(values: &[f64], from: usize, to: usize, at: usize, words: &mut [u32])
-    requires { Block (length values.now) from to × (at + length values.now ≤ length words.old) }
-    ensures { (before : List ℕ) → Words values.now at from before words.old
-        → Words values.now at to before words.new }
+// The words of a block of values, at most one for each lane. The two parts of a lane stand in arrays of their own, so
+// that the compiler takes several lanes in one instruction.
+fn log_block(values: &[f64], words: &mut [u32])
+    requires { (length values.now ≤ 16) × (length words.old ≡ length values.now) }
+    ensures { Answered values.now words.new }
 {
     let mut leading = [0x8000_0000u32; LANES];
     let mut known = [0u32; LANES];
-    load(values, from, to, &mut leading, &mut known);
+    load(values, &mut leading, &mut known);
     all_digits(&mut leading, &mut known);
-    store(from, to, &known, at, words);
-}
-
-// Where the block of values from `from` on ends.
-fn block_end(from: usize, count: usize) -> usize
-    requires { from < count }
-    ensures { (from < result) × Block count from result }
-{
-    if count - from < LANES {
-        return count;
-    }
-    from + LANES
+    words.copy_from_slice(&known[..values.len()]);
 }
 
 // The words of the values, from `at` on.
@@ -152,11 +123,11 @@ pub fn log_words(values: &[f64], at: usize, words: &mut [u32])
     requires { at + length values.now ≤ length words.old }
     ensures { Words values.now at (length values.now) words.old words.new }
 {
-    let mut from = 0;
-    while from < values.len() {
-        let to = block_end(from, values.len());
-        log_block(values, from, to, at, words);
-        from = to;
+    let mut place = at;
+    for block in values.chunks(LANES) {
+        let end = place + block.len();
+        log_block(block, &mut words[place..end]);
+        place = end;
     }
 }
 

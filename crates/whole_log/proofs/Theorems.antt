@@ -237,7 +237,7 @@ pub promised : (x : Float) {r : Result ℤ ℕ} → T (fits binary64 x) → r �
   log : r ≡ whole_log x;
   fault : fault_of r ≡ log_fault x;
   bounds : Answer x r;
-  number : OneOf log_numbers (fault_of r)
+  number : OneOf log_numbers (fault_of r);
 }
 promised x t e = record {
   log = e;

@@ -15,7 +15,7 @@ ghost use Rattle.whole_log.specs.Stored.{Promises};
 use refusal::Refusal;
 
 // How many binary digits of a logarithm stand behind the point.
-const DIGITS: u32 = 16;
+pub const DIGITS: u32 = 16;
 
 // The logarithm of the magnitude of x; zeros, NaNs and infinities are refused.
 pub fn whole_log(x: f64) -> Result<i32, Refusal>

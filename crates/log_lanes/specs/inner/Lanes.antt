@@ -2,7 +2,7 @@
 use Rattle.std.specs.Prelude.{◌≡◌, List, cond, ℕ, ◌+◌, ◌*◌, ◌^◌, ◌≤◌, ◌<◌, ltb, Result, Ok, Err, ℤ, Float, length, get_or}
 use Rattle.std.specs.Float.{nan}
 use Rattle.refusal.specs.Refusal.{value_not_finite}
-use Rattle.whole_log.specs.Log.{from_units, whole_log}
+use Rattle.whole_log.specs.Log.{log_from, from_units, whole_log}
 
 -- ---- words
 
@@ -13,6 +13,10 @@ no_log = 2098 * 65536
 -- what a word stands for: the logarithm whose size in units of 2 ^ -1074 it is, or none
 unfoldable pub answer_of : ℕ → Result ℤ ℕ
 answer_of word = cond (ltb word no_log) (Ok (from_units word)) (Err value_not_finite)
+
+-- word j is that of value j
+abbrev pub Answered : List Float → List ℕ → Type 0
+Answered values words = (j : ℕ) → j < length values → answer_of (get_or words j 0) ≡ whole_log (get_or values j nan)
 
 -- from `at` on stand the words of the first `count` values, and before it what stood there
 pub record Words (values : List Float) (at count : ℕ) (before words : List ℕ) : Type 0 where
@@ -37,8 +41,7 @@ pub record Wide (leading known : List ℕ) : Type 0 where
 abbrev pub Every : (ℕ → ℕ → ℕ → Type 0) → List ℕ → List ℕ → Type 0
 Every P leading known = (j : ℕ) → j < 16 → P j (get_or leading j 0) (get_or known j 0)
 
--- places from `from` up to `to` of `count`, at most one for each lane
-pub record Block (count from to : ℕ) : Type 0 where
-  pub up : from ≤ to
-  pub within : to ≤ count
-  pub lanes : to ≤ from + 16
+-- what a lane holds before its digits are found: if it is one of the first `count`, its value's logarithm begins there
+abbrev pub Loaded : List Float → ℕ → ℕ → ℕ → ℕ → Type 0
+Loaded values count j leading known = Ready leading known
+    × (j < count → answer_of (log_from 16 leading known) ≡ whole_log (get_or values j nan))
