@@ -2,6 +2,7 @@
 -- refuses nothing.
 use mathlib.Core.Path.{◌≡◌, refl, sym, ap, ◌∙◌, subst}
 use mathlib.Core.Bool.{Bool, true}
+use Rattle.std.proofs.Common.{Result, Ok, Err}
 use Prim.Native.Nat.{ℕ, ◌+◌, ◌*◌}
 use borrow.Author.Tests.{eq-eqb}
 use lib.ListN.{length, replicate}
@@ -17,8 +18,6 @@ use Rattle.hungarian.specs.Test.{graph_fault, graph_lengths}
 use Rattle.hungarian.specs.Accepted.{Accepted}
 use Rattle.hungarian.specs.Match.{hungarian_match}
 use Rattle.hungarian.specs.declared.Counts.{Counts}
-use Rattle.hungarian_match.specs.declared.Answer.{Answer}
-use Rattle.hungarian_match.specs.declared.Answer.TheVariants.{Matched, Refused}
 use Rattle.hungarian_match.specs.Call.{Slices, slices, match_outcome, match_lengths, finished, match_counts}
 use Rattle.hungarian_match.specs.inner.Steps.{Solvable, Solved}
 use Rattle.hungarian_match.proofs.Calls.{accepted_lengths}
@@ -45,23 +44,23 @@ module _ (g : CostGraph) (A : Accepted g) where
     pub lengths : Solvable g s
     lengths = accepted_lengths g s (rw l no_fault)
 
-    module _ {after : Slices} {a : Answer} (e : outcome_is a after ≡ match_outcome g s) where
+    module _ {after : Slices} {a : Result Counts ℕ} (e : outcome_is a after ≡ match_outcome g s) where
       ends : outcome_is a after ≡ finished g s
       unfolding match_outcome
       ends = e ∙ rw (l, no_fault) refl
 
-      pub never_refused : {k : ℕ} → a ≡ Refused k → ⊥
+      pub never_refused : {k : ℕ} → a ≡ Err k → ⊥
       unfolding finished
-      never_refused q = not_matched (sym q ∙ ap (λ (o : Outcome Answer Slices). o.answer) ends)
+      never_refused q = not_matched (sym q ∙ ap (λ (o : Outcome (Result Counts ℕ) Slices). o.answer) ends)
 
-      pub found_is : {m : Counts} → a ≡ Matched m → m ≡ match_counts (hungarian_match g)
+      pub found_is : {m : Counts} → a ≡ Ok m → m ≡ match_counts (hungarian_match g)
       unfolding finished
-      found_is q = same (sym q ∙ ap (λ (o : Outcome Answer Slices). o.answer) ends)
+      found_is q = same (sym q ∙ ap (λ (o : Outcome (Result Counts ℕ) Slices). o.answer) ends)
 
       pub slices_are : after
           ≡ slices (hungarian_match g).perm (hungarian_match g).u (hungarian_match g).v (replicate (length s.work) 0) (replicate (length s.fwork) fzero)
       unfolding finished
-      slices_are = ap (λ (o : Outcome Answer Slices). o.after) ends
+      slices_are = ap (λ (o : Outcome (Result Counts ℕ) Slices). o.after) ends
 
 -- ---- without the test
 pub solved_found : {g : CostGraph} {before after : Slices} {m : Counts} → Solved g before after m → m ≡ match_counts (hungarian_match g)

@@ -2,12 +2,12 @@
 use mathlib.Core.Path.{◌≡◌, refl, sym, ap, ◌∙◌, subst}
 use mathlib.Core.Logic.{◌≢◌}
 use mathlib.Core.Bool.{Bool, true}
-use mathlib.Core.List.{List, [], ◌∷◌}
+use Rattle.std.proofs.Common.{Result, Ok, Err}
 use Prim.Native.Nat.{ℕ, ◌+◌}
 use native.Mathlib.Omega.{arith}
 use borrow.Author.Tests.{eqb-true}
 use lib.Dec.{eqb}
-use lib.ListN.{length, set}
+use lib.ListN.{length}
 use Rattle.refusal.specs.Listed.{OneOf, graph_numbers}
 use Rattle.slices.specs.Outcome.{outcome_is}
 use Rattle.slices.proofs.Bools.{both}
@@ -20,7 +20,6 @@ use Rattle.hungarian.specs.Optimal.{LargestMatch, Optimal}
 use Rattle.hungarian.specs.Work.{Work}
 use Rattle.hungarian.proofs.Theorems.{match_largest, match_optimal, match_work}
 use Rattle.hungarian.specs.declared.Counts.{Counts}
-use Rattle.hungarian_match.specs.declared.Answer.TheVariants.{Matched, Refused}
 use Rattle.hungarian_match.specs.Call.{Slices, match_lengths, match_fault, match_outcome, finished, match_after}
 use Rattle.hungarian_match.specs.Call.{Answered, Matches}
 use Rattle.hungarian_match.specs.inner.Steps.{Solved}
@@ -43,55 +42,40 @@ in_list g s e = subst (OneOf graph_numbers) (sym e) (match_listed g (match_lengt
 
 -- ---- a refusal
 module _ (g : CostGraph) (s : Slices) {fault : ℕ} (e : fault ≡ graph_fault g (match_lengths g s)) (z : fault ≢ 0) where
-  pub refuses : outcome_is (Refused fault) s ≡ match_outcome g s
+  pub refuses : outcome_is (Err fault) s ≡ match_outcome g s
   unfolding match_outcome
-  refuses = refused_is Refused (finished g s) s e z
+  refuses = refused_is Err (finished g s) s e z
 
-  pub refuses_by : Answered g s (Refused fault)
+  pub refuses_by : Answered g s (Err fault)
   refuses_by = record { number = e; values = λ n. absurd (z n) }
 
 -- a refusal is no match
-pub not_matched : {fault : ℕ} {m : Counts} → Refused fault ≡ Matched m → ⊥
+pub not_matched : {fault : ℕ} {m : Counts} → ◌≡◌ {A = Result Counts ℕ} (Err fault) (Ok m) → ⊥
 not_matched e = let z : ◌≡◌ {A = ℕ} 0 1 = cc in omega arith
 
 -- ---- an accepted call
-pub same : {m m' : Counts} → Matched m ≡ Matched m' → m ≡ m'
+pub same : {m m' : Counts} → ◌≡◌ {A = Result Counts ℕ} (Ok m) (Ok m') → m ≡ m'
 same q = cc
 
 module _ (g : CostGraph) (s : Slices) (e : graph_fault g (match_lengths g s) ≡ 0) (d : Doubles g) where
   module _ {after : Slices} {m : Counts} (S : Solved g s after m) where
-    pub finishes : outcome_is (Matched m) after ≡ match_outcome g s
+    pub finishes : outcome_is (Ok m) after ≡ match_outcome g s
     unfolding match_outcome finished
     finishes = rw (S.perm, S.u, S.v, S.work, S.fwork, S.matched, S.stats, e) refl
 
-    pub answered : Answered g s (Matched m)
+    pub answered : Answered g s (Ok m)
     answered = record { number = sym e; values = λ n old. rw (S.matched, S.stats) refl }
 
     -- what is left is the definition's match
     leaves : match_after m after ≡ hungarian_match g
     leaves = rw (S.perm, S.u, S.v, S.matched, S.stats) refl
 
-    pub matches : Matches g (Matched m) after
+    pub matches : Matches g (Ok m) after
     matches m' q = subst (λ (x : Counts). LargestMatch g.pattern (match_after x after)) (same q)
         (rw leaves (match_largest g (accepted_lengths g s e).accepted d))
 
-    pub promised : Promised g (Matched m) after
+    pub promised : Promised g (Ok m) after
     promised m' q w = subst (λ (x : Counts). Optimal g (match_after x after)) (same q) (rw leaves (match_optimal g (accepted_lengths g s e).accepted w))
 
-    pub counted : Counted g (Matched m)
+    pub counted : Counted g (Ok m)
     counted m' q = subst (λ (x : Counts). Work g x.stats) (same q) (rw S.stats (match_work g (accepted_lengths g s e).accepted d))
-
--- ---- the counts as a list
--- eight places, written one after the other
-pub eight_set : (l : List ℕ) (a b c d e f p q : ℕ) → length l ≡ 8 → set (set (set (set (set (set (set (set l 0 a) 1 b) 2 c) 3 d) 4 e) 5 f) 6 p) 7 q ≡ a
-    ∷ b ∷ c ∷ d ∷ e ∷ f ∷ p ∷ q ∷ []
-eight_set (x0 ∷ x1 ∷ x2 ∷ x3 ∷ x4 ∷ x5 ∷ x6 ∷ x7 ∷ []) a b c d e f p q h = refl
-eight_set [] a b c d e f p q h = absurd (omega arith)
-eight_set (x0 ∷ []) a b c d e f p q h = absurd (omega arith)
-eight_set (x0 ∷ x1 ∷ []) a b c d e f p q h = absurd (omega arith)
-eight_set (x0 ∷ x1 ∷ x2 ∷ []) a b c d e f p q h = absurd (omega arith)
-eight_set (x0 ∷ x1 ∷ x2 ∷ x3 ∷ []) a b c d e f p q h = absurd (omega arith)
-eight_set (x0 ∷ x1 ∷ x2 ∷ x3 ∷ x4 ∷ []) a b c d e f p q h = absurd (omega arith)
-eight_set (x0 ∷ x1 ∷ x2 ∷ x3 ∷ x4 ∷ x5 ∷ []) a b c d e f p q h = absurd (omega arith)
-eight_set (x0 ∷ x1 ∷ x2 ∷ x3 ∷ x4 ∷ x5 ∷ x6 ∷ []) a b c d e f p q h = absurd (omega arith)
-eight_set (x0 ∷ x1 ∷ x2 ∷ x3 ∷ x4 ∷ x5 ∷ x6 ∷ x7 ∷ x8 ∷ l) a b c d e f p q h = absurd (omega arith)
