@@ -1,5 +1,6 @@
 -- Canonical files: the other reader takes them, the writer makes them, and writing what was read gives the file again. By induction on the records,
 -- with the patches below `next` done.
+use Rattle.std.proofs.Common.{Option, Some, None}
 use mathlib.Core.Path.{◌≡◌, refl, sym, ap, ap₂, ◌∙◌}
 use mathlib.Core.Logic.{◌≢◌}
 use mathlib.Core.Bool.{true}
@@ -19,8 +20,6 @@ use Rattle.sparse.proofs.First.{or-none, or-zero, unless_holds}
 use Rattle.matching.specs.Match.{Match}
 use Rattle.byte_numbers.specs.Bytes.{bytes_of, number_at}
 use Rattle.sheet.specs.declared.Record.{Record}
-use Rattle.sheet.specs.declared.Found.{Found}
-use Rattle.sheet.specs.declared.Found.TheVariants.{Is, Cut}
 use Rattle.sheet.specs.Format.{row_bit, u_bit, v_bit, cmax_bit, u_at, v_at, cmax_at, record_size, field_at, record_with, first_record, part, record_bytes}
 use Rattle.sheet.specs.Format.{bits_of, sheet_bytes, row_or_none}
 use Rattle.sheet.specs.Reading.{records_of, index_fault, repeat_fault, records_fault, blank, store, stored, no_marks, order_of, head_fault, body_fault}
@@ -43,8 +42,8 @@ pub record Passes (n next : ℕ) (r : Record) : Type 0 where
 not_forty : (x : ℕ) → suc x ≡ 0 → ⊥
 not_forty x e = omega arith
 
-module _ (n next : ℕ) (r : Record) (rest : List Found) where
-  pub step : canonical_fault n next (Is r ∷ rest) ≡ 0 → Passes n next r × (canonical_fault n (suc r.patch) rest ≡ 0)
+module _ (n next : ℕ) (r : Record) (rest : List (Option Record)) where
+  pub step : canonical_fault n next (Some r ∷ rest) ≡ 0 → Passes n next r × (canonical_fault n (suc r.patch) rest ≡ 0)
   unfolding canonical_fault index_fault needless_fault rising_fault
   step e =
       let a = or-zero (index_fault n r) _ e in
@@ -69,12 +68,12 @@ unfolding index_fault
 index_none n r p = rw (lt-ltb r.bits 16 p.known, lt-ltb r.patch n p.below, p.row) refl
 
 -- ---- what is canonical, the reader of any order takes
-opened : (n next : ℕ) (marks : List ℕ) (found : List Found) → ((j : ℕ) → next ≤ j → get_or marks j 0 ≡ 0) → canonical_fault n next found ≡ 0
+opened : (n next : ℕ) (marks : List ℕ) (found : List (Option Record)) → ((j : ℕ) → next ≤ j → get_or marks j 0 ≡ 0) → canonical_fault n next found ≡ 0
     → records_fault n marks found ≡ 0
 unfolding canonical_fault records_fault repeat_fault
 opened n next marks [] fresh e = refl
-opened n next marks (Cut ∷ rest) fresh e = e
-opened n next marks (Is r ∷ rest) fresh e =
+opened n next marks (None ∷ rest) fresh e = e
+opened n next marks (Some r ∷ rest) fresh e =
     let s = step n next r rest e in
     rw (index_none n r s.0, fresh r.patch s.0.rises)
     (opened n (suc r.patch) (set marks r.patch 1) rest
@@ -172,7 +171,7 @@ module _ (l : List ℕ) (b : ℕ) (m : b ≡ get_or l 2 0) (h : record_size b �
       (take (8 * cmax_bit b) (drop (cmax_at b) l))
       ))
 
-pub record_whole : (l : List ℕ) (r : Record) → first_record l ≡ Is r → Bytes l → record_bytes r ++ drop (record_size r.bits) l ≡ l
+pub record_whole : (l : List ℕ) (r : Record) → first_record l ≡ Some r → Bytes l → record_bytes r ++ drop (record_size r.bits) l ≡ l
 record_whole l r e k =
     let f = first_found l r e in
     let b = first_map l r e in
@@ -181,11 +180,11 @@ record_whole l r e k =
     ∙ take-append-drop (record_size (get_or l 2 0)) l
 
 -- ---- what later records leave
-kept_below : (n next : ℕ) (found : List Found) (l : Match ℕ) (j : ℕ) → canonical_fault n next found ≡ 0 → j < next → record_at j (stored found l) ≡ record_at j l
+kept_below : (n next : ℕ) (found : List (Option Record)) (l : Match ℕ) (j : ℕ) → canonical_fault n next found ≡ 0 → j < next → record_at j (stored found l) ≡ record_at j l
 unfolding stored canonical_fault
 kept_below n next [] l j e h = refl
-kept_below n next (Cut ∷ rest) l j e h = refl
-kept_below n next (Is r ∷ rest) l j e h =
+kept_below n next (None ∷ rest) l j e h = refl
+kept_below n next (Some r ∷ rest) l j e h =
     let s = step n next r rest e in
     let d : j ≢ r.patch = (λ q. let z : ⊥ = omega (arith, s.0.rises) in absurd z) in
     kept_below n (suc r.patch) rest (store r l) j s.1 (omega (arith, s.0.rises))
@@ -254,7 +253,7 @@ store_other l r k d =
 
 -- ---- writing what was read gives the bytes again
 -- a record in front of bytes that are written again
-module _ (n next : ℕ) (l : Match ℕ) (r : Record) (found : List Found) (rest : List ℕ) (p : Passes n next r) (z : r.size ≡ record_size r.bits)
+module _ (n next : ℕ) (l : Match ℕ) (r : Record) (found : List (Option Record)) (rest : List ℕ) (p : Passes n next r) (z : r.size ≡ record_size r.bits)
     (g : Long n l) (s : Silent n next l)
     (e : canonical_fault n (suc r.patch) found ≡ 0) where
   abbrev at : ℕ
@@ -287,7 +286,7 @@ module _ (n next : ℕ) (l : Match ℕ) (r : Record) (found : List Found) (rest 
       ∙ ap₂ (λ (x : List ℕ) (k : ℕ). x ++ records_from (suc (n - suc at)) k m) none_before here
       ∙ ap₂ (λ (x y : List ℕ). x ++ y) (patch_said at m bits ∙ ap record_bytes there) ih
 
-cut_fault : (n next : ℕ) → canonical_fault n next (Cut ∷ []) ≡ sheet_cut
+cut_fault : (n next : ℕ) → canonical_fault n next (None ∷ []) ≡ sheet_cut
 unfolding canonical_fault
 cut_fault n next = refl
 
@@ -302,18 +301,18 @@ again n (suc fuel) next (byte ∷ bytes) l h b e o g s = go (λ k rest x a c d f
   where
     go : ((k : ℕ) (rest : List ℕ) (x : Match ℕ) → length rest ≤ fuel → Bytes rest → canonical_fault n k (records_of rest) ≡ 0 → k ≤ n → Long n x
         → Silent n k x → records_from (n - k) k (stored (records_of rest) x) ≡ rest)
-        → (found : Found) → first_record (byte ∷ bytes) ≡ found → records_from (n - next) next (stored (records_of (byte ∷ bytes)) l) ≡ byte ∷ bytes
-    go ih Cut f = let z : sheet_cut ≡ 0 = sym (cut_fault n next) ∙ ap (canonical_fault n next) (sym (records_cut (byte ∷ bytes) (omega arith) f)) ∙ e in
+        → (found : Option Record) → first_record (byte ∷ bytes) ≡ found → records_from (n - next) next (stored (records_of (byte ∷ bytes)) l) ≡ byte ∷ bytes
+    go ih None f = let z : sheet_cut ≡ 0 = sym (cut_fault n next) ∙ ap (canonical_fault n next) (sym (records_cut (byte ∷ bytes) (omega arith) f)) ∙ e in
         let q : ⊥ = omega arith in absurd q
-    go ih (Is r) f =
+    go ih (Some r) f =
         let rest = drop (record_size r.bits) (byte ∷ bytes) in
-        let is : records_of (byte ∷ bytes) ≡ Is r ∷ records_of rest = records_is (byte ∷ bytes) r (omega arith) f in
+        let is : records_of (byte ∷ bytes) ≡ Some r ∷ records_of rest = records_is (byte ∷ bytes) r (omega arith) f in
         let says = first_says (byte ∷ bytes) r f in
         let t = step n next r (records_of rest) (sym (ap (canonical_fault n next) is) ∙ e) in
         let short : length rest ≤ fuel = rw (length-drop (record_size r.bits) (byte ∷ bytes)) (omega (arith, size_least r.bits)) in
         let w = ih (suc r.patch) rest (store r l) short (bytes_behind (byte ∷ bytes) (record_size r.bits) b) t.1 (omega (arith, t.0.below))
         (store_long r g) (behind_it n next l r (records_of rest) rest t.0 says g s t.1) in
-        ap (λ (x : List Found). records_from (n - next) next (stored x l)) is
+        ap (λ (x : List (Option Record)). records_from (n - next) next (stored x l)) is
         ∙ one_more_record n next l r (records_of rest) rest t.0 says g s t.1 w
         ∙ record_whole (byte ∷ bytes) r f b
 

@@ -1,5 +1,6 @@
 -- The records of bytes, one after the other, and a record's bytes read back. By induction on the bytes that are left; each field is where the
 -- parts before it end.
+use Rattle.std.proofs.Common.{Option, Some, None}
 use mathlib.Core.Path.{◌≡◌, refl, sym, ap, ap₂, ◌∙◌}
 use mathlib.Core.Bool.{Bool, true, false, cond}
 use mathlib.Core.List.{List, [], ◌∷◌, ◌++◌, append_assoc}
@@ -14,22 +15,20 @@ use Rattle.limits.specs.Limits.{none}
 use Rattle.byte_numbers.specs.Bytes.{bytes_of, number_at}
 use Rattle.byte_numbers.proofs.ReadBack.{number_back}
 use Rattle.sheet.specs.declared.Record.{Record}
-use Rattle.sheet.specs.declared.Found.{Found}
-use Rattle.sheet.specs.declared.Found.TheVariants.{Is, Cut}
 use Rattle.sheet.specs.Format.{row_bit, u_bit, v_bit, cmax_bit, u_at, v_at, cmax_at, record_size, field_at, record_with, first_record, part, record_bytes}
 use Rattle.sheet.specs.Reading.{follow, behind, records, records_of}
 use Rattle.sheet.proofs.Fields.{first-is}
 use Rattle.sheet.proofs.Lengths.{part_length, record_length, size_least}
 
 -- ---- more fuel than bytes makes no difference
-same_follow : (f g : ℕ) (found : Found) (byte : ℕ) (bytes : List ℕ) → length bytes ≤ f → length bytes ≤ g
+same_follow : (f g : ℕ) (found : Option Record) (byte : ℕ) (bytes : List ℕ) → length bytes ≤ f → length bytes ≤ g
     → ((rest : List ℕ) → length rest ≤ f → length rest ≤ g → records f rest ≡ records g rest)
     → follow found (records f (behind found (byte ∷ bytes))) ≡ follow found (records g (behind found (byte ∷ bytes)))
-same_follow f g (Is r) byte bytes h k ih =
+same_follow f g (Some r) byte bytes h k ih =
     let rest = drop (record_size r.bits) (byte ∷ bytes) in
     let s : length rest ≤ length bytes = rw (length-drop (record_size r.bits) (byte ∷ bytes)) (omega (arith, size_least r.bits)) in
-    ap (λ (l : List Found). Is r ∷ l) (ih rest (omega arith) (omega arith))
-same_follow f g Cut byte bytes h k ih = refl
+    ap (λ (l : List (Option Record)). Some r ∷ l) (ih rest (omega arith) (omega arith))
+same_follow f g None byte bytes h k ih = refl
 
 enough : (f g : ℕ) (bytes : List ℕ) → length bytes ≤ f → length bytes ≤ g → records f bytes ≡ records g bytes
 unfolding records
@@ -43,20 +42,20 @@ enough (suc f) (suc g) (byte ∷ bytes) h k =
     same_follow f g (first_record (byte ∷ bytes)) byte bytes (le_of_suc-le-suc h) (le_of_suc-le-suc k) (λ rest a b. enough f g rest a b)
 
 -- ---- the first record and those behind it
-pub records_is : (bytes : List ℕ) (r : Record) → 0 < length bytes → first_record bytes ≡ Is r → records_of bytes ≡ Is r ∷ records_of
+pub records_is : (bytes : List ℕ) (r : Record) → 0 < length bytes → first_record bytes ≡ Some r → records_of bytes ≡ Some r ∷ records_of
     (drop (record_size r.bits) bytes)
 unfolding records_of records
 records_is [] r h e = absurd (not-suc-le-zero h)
 records_is (byte ∷ bytes) r h e =
     let rest = drop (record_size r.bits) (byte ∷ bytes) in
     let s : length rest ≤ length bytes = rw (length-drop (record_size r.bits) (byte ∷ bytes)) (omega (arith, size_least r.bits)) in
-    ap (λ (found : Found). follow found (records (length bytes) (behind found (byte ∷ bytes)))) e
-    ∙ ap (λ (l : List Found). Is r ∷ l) (enough (length bytes) (length rest) rest s (omega arith))
+    ap (λ (found : Option Record). follow found (records (length bytes) (behind found (byte ∷ bytes)))) e
+    ∙ ap (λ (l : List (Option Record)). Some r ∷ l) (enough (length bytes) (length rest) rest s (omega arith))
 
-pub records_cut : (bytes : List ℕ) → 0 < length bytes → first_record bytes ≡ Cut → records_of bytes ≡ Cut ∷ []
+pub records_cut : (bytes : List ℕ) → 0 < length bytes → first_record bytes ≡ None → records_of bytes ≡ None ∷ []
 unfolding records_of records
 records_cut [] h e = absurd (not-suc-le-zero h)
-records_cut (byte ∷ bytes) h e = ap (λ (found : Found). follow found (records (length bytes) (behind found (byte ∷ bytes)))) e
+records_cut (byte ∷ bytes) h e = ap (λ (found : Option Record). follow found (records (length bytes) (behind found (byte ∷ bytes)))) e
 
 pub records_end : (bytes : List ℕ) → length bytes ≡ 0 → records_of bytes ≡ []
 unfolding records_of records
@@ -156,22 +155,22 @@ module _ (r : Record) (rest : List ℕ) where
     ← p.size,
   ) refl
 
-  first_back : Proper r → first_record bytes ≡ Is r
+  first_back : Proper r → first_record bytes ≡ Some r
   first_back p =
       sym (first-is bytes (rw map_is long_enough))
-      ∙ ap (λ (x : ℕ). Is (record_with x bytes)) map_is ∙ ap Is (with_is p)
+      ∙ ap (λ (x : ℕ). Some (record_with x bytes)) map_is ∙ ap Some (with_is p)
 
-  pub record_back : Proper r → records_of bytes ≡ Is r ∷ records_of rest
+  pub record_back : Proper r → records_of bytes ≡ Some r ∷ records_of rest
   record_back p =
       records_is bytes r (omega (arith, long_enough, size_least b)) (first_back p)
-      ∙ ap (λ (x : List ℕ). Is r ∷ records_of x) record_behind
+      ∙ ap (λ (x : List ℕ). Some r ∷ records_of x) record_behind
 
 -- ---- a record that was found
-cond_is : (t : Bool) (found r : Record) → cond t (Is found) Cut ≡ Is r → (t ≡ true) × (found ≡ r)
+cond_is : (t : Bool) (found r : Record) → cond t (Some found) None ≡ Some r → (t ≡ true) × (found ≡ r)
 cond_is true found r e = (refl, cc)
 cond_is false found r e = let z : ◌≡◌ {A = ℕ} 0 1 = cc in absurd (let q : ⊥ = omega arith in q)
 
-pub first_found : (bytes : List ℕ) (r : Record) → first_record bytes ≡ Is r → (record_size (get_or bytes 2 0) ≤ length bytes)
+pub first_found : (bytes : List ℕ) (r : Record) → first_record bytes ≡ Some r → (record_size (get_or bytes 2 0) ≤ length bytes)
     × (record_with (get_or bytes 2 0) bytes ≡ r)
 unfolding first_record
 first_found bytes r e =
@@ -182,7 +181,7 @@ with_map : (bits : ℕ) (bytes : List ℕ) → (record_with bits bytes).bits ≡
 unfolding record_with
 with_map bits bytes = refl
 
-pub first_map : (bytes : List ℕ) (r : Record) → first_record bytes ≡ Is r → get_or bytes 2 0 ≡ r.bits
+pub first_map : (bytes : List ℕ) (r : Record) → first_record bytes ≡ Some r → get_or bytes 2 0 ≡ r.bits
 first_map bytes r e = sym (with_map (get_or bytes 2 0) bytes) ∙ ap (λ (x : Record). x.bits) (first_found bytes r e).1
 
 with_size : (bits : ℕ) (bytes : List ℕ) → (record_with bits bytes).size ≡ record_size bits
@@ -190,10 +189,10 @@ unfolding record_with
 with_size bits bytes = refl
 
 -- it says its length
-pub first_says : (bytes : List ℕ) (r : Record) → first_record bytes ≡ Is r → r.size ≡ record_size r.bits
+pub first_says : (bytes : List ℕ) (r : Record) → first_record bytes ≡ Some r → r.size ≡ record_size r.bits
 first_says bytes r e =
     sym (ap (λ (x : Record). x.size) (first_found bytes r e).1) ∙ with_size (get_or bytes 2 0) bytes ∙ ap record_size (first_map bytes r e)
 
 -- its bytes are all there
-pub first_size : (bytes : List ℕ) (r : Record) → first_record bytes ≡ Is r → record_size r.bits ≤ length bytes
+pub first_size : (bytes : List ℕ) (r : Record) → first_record bytes ≡ Some r → record_size r.bits ≤ length bytes
 first_size bytes r e = rw (first_map bytes r e) at (first_found bytes r e).0

@@ -1,5 +1,6 @@
 -- What was read from a file that is taken can be written: its rows and the bits of its numbers are in range. So an old sheet that is read and written
 -- again is canonical. By induction on the records.
+use Rattle.std.proofs.Common.{Option, Some, None}
 use mathlib.Core.Path.{◌≡◌, refl, sym, ap, ◌∙◌, subst}
 use mathlib.Core.Bool.{true}
 use mathlib.Core.List.{List, [], ◌∷◌}
@@ -18,8 +19,6 @@ use Rattle.sparse.proofs.First.{or-zero, unless_holds}
 use Rattle.matching.specs.Match.{Match}
 use Rattle.byte_numbers.specs.Bytes.{number_at}
 use Rattle.sheet.specs.declared.Record.{Record}
-use Rattle.sheet.specs.declared.Found.{Found}
-use Rattle.sheet.specs.declared.Found.TheVariants.{Is, Cut}
 use Rattle.sheet.specs.Format.{u_bit, v_bit, cmax_bit, u_at, v_at, cmax_at, record_size, field_at, record_with, first_record, row_or_none}
 use Rattle.sheet.specs.Reading.{records_of, index_fault, repeat_fault, records_fault, blank, store, stored, max_patches, no_marks, order_of, head_fault}
 use Rattle.sheet.specs.Reading.{body_fault, sheet_fault, sheet_match}
@@ -63,7 +62,7 @@ with_small bits l b = record {
   cmax = field_below (cmax_bit bits) l (cmax_at bits) b;
 }
 
-first_small : (l : List ℕ) (r : Record) → first_record l ≡ Is r → Bytes l → Small r
+first_small : (l : List ℕ) (r : Record) → first_record l ≡ Some r → Bytes l → Small r
 first_small l r e b = subst Small (first_found l r e).1 (with_small (get_or l 2 0) l b)
 
 -- its patch and its row are in range
@@ -115,7 +114,7 @@ blank_good n h =
     }
 
 -- ---- the records one after the other
-record_passed : (n : ℕ) (marks : List ℕ) (r : Record) (rest : List Found) → records_fault n marks (Is r ∷ rest) ≡ 0 → (index_fault n r ≡ 0)
+record_passed : (n : ℕ) (marks : List ℕ) (r : Record) (rest : List (Option Record)) → records_fault n marks (Some r ∷ rest) ≡ 0 → (index_fault n r ≡ 0)
     × (records_fault n (set marks r.patch 1) rest ≡ 0)
 unfolding records_fault
 record_passed n marks r rest e =
@@ -132,11 +131,11 @@ read_good n (suc fuel) marks (byte ∷ bytes) l h b e g = go (λ m rest x a c d 
   where
     go : ((m rest : List ℕ) (x : Match ℕ) → length rest ≤ fuel → Bytes rest → records_fault n m (records_of rest) ≡ 0 → Good n x
         → Good n (stored (records_of rest) x))
-        → (found : Found) → first_record (byte ∷ bytes) ≡ found → Good n (stored (records_of (byte ∷ bytes)) l)
-    go ih Cut f = rw (records_cut (byte ∷ bytes) (omega arith) f) g
-    go ih (Is r) f =
+        → (found : Option Record) → first_record (byte ∷ bytes) ≡ found → Good n (stored (records_of (byte ∷ bytes)) l)
+    go ih None f = rw (records_cut (byte ∷ bytes) (omega arith) f) g
+    go ih (Some r) f =
         let rest = drop (record_size r.bits) (byte ∷ bytes) in
-        let is : records_of (byte ∷ bytes) ≡ Is r ∷ records_of rest = records_is (byte ∷ bytes) r (omega arith) f in
+        let is : records_of (byte ∷ bytes) ≡ Some r ∷ records_of rest = records_is (byte ∷ bytes) r (omega arith) f in
         let s = record_passed n marks r (records_of rest) (sym (ap (records_fault n marks) is) ∙ e) in
         let short : length rest ≤ fuel = rw (length-drop (record_size r.bits) (byte ∷ bytes)) (omega (arith, size_least r.bits)) in
         rw is
