@@ -1,5 +1,4 @@
 -- Laws of numbers as bytes, and of the root in this form.
-pub mod Stores
 pub mod Words
 pub mod ReadBack
 pub mod Roots

@@ -1,20 +1,17 @@
 -- Numbers read from bytes and written as bytes, one after the other. A loop that reads has the list's first i numbers in front of what was there
 -- (`fill_more`), one that writes has their bytes there (`lay_more`). By induction, and by the laws of lists.
 use mathlib.Core.Path.{◌≡◌, refl, sym, ap, ap₂, ◌∙◌, subst}
-use mathlib.Core.Bool.{Bool, true, false, not, true≢false, false≢true}
 use mathlib.Core.List.{List, [], ◌∷◌, ◌++◌, map, map-id, append-nil, append_assoc}
-use Prim.Native.Nat.{ℕ, zero, suc, ◌+◌, ◌*◌, ◌%◌, ◌^◌, ◌≤◌, ◌<◌}
-use native.Mathlib.Nat.{not-suc-le-zero, le_of_suc-le-suc, le_of_lt, le_of_eq, add_comm, mul-suc, mul-zero, mul-le-mul_left}
+use Prim.Native.Nat.{ℕ, zero, suc, ◌+◌, ◌-◌, ◌*◌, ◌≤◌, ◌<◌}
+use native.Mathlib.Nat.{not-suc-le-zero, le_of_suc-le-suc, le_of_lt, le_of_eq, add_comm, mul-suc, mul-zero, mul-le-mul_left, div-div-eq-div-mul}
 use native.Mathlib.Numerals.{add-one, towards_suc}
 use native.Mathlib.Omega.{arith}
 use lib.ListN.{length, get_or, set, take, drop, length-append, drop_of_length-le, length-map, get_or-map}
 use lib.Seq.{sets, length-sets, sets-eq, take-suc, take-length, length-take-le, take_at, drop_at, drop-drop}
-use borrow.Author.Tests.{lt-ltb, le-ltb}
-use lib.Dec.{T}
-use lib.Ieee.{Float, nan, inf, fin, binary64, is_nan, ne, nan_bits, of_bits, to_bits}
-use lib.Ieee.Bits.{nan_bits_is, nan_bits_above}
-use Rattle.float64.specs.Constants.{quiet_nan}
-use Rattle.float64.proofs.Functions.{nan_is_quiet}
+use borrow.Rule.Slice.PartMut.{put_mid}
+use Rattle.std.specs.Int.{w32, w64, to_le_bytes, from_le_bytes}
+use Rattle.std.proofs.Common.{get_or-take, get_or-drop}
+use lib.Ieee.{Float, nan, binary64, of_bits, to_bits}
 use Rattle.byte_numbers.specs.Bytes.{bytes_of, number_at, list_of, words, doubles, all_bytes, word_bytes, double_bytes}
 
 -- ---- samples, by computing
@@ -35,42 +32,45 @@ bytes_of_a_nan : double_bytes (nan ∷ []) ≡ 0 ∷ 0 ∷ 0 ∷ 0 ∷ 0 ∷ 0 �
 unfolding double_bytes all_bytes bytes_of to_bits
 bytes_of_a_nan = refl
 
--- ---- one number
+-- ---- one number: the library's bytes of a number, and its number of bytes, are the definitions here
+pub four_bytes : (v : ℕ) → to_le_bytes w32 v ≡ bytes_of 4 v
+unfolding bytes_of
+four_bytes v = simp div-div-eq-div-mul
 
-pub word_is : (l : List ℕ) (at : ℕ) → get_or l at 0 + 256 * (get_or l (at + 1) 0 + 256 * (get_or l (at + 2) 0 + 256 * get_or l (at + 3) 0)) ≡ number_at 4 l at
+pub eight_bytes : (v : ℕ) → to_le_bytes w64 v ≡ bytes_of 8 v
+unfolding bytes_of
+eight_bytes v = simp div-div-eq-div-mul
+
+-- bytes written over a part of a list
+pub written : (l new bytes : List ℕ) (at count : ℕ) → at + count ≤ length l → length bytes ≡ count → new ≡ bytes
+    → put_mid at (at + count - at) l new ≡ sets l at bytes
+written l new bytes at count fits n e =
+    let size : at + count - at ≡ length bytes = omega arith in
+    rw (size, e) (sym (sets-eq bytes l at (omega arith) ∙ rw (append_assoc, drop-drop) refl))
+
+piece : (l : List ℕ) (at count i : ℕ) → i < count → get_or (take count (drop at l)) i 0 ≡ get_or l (at + i) 0
+piece l at count i h = get_or-take count (drop at l) i 0 h ∙ get_or-drop at l i 0
+
+pub word_is : (l : List ℕ) (at : ℕ) → from_le_bytes w32 (take 4 (drop at l)) ≡ number_at 4 l at
 unfolding number_at
-word_is l at = simp towards_suc
+word_is l at =
+    let p = piece l at 4 in
+    rw (p 0 (omega arith), p 1 (omega arith), p 2 (omega arith), p 3 (omega arith)) (simp towards_suc (omega arith))
 
-pub long_is : (l : List ℕ) (at : ℕ) → number_at 4 l at + 0x1_0000_0000 * number_at 4 l (at + 4) ≡ number_at 8 l at
+pub long_is : (l : List ℕ) (at : ℕ) → from_le_bytes w64 (take 8 (drop at l)) ≡ number_at 8 l at
 unfolding number_at
-long_is l at = simp towards_suc (omega arith)
-
--- ---- a NaN has many patterns, and is one in the logic
-
-is_nan_lem : (x : Float) → is_nan x ≡ true → quiet_nan ≡ x
-unfolding is_nan of_bits
-is_nan_lem nan e = refl
-is_nan_lem (inf s) e = absurd (false≢true e)
-is_nan_lem (fin s m k) e = absurd (false≢true e)
-
-pub nan_pattern : (b : ℕ) → 2047 * 2 ^ 52 < b % 2 ^ 63 → quiet_nan ≡ of_bits binary64 b
-nan_pattern b l = is_nan_lem (of_bits binary64 b) (sym (nan_bits_is binary64 b) ∙ nan_bits_above binary64 b ∙ lt-ltb (2047 * 2 ^ 52) (b % 2 ^ 63) l)
-
-pub no_nan_pattern : (b : ℕ) → b % 2 ^ 63 ≤ 2047 * 2 ^ 52 → T (not (nan_bits binary64 b))
-no_nan_pattern b l = subst (λ (t : Bool). T (not t)) (sym (nan_bits_above binary64 b ∙ le-ltb (2047 * 2 ^ 52) (b % 2 ^ 63) l)) tt
-
-quiet_bits : 0x7ff8_0000_0000_0000 ≡ to_bits binary64 quiet_nan
-unfolding to_bits of_bits
-quiet_bits = refl
-
-pub nan_bits_lem : (x : Float) → ne x x ≡ true → 0x7ff8_0000_0000_0000 ≡ to_bits binary64 x
-nan_bits_lem x e = quiet_bits ∙ ap (to_bits binary64) (nan_is_quiet x e)
-
-pub itself_no_nan : (x : Float) → ne x x ≡ false → T (not (is_nan x))
-unfolding is_nan ne
-itself_no_nan nan e = absurd (true≢false e)
-itself_no_nan (inf s) e = tt
-itself_no_nan (fin s m k) e = tt
+long_is l at =
+    let p = piece l at 8 in
+    rw (
+      p 0 (omega arith),
+      p 1 (omega arith),
+      p 2 (omega arith),
+      p 3 (omega arith),
+      p 4 (omega arith),
+      p 5 (omega arith),
+      p 6 (omega arith),
+      p 7 (omega arith),
+    ) (simp towards_suc (omega arith))
 
 -- ---- a list read from the front
 

@@ -17,14 +17,7 @@ pub fn put_u64(out: &mut [u8], at: usize, value: u64)
     requires { at + 8 ≤ length out.old }
     ensures { out.new ≡ sets out.old at (bytes_of 8 value) }
 {
-    out[at] = (value % 256) as u8;
-    out[at + 1] = (value / 0x100 % 256) as u8;
-    out[at + 2] = (value / 0x1_0000 % 256) as u8;
-    out[at + 3] = (value / 0x100_0000 % 256) as u8;
-    out[at + 4] = (value / 0x1_0000_0000 % 256) as u8;
-    out[at + 5] = (value / 0x100_0000_0000 % 256) as u8;
-    out[at + 6] = (value / 0x1_0000_0000_0000 % 256) as u8;
-    out[at + 7] = (value / 0x100_0000_0000_0000 % 256) as u8;
+    out[at..at + 8].copy_from_slice(&value.to_le_bytes());
 }
 
 // The four bytes of a word, low byte first, from `at` on.
@@ -32,10 +25,7 @@ pub fn put_u32(out: &mut [u8], at: usize, word: u32)
     requires { at + 4 ≤ length out.old }
     ensures { out.new ≡ sets out.old at (bytes_of 4 word) }
 {
-    out[at] = (word % 256) as u8;
-    out[at + 1] = (word / 0x100 % 256) as u8;
-    out[at + 2] = (word / 0x1_0000 % 256) as u8;
-    out[at + 3] = (word / 0x100_0000 % 256) as u8;
+    out[at..at + 4].copy_from_slice(&word.to_le_bytes());
 }
 
 // The word of the four bytes from `at` on.
@@ -43,11 +33,9 @@ pub fn get_u32(bytes: &[u8], at: usize) -> u32
     requires { at + 4 ≤ length bytes.now }
     ensures { result ≡ number_at 4 bytes.now at }
 {
-    let b0 = bytes[at] as u32;
-    let b1 = bytes[at + 1] as u32;
-    let b2 = bytes[at + 2] as u32;
-    let b3 = bytes[at + 3] as u32;
-    b0 + 256 * (b1 + 256 * (b2 + 256 * b3))
+    let mut four = [0; 4];
+    four.copy_from_slice(&bytes[at..at + 4]);
+    u32::from_le_bytes(four)
 }
 
 // The number of the eight bytes from `at` on.
@@ -55,29 +43,23 @@ pub fn get_u64(bytes: &[u8], at: usize) -> u64
     requires { at + 8 ≤ length bytes.now }
     ensures { result ≡ number_at 8 bytes.now at }
 {
-    let low = get_u32(bytes, at) as u64;
-    let high = get_u32(bytes, at + 4) as u64;
-    low + 0x1_0000_0000 * high
+    let mut eight = [0; 8];
+    eight.copy_from_slice(&bytes[at..at + 8]);
+    u64::from_le_bytes(eight)
 }
 
 // The double of a pattern of bits. Every pattern of a NaN gives the one NaN that is stored.
 pub fn double_of(bits: u64) -> f64
     ensures { result ≡ of_bits binary64 bits }
 {
-    if bits % 0x8000_0000_0000_0000 > 0x7ff0_0000_0000_0000 {
-        return float64::quiet_nan();
-    }
-    f64::from_bits(bits)
+    std::num::f64_from_bits_with_nan(bits)
 }
 
 // The bits of a double; 0x7FF8000000000000 for any NaN.
 pub fn bits_of(x: f64) -> u64
     ensures { result ≡ to_bits binary64 x }
 {
-    if x != x {
-        return 0x7ff8_0000_0000_0000;
-    }
-    f64::to_bits(x)
+    std::num::f64_to_bits_with_nan(x)
 }
 
 // The double whose eight bytes stand from `at` on.
@@ -100,10 +82,12 @@ pub fn put_double(out: &mut [u8], at: usize, x: f64)
 pub trait Wide: Copy {
     // How many bytes it takes.
     const WIDTH: usize;
+
     ghost WIDTH: { ℕ };
 
     // The value that a number stands for, and the number of a value.
     ghost of_number: { ℕ → Self };
+
     ghost number: { Self → ℕ };
 
     // The value whose bytes stand from `at` on.
@@ -119,9 +103,11 @@ pub trait Wide: Copy {
 
 impl Wide for u32 {
     const WIDTH: usize = 4;
+
     ghost WIDTH = { 4 };
 
     ghost of_number = { λ word. word };
+
     ghost number = { λ word. word };
 
     fn get(bytes: &[u8], at: usize) -> u32 {
@@ -135,9 +121,11 @@ impl Wide for u32 {
 
 impl Wide for u64 {
     const WIDTH: usize = 8;
+
     ghost WIDTH = { 8 };
 
     ghost of_number = { λ value. value };
+
     ghost number = { λ value. value };
 
     fn get(bytes: &[u8], at: usize) -> u64 {
@@ -151,9 +139,11 @@ impl Wide for u64 {
 
 impl Wide for f64 {
     const WIDTH: usize = 8;
+
     ghost WIDTH = { 8 };
 
     ghost of_number = { of_bits binary64 };
+
     ghost number = { to_bits binary64 };
 
     fn get(bytes: &[u8], at: usize) -> f64 {
@@ -196,6 +186,6 @@ pub fn sqrt(x: f64, root: &mut [u8]) -> Result<(), Refusal>
         return Err(Refusal::SliceLength);
     }
     let y = square_root::sqrt(x)?;
-    put_u64(root, 0, f64::to_bits(y));
+    put_double(root, 0, y);
     Ok(())
 }

@@ -1,6 +1,6 @@
 -- The bytes of each value go behind those of the values before it.
-use Rattle.std.proofs.Common.{◌≡◌, ◌∙◌, ap, length, map, arith}
-use Rattle.byte_numbers.proofs.Words.{laid, put_none, put_more, put_done}
+use Rattle.std.proofs.Common.{◌≡◌, ◌∙◌, length, arith}
+use Rattle.byte_numbers.proofs.Words.{put_none, put_more, put_done}
 use Rattle.byte_numbers.proofs.put_all.Goals as goal
 
 pub loop-i-init : goal.loop-i-init

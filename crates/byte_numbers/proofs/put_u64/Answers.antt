@@ -1,0 +1,9 @@
+-- The library's bytes of the number are the definition's, written over a part of the slice.
+use Rattle.std.proofs.Common.{◌∙◌}
+use Rattle.byte_numbers.proofs.Words.{bytes_length, eight_bytes, written}
+use Rattle.byte_numbers.proofs.put_u64.Goals as goal
+
+pub returns : goal.returns
+returns c =
+    let bytes = c.copy_from_slice.ensures.after ∙ c.to_le_bytes.ensures ∙ eight_bytes c.args.value in
+    written c.args.out.now _ _ c.args.at 8 c.requires (bytes_length 8 c.args.value) bytes
