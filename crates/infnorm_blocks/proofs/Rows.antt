@@ -1,38 +1,55 @@
--- One row more of the one-pass factors: what is written is the factor of the maximum that stood there, by a root of the block's.
-use mathlib.Core.Path.{◌≡◌, refl, sym, ap, ◌∙◌, subst}
-use mathlib.Core.Bool.{true}
-use mathlib.Core.List.{List, [], ◌∷◌, map}
-use Prim.Native.Nat.{ℕ, zero, suc, ◌+◌, ◌<◌}
-use native.Mathlib.Nat.{not-suc-le-zero}
-use native.Mathlib.Omega.{arith}
-use lib.Ieee.{Float, nan, lt}
-use lib.ListN.{length, get_or, set}
+-- The one-pass factors come row after row, and block after block: the factors of the rows so far stand before the maxima of the others.
+use Rattle.std.proofs.Common.{◌≡◌, true, ℕ, ◌+◌, ◌<◌, ◌≤◌, List, ◌++◌, Float, length, get_or, take, drop, set, map, refl, sym, ap, ◌∙◌, zero-add, add-zero, append-nil, le_refl, arith}
+use Rattle.std.proofs.Math.Seq.{take-add}
+use Rattle.std.proofs.lemmas.List.{map-append, take_all, drop_all, length-map, length-take-le, get_or-drop, get_or_default}
+use Rattle.std.proofs.lemmas.List.Edits.{map_over_more}
+use Rattle.std.specs.Float.{nan}
+use Rattle.std.specs.Float.Ieee.{lt}
+use borrow.Rule.Slice.PartMut.{put_mid}
 use Rattle.float64.specs.Constants as Constants
-use Rattle.square_root.specs.Root.{value_of, sqrt_of}
 use Rattle.root_blocks.specs.inner.Blocks.{Roots}
 use Rattle.infnorm_factors.specs.Factors.{inv_sqrt_scale_guarded, root}
-use Rattle.infnorm_blocks.specs.inner.Blocks.{Scaling, ScaledRows}
-use Rattle.slices.proofs.Fronts.{front_reads, front_next}
+use Rattle.infnorm_factors.proofs.Parts.{rest_is, part_put}
 
-get_d_mapped : (f : Float → Float) (l : List Float) (i : ℕ) → i < length l → get_or (map f l) i nan ≡ f (get_or l i nan)
-get_d_mapped f [] i h = absurd (not-suc-le-zero h)
-get_d_mapped f (x ∷ l) zero h = refl
-get_d_mapped f (x ∷ l) (suc i) h = get_d_mapped f l i (omega arith)
+-- the rows below i have their factors
+abbrev pub Scaled : List Float → List Float → ℕ → Type 0
+Scaled maxima factors i = factors ≡ map inv_sqrt_scale_guarded (take i maxima) ++ drop i maxima
 
-pub scaling_next : {d f : List Float} {i : ℕ} {x : Float} → Scaling d f i → i < length f → x ≡ inv_sqrt_scale_guarded (get_or f i nan)
-    → Scaling d (set f i x) (i + 1)
-scaling_next {d} {f} {i} s h x =
-    front_next s (omega (arith, s.same)) (x ∙ ap inv_sqrt_scale_guarded (front_reads s) ∙ sym (get_d_mapped inv_sqrt_scale_guarded d i (omega (arith, s.same))))
+module _ (maxima factors : List Float) (i : ℕ) (scaled : Scaled maxima factors i) where
+  -- row i is a maximum still
+  pub maximum_there : i ≤ length maxima → get_or factors i nan ≡ get_or maxima i nan
+  maximum_there h = sym (at factors) ∙ ap (λ (l : List Float). get_or l 0 nan) (rest_is written maxima i 0 long scaled) ∙ at maxima
+    where
+      written : List Float
+      written = map inv_sqrt_scale_guarded (take i maxima)
 
-pub rows_next : {f g : List Float} {from i : ℕ} {x : Float} → ScaledRows f from g i → i < length g → x ≡ inv_sqrt_scale_guarded (get_or g i nan)
-    → ScaledRows f from (set g i x) (i + 1)
-rows_next s h e = record { come = λ d u. scaling_next (s.come d u) h e }
+      long : length written ≡ i
+      long = length-map (take i maxima) inv_sqrt_scale_guarded ∙ length-take-le i maxima h
 
-pub rows_to : {f g : List Float} {from i to : ℕ} → ScaledRows f from g i → i ≡ to → ScaledRows f from g to
-rows_to {f} {g} {from} s e = subst (ScaledRows f from g) e s
+      at : (l : List Float) → get_or (drop i l) 0 nan ≡ get_or l i nan
+      at l = get_or-drop i l 0 nan ∙ ap (λ (k : ℕ). get_or l k nan) (add-zero i)
 
--- the root that stands for a number is its root
-pub root_there : {numbers roots : List Float} {from : ℕ} → Roots numbers from roots 16 → (i : ℕ) → i < 16 → (x : Float) → x ≡ get_or numbers (from + i) nan
+  pub row_next : {x : Float} → i < length maxima → i < length factors → x ≡ inv_sqrt_scale_guarded (get_or factors i nan) → Scaled maxima (set factors i x) (i + 1)
+  row_next {x} h l e =
+      rw e (map_over_more inv_sqrt_scale_guarded maxima factors i (get_or factors i nan) h scaled (get_or_default factors i nan (get_or factors i nan) l))
+
+  pub block_next : (k to : ℕ) {part : List Float} → i + k ≡ to → to ≤ length maxima → part ≡ map inv_sqrt_scale_guarded (take k (drop i factors))
+      → Scaled maxima (put_mid i k factors part) to
+  block_next k to {part} e h q =
+      let written = map inv_sqrt_scale_guarded (take i maxima) in
+      let long : length written ≡ i = length-map (take i maxima) inv_sqrt_scale_guarded ∙ length-take-le i maxima (omega arith) in
+      let new : part ≡ map inv_sqrt_scale_guarded (take k (drop i maxima)) =
+      q ∙ ap (λ (l : List Float). map inv_sqrt_scale_guarded (take k l)) (rest_is written maxima i k long scaled) in
+      part_put written maxima i k long scaled part
+      ∙ rw (new, ← map-append inv_sqrt_scale_guarded (take i maxima) (take k (drop i maxima)), ← take-add i k maxima, e) refl
+
+-- the root that stands for the number at place i is its root
+pub root_there : {numbers roots : List Float} → Roots numbers 0 roots 16 → (i : ℕ) → i < 16 → (x : Float) → x ≡ get_or numbers i nan
     → lt Constants.zero x ≡ true → get_or roots i nan ≡ root x
 unfolding root
-root_there r i h x e t = r.at i h (subst (λ (y : Float). lt Constants.zero y ≡ true) e t) ∙ ap (λ (y : Float). value_of (sqrt_of y)) (sym e)
+root_there {numbers} r i h x e t = rw e (rw zero-add at (r.at i h) (rw e at t))
+
+-- all rows have theirs
+pub all_scaled : (maxima factors : List Float) → Scaled maxima factors (length maxima) → factors ≡ map inv_sqrt_scale_guarded maxima
+all_scaled maxima factors s =
+    s ∙ rw (take_all (length maxima) maxima (le_refl _), drop_all (length maxima) maxima (le_refl _), append-nil (map inv_sqrt_scale_guarded maxima)) refl

@@ -1,2 +1,3 @@
 -- Why the factor of a row meets its contract.
 pub mod Theorems
+pub mod Parts

@@ -1,2 +1,0 @@
--- The blocks of rows of the one-pass factors.
-pub mod inner

@@ -1,2 +1,0 @@
--- What the inner functions require and promise; only proofs use it.
-pub mod Blocks
