@@ -1,7 +1,7 @@
 -- The one-pass factors come row after row, and block after block: the factors of the rows so far stand before the maxima of the others.
-use Rattle.std.proofs.Common.{◌≡◌, true, ℕ, ◌+◌, ◌<◌, ◌≤◌, List, ◌++◌, Float, length, get_or, take, drop, set, map, refl, sym, ap, ◌∙◌, zero-add, add-zero, append-nil, le_refl, arith}
+use Rattle.std.proofs.Common.{◌≡◌, true, ℕ, ◌+◌, ◌<◌, ◌≤◌, List, ◌++◌, Float, length, get_or, take, drop, set, map, refl, sym, ap, ◌∙◌, zero-add, append-nil, le_refl, arith}
 use Rattle.std.proofs.Math.Seq.{take-add}
-use Rattle.std.proofs.lemmas.List.{map-append, take_all, drop_all, length-map, length-take-le, get_or-drop, get_or_default}
+use Rattle.std.proofs.lemmas.List.{map-append, take_all, drop_all, length-map, length-take-le, get_or_default}
 use Rattle.std.proofs.lemmas.List.Edits.{map_over_more}
 use Rattle.std.specs.Float.{nan}
 use Rattle.std.specs.Float.Ieee.{lt}
@@ -9,25 +9,27 @@ use borrow.Rule.Slice.PartMut.{put_mid}
 use Rattle.float64.specs.Constants as Constants
 use Rattle.root_blocks.specs.inner.Blocks.{Roots}
 use Rattle.infnorm_factors.specs.Factors.{inv_sqrt_scale_guarded, root}
-use Rattle.infnorm_factors.proofs.Parts.{rest_is, part_put}
+use Rattle.infnorm_factors.proofs.Parts.{rest_is, place_is, part_put}
 
 -- the rows below i have their factors
 abbrev pub Scaled : List Float → List Float → ℕ → Type 0
 Scaled maxima factors i = factors ≡ map inv_sqrt_scale_guarded (take i maxima) ++ drop i maxima
 
 module _ (maxima factors : List Float) (i : ℕ) (scaled : Scaled maxima factors i) where
+  written : List Float
+  written = map inv_sqrt_scale_guarded (take i maxima)
+
+  long : i ≤ length maxima → length written ≡ i
+  unfolding written
+  long h = length-map (take i maxima) inv_sqrt_scale_guarded ∙ length-take-le i maxima h
+
+  is : factors ≡ written ++ drop i maxima
+  unfolding written
+  is = scaled
+
   -- row i is a maximum still
   pub maximum_there : i ≤ length maxima → get_or factors i nan ≡ get_or maxima i nan
-  maximum_there h = sym (at factors) ∙ ap (λ (l : List Float). get_or l 0 nan) (rest_is written maxima i 0 long scaled) ∙ at maxima
-    where
-      written : List Float
-      written = map inv_sqrt_scale_guarded (take i maxima)
-
-      long : length written ≡ i
-      long = length-map (take i maxima) inv_sqrt_scale_guarded ∙ length-take-le i maxima h
-
-      at : (l : List Float) → get_or (drop i l) 0 nan ≡ get_or l i nan
-      at l = get_or-drop i l 0 nan ∙ ap (λ (k : ℕ). get_or l k nan) (add-zero i)
+  maximum_there h = place_is written maxima i (long h) is nan
 
   pub row_next : {x : Float} → i < length maxima → i < length factors → x ≡ inv_sqrt_scale_guarded (get_or factors i nan) → Scaled maxima (set factors i x) (i + 1)
   row_next {x} h l e =
@@ -35,12 +37,11 @@ module _ (maxima factors : List Float) (i : ℕ) (scaled : Scaled maxima factors
 
   pub block_next : (k to : ℕ) {part : List Float} → i + k ≡ to → to ≤ length maxima → part ≡ map inv_sqrt_scale_guarded (take k (drop i factors))
       → Scaled maxima (put_mid i k factors part) to
+  unfolding written
   block_next k to {part} e h q =
-      let written = map inv_sqrt_scale_guarded (take i maxima) in
-      let long : length written ≡ i = length-map (take i maxima) inv_sqrt_scale_guarded ∙ length-take-le i maxima (omega arith) in
       let new : part ≡ map inv_sqrt_scale_guarded (take k (drop i maxima)) =
-      q ∙ ap (λ (l : List Float). map inv_sqrt_scale_guarded (take k l)) (rest_is written maxima i k long scaled) in
-      part_put written maxima i k long scaled part
+      q ∙ ap (λ (l : List Float). map inv_sqrt_scale_guarded (take k l)) (rest_is written maxima i (long (omega arith)) is) in
+      part_put written maxima i (long (omega arith)) is k part
       ∙ rw (new, ← map-append inv_sqrt_scale_guarded (take i maxima) (take k (drop i maxima)), ← take-add i k maxima, e) refl
 
 -- the root that stands for the number at place i is its root

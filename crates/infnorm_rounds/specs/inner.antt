@@ -1,2 +1,0 @@
--- One round, block by block.
-pub mod Blocks
