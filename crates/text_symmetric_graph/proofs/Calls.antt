@@ -26,7 +26,7 @@ use Rattle.whole_graphs.specs.Graphs.{whole_symmetric_fault}
 use Rattle.whole_graphs.proofs.Theorems.{Doubles, left_is}
 use Rattle.text_graph.proofs.KeptCount.{kept_count_lem, opposite}
 use Rattle.text_matrix_market.specs.File.{repeats}
-use Rattle.text_symmetric_graph.specs.declared.Mirrored.TheVariants.{Graph}
+use Rattle.std.proofs.Common.{Some}
 use Rattle.text_symmetric_graph.specs.Graph.{SymmetricValues, triplet_matrix, mirrored_graph, triplet_graph}
 use Rattle.text_symmetric_graph.specs.inner.Steps.{GraphRoom, HoldsGraph, GraphSlices, graph_slices, graph_left}
 use Rattle.text_symmetric_graph.proofs.Whole.{kept_all, stored_doubles, nothing_wrong}
@@ -92,7 +92,7 @@ module _ {n : ℕ} {rows cols : List ℕ} {values : List Float} (S : SymmetricVa
             }
 
         pub leaves : (left : Slices) (count : ℕ) → GraphBuilt n (mirrored_columns stored) (value_logs stored.values) s left count
-            → graph_slices left.graph_ptr left.graph_idx left.cost ≡ graph_left n t (graph_slices s.graph_ptr s.graph_idx s.cost) (Graph count)
+            → graph_slices left.graph_ptr left.graph_idx left.cost ≡ graph_left n t (graph_slices s.graph_ptr s.graph_idx s.cost) (Some count)
         unfolding built
         leaves left count x =
             ap (λ (l : Slices). graph_slices l.graph_ptr l.graph_idx l.cost) x.slices
