@@ -1,9 +1,9 @@
 -- Duals of popped rows are raised, in the order in which the rows were popped: each turn is a step of the definition's `raise`.
 use mathlib.Core.Path.{◌≡◌}
-use mathlib.Core.List.{List, []}
+use mathlib.Core.List.{List}
 use Prim.Native.Nat.{ℕ, ◌+◌, ◌≤◌, ◌<◌}
 use native.Mathlib.Numerals.{add-one}
-use lib.ListN.{length, get_or, set, take, drop}
+use lib.ListN.{length, get_or, set, drop}
 use lib.Seq.{drop-cons}
 use lib.Ieee.{Float, nan, binary64, add, sub}
 use Rattle.std.proofs.lemmas.List.{drop_all}

@@ -1,5 +1,5 @@
 -- `hungarian_init::start`: what each phase leaves is what the next asks, by Begins.
-use Rattle.std.proofs.Common.{◌∙◌, add-one, rules, arith}
+use Rattle.std.proofs.Common.{◌∙◌, add-one, rules}
 use Rattle.hungarian_init.proofs.Begins.{sound, claimable, improvable, begun_early, begun_late}
 use Rattle.hungarian_init.proofs.start.Goals as goal
 

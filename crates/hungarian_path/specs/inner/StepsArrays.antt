@@ -1,5 +1,5 @@
 -- What the functions that prepare the arrays of a search require and promise: after a search, and before the first.
-use Rattle.std.specs.Prelude.{◌≡◌, ◌⊎◌, List, ℕ, ◌+◌, ◌*◌, ◌≤◌, ◌<◌, length, get_or, take, drop, replicate, Float}
+use Rattle.std.specs.Prelude.{◌≡◌, List, ℕ, ◌+◌, ◌*◌, ◌≤◌, ◌<◌, length, get_or, take, drop, replicate, Float}
 use Rattle.limits.specs.Limits.{none}
 use Rattle.float64.specs.Constants.{rinf}
 use Rattle.hungarian.specs.inner.Layout.{Workspace, region, iperm_at, jperm_at, pr_at, out_at, touched_at, heap_at}

@@ -1,5 +1,5 @@
 -- `graph_test::cost_fault`: one more cost is tested, and the test of all says which number is answered, by Tests.
-use Rattle.std.proofs.Common.{sym, arith}
+use Rattle.std.proofs.Common.{sym}
 use Rattle.hungarian_match.proofs.Tests.{test_goes_on, test_ends}
 use Rattle.hungarian_match.proofs.graph_test.cost_fault.Goals as goal
 

@@ -1,5 +1,5 @@
 -- `graph_test::graph_fault`: each return is the first fault of the chain.
-use Rattle.std.proofs.Common.{◌≡◌, length, sym, refl}
+use Rattle.std.proofs.Common.{sym, refl}
 use Rattle.std.proofs.lemmas.Result.{err_from_is_err_and}
 use Rattle.limits.specs.Limits.{max_general}
 use Rattle.refusal.proofs.Numbers.{number_ne_zero}
