@@ -1,5 +1,6 @@
 -- What `write_sheet` promises, by its fault: a refusal that leaves the slice, or the file at its front, which reads back as the match. By the order of
 -- the tests.
+use Rattle.std.proofs.Common.{Result, Ok, Err}
 use mathlib.Core.Path.{◌≡◌, refl, sym, ap, ◌∙◌, subst}
 use mathlib.Core.Logic.{◌≢◌}
 use mathlib.Core.Bool.{Bool, true, false, ◌&&◌}
@@ -12,6 +13,7 @@ use lib.Dec.{leb, eqb}
 use lib.ListN.{length, get_or, take, drop}
 use lib.Seq.{sets-eq, take_at}
 use Rattle.limits.specs.Limits.{max_columns}
+use Rattle.refusal.specs.Number.{fault_of}
 use Rattle.refusal.specs.Listed.{OneOf, write_sheet_numbers}
 use Rattle.refusal.specs.Refusal.{matching_range, too_many_columns}
 use Rattle.slices.specs.Outcome.{outcome_is, Outcome, refusing}
@@ -26,9 +28,7 @@ use Rattle.sheet.specs.Format.{sheet_bytes, row_or_none, rows_fit, rows_present}
 use Rattle.sheet.proofs.Lengths.{sheet_length}
 use Rattle.sheet.proofs.RoundTrip.{Good, reads_back}
 use Rattle.sheet.proofs.Canonical.{written_canonical}
-use Rattle.sheet_writer.specs.declared.Written.{Written}
-use Rattle.sheet_writer.specs.declared.Written.TheVariants.{Used, Refused}
-use Rattle.sheet_writer.specs.Call.{number_of, lengths, match_fault, sizes, write_fault, write_outcome, written, Promises}
+use Rattle.sheet_writer.specs.Call.{lengths, match_fault, sizes, write_fault, write_outcome, written, Promises}
 use Rattle.sheet_writer.proofs.Writing.{lengths_are}
 use Rattle.sheet_writer.proofs.Theorems.{write_listed}
 
@@ -59,37 +59,37 @@ sizes_passed n fit e =
     )
 
 -- a refusal's number is not 0
-refused_outcome : (fault : ℕ) (n : ℕ) (m : Match ℕ) (old new : List ℕ) (x : ℕ) → outcome_is (Refused x) new ≡ refusing Refused fault
+refused_outcome : (fault : ℕ) (n : ℕ) (m : Match ℕ) (old new : List ℕ) (x : ℕ) → outcome_is (Err x) new ≡ refusing Err fault
     (written n m old) old → x ≢ 0
 refused_outcome zero n m old new x e z =
-    let a : Refused x ≡ Used (length (sheet_bytes n m)) = ap (λ (o : Outcome Written (List ℕ)). o.answer) e in
+    let a : Err x ≡ Ok (length (sheet_bytes n m)) = ap (λ (o : Outcome (Result ℕ ℕ) (List ℕ)). o.answer) e in
     let b : ◌≡◌ {A = ℕ} 0 1 = cc in
     let q : ⊥ = omega arith in absurd q
 refused_outcome (suc fault) n m old new x e z =
-    let a : Refused x ≡ Refused (suc fault) = ap (λ (o : Outcome Written (List ℕ)). o.answer) e in
+    let a : Err x ≡ Err (suc fault) = ap (λ (o : Outcome (Result ℕ ℕ) (List ℕ)). o.answer) e in
     let b : x ≡ suc fault = cc in
     let q : ⊥ = omega arith in absurd q
 
-pub refused_some : (n matched : ℕ) (m : Match ℕ) (old new : List ℕ) (x : ℕ) → outcome_is (Refused x) new ≡ write_outcome n matched m old → x ≢ 0
+pub refused_some : (n matched : ℕ) (m : Match ℕ) (old new : List ℕ) (x : ℕ) → outcome_is (Err x) new ≡ write_outcome n matched m old → x ≢ 0
 unfolding write_outcome
 refused_some n matched m old new x e = refused_outcome (write_fault n matched m old) n m old new x e
 
 module _ (n matched : ℕ) (m : Match ℕ) (old : List ℕ) where
-  numbered : {r : Written} {new : List ℕ} → outcome_is r new ≡ write_outcome n matched m old → OneOf write_sheet_numbers (number_of r)
-  numbered e = subst (λ (o : Outcome Written (List ℕ)). OneOf write_sheet_numbers (number_of o.answer)) (sym e) (write_listed n matched m old).is
+  numbered : {r : Result ℕ ℕ} {new : List ℕ} → outcome_is r new ≡ write_outcome n matched m old → OneOf write_sheet_numbers (fault_of r)
+  numbered e = subst (λ (o : Outcome (Result ℕ ℕ) (List ℕ)). OneOf write_sheet_numbers (fault_of o.answer)) (sym e) (write_listed n matched m old).is
 
-  refused_with : (x : ℕ) → write_fault n matched m old ≡ x → x ≢ 0 → Promises n matched m old (Refused x) old
+  refused_with : (x : ℕ) → write_fault n matched m old ≡ x → x ≢ 0 → Promises n matched m old (Err x) old
   unfolding write_outcome
   refused_with x e h =
-      let o : outcome_is (Refused x) old ≡ write_outcome n matched m old = refused_is Refused (written n m old) old (sym e) h in
+      let o : outcome_is (Err x) old ≡ write_outcome n matched m old = refused_is Err (written n m old) old (sym e) h in
       record { outcome = o; number = numbered o; travels = λ z. absurd (h z) }
 
   module _ {fit : Bool} {x : ℕ} (f : fit ≡ lengths n m old) (e : x ≡ sizes n fit) where
-    pub sizes_refuse : x ≢ 0 → Promises n matched m old (Refused x) old
+    pub sizes_refuse : x ≢ 0 → Promises n matched m old (Err x) old
     sizes_refuse h = refused_with x (rw (← f, ← e) (or_some x (match_fault n matched m.perm) h)) h
 
     module _ (z : x ≡ 0) {y : ℕ} (k : y ≡ match_fault n matched m.perm) where
-      pub match_refuses : y ≢ 0 → Promises n matched m old (Refused y) old
+      pub match_refuses : y ≢ 0 → Promises n matched m old (Err y) old
       match_refuses h = refused_with y (rw (← f, ← e, z) (sym k)) h
 
       good : y ≡ 0 → ((i : ℕ) → get_or m.u i 0 < 2 ^ 64) → ((i : ℕ) → get_or m.v i 0 < 2 ^ 64) → ((i : ℕ) → get_or m.cmax i 0 < 2 ^ 64) → Good n m
@@ -116,7 +116,7 @@ module _ (n matched : ℕ) (m : Match ℕ) (old : List ℕ) where
 
       pub writes : y ≡ 0 → ((i : ℕ) → get_or m.u i 0 < 2 ^ 64) → ((i : ℕ) → get_or m.v i 0 < 2 ^ 64) → ((i : ℕ) → get_or m.cmax i 0 < 2 ^ 64)
           → {new : List ℕ} {used : ℕ} → Wrote old 0 (sheet_bytes n m) new used
-          → Promises n matched m old (Used used) new
+          → Promises n matched m old (Ok used) new
       unfolding write_outcome
       writes q bu bv bc {new} {used} w =
           let g = good q bu bv bc in
@@ -128,7 +128,7 @@ module _ (n matched : ℕ) (m : Match ℕ) (old : List ℕ) where
           let file : take used new ≡ sheet_bytes n m =
           rw (u, w.bytes, sets-eq (sheet_bytes n m) old 0 room)
           (take_at (sheet_bytes n m) (drop (0 + length (sheet_bytes n m)) old) (length (sheet_bytes n m)) refl) in
-          let o : outcome_is (Used used) new ≡ write_outcome n matched m old = rw (t, u, w.bytes) refl in
+          let o : outcome_is (Ok used) new ≡ write_outcome n matched m old = rw (t, u, w.bytes) refl in
           record {
             outcome = o;
             number = numbered o;
