@@ -1,6 +1,6 @@
--- Which numbers the two calls answer, for any input: those of `csc::validate`, from the tests of the fault; and what the calls promise of an
--- answer by its number.
-use mathlib.Core.Path.{◌≡◌, refl, sym, ap, ◌∙◌, subst}
+-- Which numbers the two calls answer, for any input: those of `csc::validate`, from the tests of the fault; and what the calls promise, from the
+-- number answered and what is left.
+use mathlib.Core.Path.{◌≡◌, refl, sym, ap, subst}
 use mathlib.Core.Bool.{Bool, ◌&&◌}
 use mathlib.Core.List.{List}
 use Prim.Native.Nat.{ℕ, zero, suc}
@@ -11,8 +11,6 @@ use Rattle.limits.specs.Limits.{max_symmetric}
 use Rattle.refusal.specs.Listed.{listed, OneOf, symmetric_numbers}
 use Rattle.slices.specs.Outcome.{Outcome, outcome_is, as_number, refusing}
 use Rattle.sparse.specs.Matrix.{Matrix}
-use Rattle.sparse.specs.declared.layout.Validity.{Validity}
-use Rattle.sparse.specs.Validate.{number_of, validity_of}
 use Rattle.sparse.proofs.Listed.{Listed, or_listed, within, part}
 use Rattle.sparse.proofs.Theorems.{size_numbers, sizes_listed, symmetric_listed}
 use Rattle.infnorm_factors.specs.Factors.{onepass_factors}
@@ -41,16 +39,14 @@ module _ (m : Matrix) (factors : List Float) where
       go zero p = p
       go (suc fault) p = p
 
-  -- ---- the promises: an answer that is its number's
-  pub infnorm_promised : (work : List Float) {r : Validity} {after cleared : List Float} → r ≡ validity_of (number_of r)
-      → outcome_is (number_of r) (slices after cleared) ≡ compute_infnorm m factors work
+  -- ---- the promises
+  pub infnorm_promised : (work : List Float) {r : ℕ} {after cleared : List Float} → outcome_is r (slices after cleared) ≡ compute_infnorm m factors work
       → InfnormPromises m factors work r after cleared
-  infnorm_promised work {r} a e =
-      let number : number_of r ≡ (compute_infnorm m factors work).answer = ap (λ (o : Outcome ℕ Slices). o.answer) e in
-      record { outcome = e; answer = a ∙ ap validity_of number; number = subst (OneOf symmetric_numbers) (sym number) (infnorm_listed work).is }
+  infnorm_promised work {r} e =
+      let number : r ≡ (compute_infnorm m factors work).answer = ap (λ (o : Outcome ℕ Slices). o.answer) e in
+      record { outcome = e; number = subst (OneOf symmetric_numbers) (sym number) (infnorm_listed work).is }
 
-  pub onepass_promised : {r : Validity} {after : List Float} → r ≡ validity_of (number_of r) → outcome_is (number_of r) after ≡ compute_onepass m factors
-      → OnepassPromises m factors r after
-  onepass_promised {r} a e =
-      let number : number_of r ≡ (compute_onepass m factors).answer = ap (λ (o : Outcome ℕ (List Float)). o.answer) e in
-      record { outcome = e; answer = a ∙ ap validity_of number; number = subst (OneOf symmetric_numbers) (sym number) onepass_listed.is }
+  pub onepass_promised : {r : ℕ} {after : List Float} → outcome_is r after ≡ compute_onepass m factors → OnepassPromises m factors r after
+  onepass_promised {r} e =
+      let number : r ≡ (compute_onepass m factors).answer = ap (λ (o : Outcome ℕ (List Float)). o.answer) e in
+      record { outcome = e; number = subst (OneOf symmetric_numbers) (sym number) onepass_listed.is }
