@@ -116,7 +116,8 @@ pub fn solve(
     found
 }
 
-// The match of a cost graph by columns: its counts, or the refusal. perm gets the row of each column, u and v the duals of rows and columns.
+// The match of a cost graph by columns: its counts, or the refusal. perm gets the row of each column, u and v the duals
+// of rows and columns.
 pub fn hungarian_match(
     n: u32,
     col_ptr: &[u32],

@@ -26,7 +26,8 @@ use limits::NONE;
 const NO_ENTRY: usize = NONE as usize;
 
 // The best path so far (its cost, last entry and that entry's column), how many rows are in the heap, touched and
-// popped, and the most that were in the heap at once.
+// popped, and the most that were in the heap at once. The path is no Option, since `edge` compares its cost with every
+// entry: as an Option it makes a search run 15% more instructions.
 #[derive(Clone, Copy)]
 struct Frontier {
     csp: f64,
