@@ -44,18 +44,20 @@ use Rattle.mc64.specs.inner.Steps.{Ready, Scales}
 
 -- ---- answers
 -- every column is matched
-applied_full : (n matched : ℕ) → Ok (Factors.applied_or_partial n matched) ≡ Ok {E = ℕ} Scaled.Applied → matched ≡ n
+applied_full : (n matched : ℕ) → ◌≡◌ {A = Result Scaled ℕ} (Ok (Factors.applied_or_partial n matched)) (Ok Scaled.Applied)
+    → matched ≡ n
 applied_full n matched e = go (eqb matched n) refl e
   where
     go : (b : Bool) → eqb matched n ≡ b
-        → Ok (cond b Scaled.Applied (Scaled.PartialSingular (n - matched))) ≡ Ok {E = ℕ} Scaled.Applied → matched ≡ n
+        → ◌≡◌ {A = Result Scaled ℕ} (Ok (cond b Scaled.Applied (Scaled.PartialSingular (n - matched)))) (Ok Scaled.Applied)
+        → matched ≡ n
     go true q e = eqb-true matched n q
     go false q e = cc
 
-same_kept : {k r : ℕ} → Ok {E = ℕ} k ≡ Ok r → k ≡ r
+same_kept : {k r : ℕ} → ◌≡◌ {A = Result ℕ ℕ} (Ok k) (Ok r) → k ≡ r
 same_kept e = cc
 
-same_refused : {k r : ℕ} → Err {T = ℕ} k ≡ Err r → k ≡ r
+same_refused : {k r : ℕ} → ◌≡◌ {A = Result ℕ ℕ} (Err k) (Err r) → k ≡ r
 same_refused e = cc
 
 -- ---- lengths
