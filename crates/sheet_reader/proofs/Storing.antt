@@ -1,4 +1,5 @@
 -- The records stored one after the other: what comes of all is what comes of those from here on. By one step of the definition each.
+use Rattle.std.proofs.Common.{Option, Some, None}
 use mathlib.Core.Path.{◌≡◌, refl, ◌∙◌}
 use mathlib.Core.Bool.{true}
 use mathlib.Core.List.{List, [], ◌∷◌}
@@ -13,8 +14,6 @@ use Rattle.slices.proofs.Bools.{both}
 use Rattle.sparse.proofs.First.{or-zero}
 use Rattle.matching.specs.Match.{Match, match_of}
 use Rattle.sheet.specs.declared.Record.{Record}
-use Rattle.sheet.specs.declared.Found.{Found}
-use Rattle.sheet.specs.declared.Found.TheVariants.{Is, Cut}
 use Rattle.sheet.specs.Format.{record_size, first_record}
 use Rattle.sheet.specs.Reading.{records_of, index_fault, repeat_fault, records_fault, no_marks, store, stored, order_of}
 use Rattle.sheet.specs.Reading.{body_fault, sheet_match}
@@ -31,26 +30,26 @@ module _ (sheet : List ℕ) (at : ℕ) (m : Match ℕ) where
   unfolding stored
   all_stored h = rw (records_end (drop at sheet) (length-drop at sheet ∙ omega arith)) refl
 
-  pub cut_stored : at < length sheet → first_record (drop at sheet) ≡ Cut → stored_from sheet at m ≡ m
+  pub cut_stored : at < length sheet → first_record (drop at sheet) ≡ None → stored_from sheet at m ≡ m
   unfolding stored
   cut_stored h e = rw (records_cut (drop at sheet) (rw (length-drop at sheet) (omega arith)) e) refl
 
-  module _ (r : Record) (h : at < length sheet) (e : first_record (drop at sheet) ≡ Is r) where
+  module _ (r : Record) (h : at < length sheet) (e : first_record (drop at sheet) ≡ Some r) where
     pub next_stored : stored_from sheet at m ≡ stored_from sheet (at + record_size r.bits) (store r m)
     unfolding stored
     next_stored = rw (records_is (drop at sheet) r (rw (length-drop at sheet) (omega arith)) e, drop-drop (record_size r.bits) at sheet) refl
 
-module _ (n : ℕ) (sheet : List ℕ) (at : ℕ) (r : Record) (h : at < length sheet) (e : first_record (drop at sheet) ≡ Is r) where
+module _ (n : ℕ) (sheet : List ℕ) (at : ℕ) (r : Record) (h : at < length sheet) (e : first_record (drop at sheet) ≡ Some r) where
   pub inside_here : Inside n (records_of (drop at sheet)) → (r.patch < n) × Inside n (records_of (drop (at + record_size r.bits) sheet))
   unfolding Inside
   inside_here i = rw (records_is (drop at sheet) r (rw (length-drop at sheet) (omega arith)) e, drop-drop (record_size r.bits) at sheet) at i
 
 -- records without a fault are inside
-tested_inside : (n : ℕ) (marks : List ℕ) (found : List Found) → records_fault n marks found ≡ 0 → Inside n found
+tested_inside : (n : ℕ) (marks : List ℕ) (found : List (Option Record)) → records_fault n marks found ≡ 0 → Inside n found
 unfolding records_fault Inside
 tested_inside n marks [] e = tt
-tested_inside n marks (Cut ∷ rest) e = tt
-tested_inside n marks (Is r ∷ rest) e =
+tested_inside n marks (None ∷ rest) e = tt
+tested_inside n marks (Some r ∷ rest) e =
     let s = or-zero (index_fault n r) _ e in
     let t = or-zero (repeat_fault (get_or marks r.patch 0)) _ s.1 in
     (patch_below n r s.0, tested_inside n (set marks r.patch 1) rest t.1)

@@ -1,4 +1,6 @@
 -- The records tested one after the other: the fault of the file is the fault of the records from here on. By one step of the definition each.
+use Rattle.std.proofs.Common.{Option, Some, None, Err}
+use Rattle.std.specs.Option.{ok_or}
 use mathlib.Core.Path.{◌≡◌, refl, sym, ap, ◌∙◌}
 use mathlib.Core.Logic.{◌≢◌}
 use mathlib.Core.Bool.{Bool, true, false, ◌&&◌}
@@ -10,12 +12,13 @@ use lib.Dec.{ltb, eqb}
 use lib.ListN.{length, get_or, set, take, drop, length-drop}
 use lib.Seq.{take_all, drop-drop}
 use Rattle.slices.proofs.Bools.{both}
+use Rattle.refusal.specs.declared.Refusal.{Refusal}
+use Rattle.refusal.specs.declared.Refusal.TheVariants.{SheetCut}
+use Rattle.refusal.specs.Number.{number, number_of}
 use Rattle.refusal.specs.Refusal.{sheet_cut, sheet_index, patch_twice, patch_order, needless_field}
 use Rattle.sparse.specs.Fault.{unless, or_else}
 use Rattle.sparse.proofs.First.{or-none, or_some, unless_holds}
 use Rattle.sheet.specs.declared.Record.{Record}
-use Rattle.sheet.specs.declared.Found.{Found}
-use Rattle.sheet.specs.declared.Found.TheVariants.{Is, Cut}
 use native.Mathlib.Numerals.{add-one}
 use Rattle.sheet.specs.Format.{record_size, first_record, bits_of, row_or_none}
 use Rattle.sheet.specs.Canonical.{needless_fault, rising_fault, canonical_fault}
@@ -26,11 +29,11 @@ use Rattle.sheet.proofs.Records.{records_is, records_cut, records_end, first_siz
 pub rest-is : (l : List ℕ) (at : ℕ) → take (length l - at) (drop at l) ≡ drop at l
 rest-is l at = take_all (length l - at) (drop at l) (rw (length-drop at l) (omega arith))
 
-pub first-at : (l : List ℕ) (at : ℕ) {x y : Found} → x ≡ first_record (take (length l - at) (drop at l)) → x ≡ y → first_record (drop at l) ≡ y
+pub first-at : (l : List ℕ) (at : ℕ) {x y : Option Record} → x ≡ first_record (take (length l - at) (drop at l)) → x ≡ y → first_record (drop at l) ≡ y
 first-at l at e f = sym (ap first_record (rest-is l at)) ∙ sym e ∙ f
 
 -- a record's bytes are all there
-pub size_within : (l : List ℕ) (at : ℕ) (r : Record) → at < length l → first_record (drop at l) ≡ Is r → at + record_size r.bits ≤ length l
+pub size_within : (l : List ℕ) (at : ℕ) (r : Record) → at < length l → first_record (drop at l) ≡ Some r → at + record_size r.bits ≤ length l
 size_within l at r h e = let s = first_size (drop at l) r e in omega (arith, length-drop at l)
 
 some_left : (l : List ℕ) (at : ℕ) → at < length l → 0 < length (drop at l)
@@ -42,6 +45,10 @@ patch_below n r e =
     let s = both (ltb r.bits 16) _ (unless_holds _ sheet_index (λ z. let q : ⊥ = omega arith in absurd q) e) in
     ltb-true r.patch n (both (ltb r.patch n) _ s.1).0
 
+-- the refusal of a record that is cut
+pub cut_number : {refusal : Refusal} {found : Option Record} → Err refusal ≡ ok_or found SheetCut → found ≡ None → number refusal ≡ sheet_cut
+cut_number {refusal} e f = ap number_of (e ∙ ap (λ (found : Option Record). ok_or found SheetCut) f)
+
 -- ---- the records before `at` are passed
 abbrev pub fault_from : ℕ → List ℕ → List ℕ → ℕ → ℕ
 fault_from n sheet marks at = records_fault n marks (records_of (drop at sheet))
@@ -51,11 +58,11 @@ module _ (n : ℕ) (sheet marks : List ℕ) (at : ℕ) where
   unfolding records_fault
   all_passed h = rw (records_end (drop at sheet) (length-drop at sheet ∙ omega arith)) refl
 
-  pub cut_here : at < length sheet → first_record (drop at sheet) ≡ Cut → fault_from n sheet marks at ≡ sheet_cut
+  pub cut_here : at < length sheet → first_record (drop at sheet) ≡ None → fault_from n sheet marks at ≡ sheet_cut
   unfolding records_fault
   cut_here h e = rw (records_cut (drop at sheet) (some_left sheet at h) e) refl
 
-  module _ (r : Record) (h : at < length sheet) (e : first_record (drop at sheet) ≡ Is r) where
+  module _ (r : Record) (h : at < length sheet) (e : first_record (drop at sheet) ≡ Some r) where
     record_here : fault_from n sheet marks at ≡ or_else (index_fault n r)
         (or_else (repeat_fault (get_or marks r.patch 0)) (fault_from n sheet (set marks r.patch 1) (at + record_size r.bits)))
     unfolding records_fault
@@ -101,11 +108,11 @@ module _ (n : ℕ) (sheet : List ℕ) (next at : ℕ) where
   unfolding canonical_fault
   canonical_end h = rw (records_end (drop at sheet) (length-drop at sheet ∙ omega arith)) refl
 
-  pub canonical_cut : at < length sheet → first_record (drop at sheet) ≡ Cut → canonical_from n sheet next at ≡ sheet_cut
+  pub canonical_cut : at < length sheet → first_record (drop at sheet) ≡ None → canonical_from n sheet next at ≡ sheet_cut
   unfolding canonical_fault
   canonical_cut h e = rw (records_cut (drop at sheet) (some_left sheet at h) e) refl
 
-  module _ (r : Record) (h : at < length sheet) (e : first_record (drop at sheet) ≡ Is r) where
+  module _ (r : Record) (h : at < length sheet) (e : first_record (drop at sheet) ≡ Some r) where
     canonical_here : canonical_from n sheet next at ≡ or_else (index_fault n r)
         (or_else (needless_fault r) (or_else (rising_fault next r) (canonical_from n sheet (suc r.patch) (at + record_size r.bits))))
     unfolding canonical_fault
