@@ -18,7 +18,6 @@ use Rattle.sparse.proofs.Theorems as Sizes
 use Rattle.matching.specs.Match.{Match}
 use Rattle.factors_mc64.specs.Calls.{Slices, sizes, log_factors_fault, scaled}
 use Rattle.factors_mc64.proofs.Theorems.{sizes_listed, fault_listed}
-use Rattle.factors_mc64.proofs.Outcomes.{scaled_values_lem}
 use Rattle.scaling.specs.Choice as Choice
 use Rattle.scaling.proofs.Choices.{chosen_number, choice_number, external_some}
 use Rattle.scaling.proofs.Theorems as Choices
@@ -32,7 +31,7 @@ unfolding listed within log_factors_result factors_fault
 factors_listed n matched c s old = subst (Listed log_factor_numbers) (sym (number_is (factors_fault n matched c s old))) (fault (eqb (length old) 1))
   where
     number_is : (f : ℕ) → (refusing as_number f (factors_result_of (scaled n matched c) old) (lent s old)).answer ≡ f
-    number_is zero = (scaled_values_lem n matched).0
+    number_is zero = refl
     number_is (suc f) = refl
 
     fault : (t : Bool) → Listed log_factor_numbers (cond t (log_factors_fault n matched c s) (sizes n false))

@@ -1,0 +1,9 @@
+-- What the builder promises of its answer by numbers is promised of the number over C.
+use Rattle.refusal.specs.Listed.{graph_numbers}
+use Rattle.suontarvi.proofs.Counted.{counted}
+use Rattle.suontarvi.proofs.graph_calls.suontarvi_general_graph.Goals as goal
+
+pub returns : goal.returns
+returns c =
+    let built = c.build_general_graph.ensures in
+    counted graph_numbers c.build_general_graph.result c.told.ensures built.outcome built.number
