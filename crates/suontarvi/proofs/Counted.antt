@@ -8,14 +8,14 @@ use Rattle.refusal.proofs.Numbers.{fault_numbered}
 use Rattle.slices.specs.Outcome.{outcome_is, Outcome}
 use Rattle.suontarvi.specs.Numbered.{Promises}
 
-module _ {S : Type 0} (numbers : List ℕ) (made : Result ℕ Refusal) {r : ℕ} (q : r ≡ number_of made) where
+module _ (made : Result ℕ Refusal) {r : ℕ} (q : r ≡ number_of made) where
   -- a number over C is that of the answer by numbers
   pub number_told : r ≡ fault_of (numbered made)
   number_told = q ∙ sym (fault_numbered made)
 
-  pub counted : {after : S} {does : Outcome (Result ℕ ℕ) S} → outcome_is (numbered made) after ≡ does → OneOf numbers (fault_of (numbered made))
+  pub counted : {S : Type 0} (numbers : List ℕ) {after : S} {does : Outcome (Result ℕ ℕ) S} → outcome_is (numbered made) after ≡ does → OneOf numbers (fault_of (numbered made))
       → Promises numbers does r after
-  counted e l =
+  counted {S} numbers e l =
       record {
         outcome = (number_told ∙ ap (λ (o : Outcome (Result ℕ ℕ) S). fault_of o.answer) e, ap (λ (o : Outcome (Result ℕ ℕ) S). o.after) e);
         number = subst (OneOf numbers) (sym number_told) l;

@@ -18,12 +18,12 @@ read_factors-requires-clause-duals c =
 pub read_factors-requires-clause-perm_len : goal.read_factors-requires-clause-perm_len
 read_factors-requires-clause-perm_len c =
     let a = c.args in
-    (factors_sized a.n a.matched a.perm.now a.u.now a.v.now a.cmax.now a.factors.now a.unmatched.now c.in_default.ensures refl).1.0
+    (factors_sized a.n a.matched a.perm.now a.u.now a.v.now a.cmax.now a.factors.now a.unmatched.now c.in_default.ensures refl).1
 
 pub read_factors-requires-clause-factors_len : goal.read_factors-requires-clause-factors_len
 read_factors-requires-clause-factors_len c =
     let a = c.args in
-    (factors_sized a.n a.matched a.perm.now a.u.now a.v.now a.cmax.now a.factors.now a.unmatched.now c.in_default.ensures refl).1.1
+    (factors_sized a.n a.matched a.perm.now a.u.now a.v.now a.cmax.now a.factors.now a.unmatched.now c.in_default.ensures refl).2
 
 pub returns : goal.returns
 returns c =

@@ -18,7 +18,8 @@ read_sides-requires-clause-duals c =
 pub read_sides-requires-clause-row_factors_len : goal.read_sides-requires-clause-row_factors_len
 read_sides-requires-clause-row_factors_len c =
     let a = c.args in
-    (sides_sized a.n a.u.now a.v.now a.cmax.now a.row_factors.now a.column_factors.now c.in_default.ensures refl).1
+    let s = sides_sized a.n a.u.now a.v.now a.cmax.now a.row_factors.now a.column_factors.now c.in_default.ensures refl in
+    (s.1, s.2)
 
 pub returns : goal.returns
 returns c = sides_number _ _ _ _ _ _ (sides_result _ _ _ _ _ _ c.in_default.ensures refl c.read_sides.ensures)

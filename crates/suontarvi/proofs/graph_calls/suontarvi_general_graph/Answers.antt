@@ -6,4 +6,4 @@ use Rattle.suontarvi.proofs.graph_calls.suontarvi_general_graph.Goals as goal
 pub returns : goal.returns
 returns c =
     let built = c.build_general_graph.ensures in
-    counted graph_numbers c.build_general_graph.result c.told.ensures built.outcome built.number
+    counted c.build_general_graph.result c.told.ensures graph_numbers built.outcome built.number

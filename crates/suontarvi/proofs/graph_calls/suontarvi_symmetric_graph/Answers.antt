@@ -6,4 +6,4 @@ use Rattle.suontarvi.proofs.graph_calls.suontarvi_symmetric_graph.Goals as goal
 pub returns : goal.returns
 returns c =
     let built = c.build_cost_graph.ensures in
-    counted symmetric_graph_numbers c.build_cost_graph.result c.told.ensures built.outcome built.number
+    counted c.build_cost_graph.result c.told.ensures symmetric_graph_numbers built.outcome built.number

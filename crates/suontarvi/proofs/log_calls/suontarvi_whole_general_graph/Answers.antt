@@ -8,6 +8,6 @@ pub returns : goal.returns
 returns c =
     let built = c.whole_general_graph.ensures in
     record {
-      graph = counted whole_general_numbers c.whole_general_graph.result c.told.ensures built.outcome built.number;
-      optimal = λ z. built.optimal (sym (number_told whole_general_numbers c.whole_general_graph.result c.told.ensures) ∙ z);
+      graph = counted c.whole_general_graph.result c.told.ensures whole_general_numbers built.outcome built.number;
+      optimal = λ z. built.optimal (sym (number_told c.whole_general_graph.result c.told.ensures) ∙ z);
     }

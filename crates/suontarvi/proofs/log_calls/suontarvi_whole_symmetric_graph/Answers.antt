@@ -8,6 +8,6 @@ pub returns : goal.returns
 returns c =
     let built = c.whole_symmetric_graph.ensures in
     record {
-      graph = counted whole_symmetric_numbers c.whole_symmetric_graph.result c.told.ensures built.outcome built.number;
-      optimal = λ z. built.optimal (sym (number_told whole_symmetric_numbers c.whole_symmetric_graph.result c.told.ensures) ∙ z);
+      graph = counted c.whole_symmetric_graph.result c.told.ensures whole_symmetric_numbers built.outcome built.number;
+      optimal = λ z. built.optimal (sym (number_told c.whole_symmetric_graph.result c.told.ensures) ∙ z);
     }

@@ -8,5 +8,5 @@ use Rattle.suontarvi.proofs.matrices.suontarvi_triplets_general.Goals as goal
 pub returns : goal.returns
 returns c =
     let made = c.from_triplets.result in
-    counted general_triplet_numbers made c.told.ensures c.from_triplets.ensures.outcome
+    counted made c.told.ensures general_triplet_numbers c.from_triplets.ensures.outcome
     (subst (OneOf general_triplet_numbers) (sym (fault_numbered made)) c.from_triplets.ensures.number)

@@ -8,5 +8,5 @@ use Rattle.suontarvi.proofs.matrices.suontarvi_triplets_symmetric.Goals as goal
 pub returns : goal.returns
 returns c =
     let made = c.from_triplets.result in
-    counted symmetric_triplet_numbers made c.told.ensures c.from_triplets.ensures.outcome
+    counted made c.told.ensures symmetric_triplet_numbers c.from_triplets.ensures.outcome
     (subst (OneOf symmetric_triplet_numbers) (sym (fault_numbered made)) c.from_triplets.ensures.number)
