@@ -1,6 +1,6 @@
 -- Each turn of the loop lays down one factor more; after the last all are laid down.
 use Rattle.std.proofs.Common.{◌≡◌, ◌∙◌, ◌<◌, arith}
-use Rattle.matching.specs.Match.{Match, match_of}
+use Rattle.matching.specs.Match.{match_of}
 use Rattle.factors_mc64.specs.Factors.{factor_at}
 use Rattle.byte_numbers.specs.Bytes.{doubles}
 use Rattle.byte_forms.proofs.ByteFactors.{laid_none, laid_more, laid_all, factor_read}

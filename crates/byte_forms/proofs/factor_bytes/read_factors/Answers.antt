@@ -1,6 +1,6 @@
 -- The pairs that were read are refused, or the factors are laid down. The parts of the local arrays are as read_all and
 -- mark_rows left them.
-use Rattle.std.proofs.Common.{◌≡◌, ◌∙◌, ℕ, List, refl, sym, ap, arith, rules}
+use Rattle.std.proofs.Common.{◌≡◌, ◌∙◌, ℕ, List, refl, sym, ap, rules}
 use Rattle.refusal.specs.Number.{number, number_of}
 use Rattle.refusal.proofs.Numbers.{number_ne_zero}
 use Rattle.matching.specs.Match.{match_of}
@@ -19,9 +19,9 @@ returns-in_err-matching_fault c =
     let e = c.in_err-matching_fault.field-0.0 in
     let same : number_of c.from_residual.result ≡ number e = search rules in
     let held = part_holds a.n 256 _ c.read_all.new.out c.requires.duals.columns c.read_all.auto.out
-        (words a.perm.now) c.read_all.ensures in
+    (words a.perm.now) c.read_all.ensures in
     rw same (pairs_refused a.n a.matched a.perm.now a.u.now a.v.now a.cmax.now _ _
-        (c.in_err-matching_fault.ensures ∙ ap (matching_fault a.n a.matched) held) (number_ne_zero e))
+    (c.in_err-matching_fault.ensures ∙ ap (matching_fault a.n a.matched) held) (number_ne_zero e))
 
 pub mark_rows-requires-clause-rows : goal.mark_rows-requires-clause-rows
 mark_rows-requires-clause-rows c =
@@ -41,7 +41,7 @@ unfolding words
 returns c =
     let a = c.args in
     let held = part_holds a.n 256 _ c.read_all.new.out c.requires.duals.columns c.read_all.auto.out
-        (words a.perm.now) c.read_all.ensures in
+    (words a.perm.now) c.read_all.ensures in
     pairs_laid a.n a.matched a.perm.now a.u.now a.v.now a.cmax.now _ _
     (c.in_ok-matching_fault.ensures ∙ ap (matching_fault a.n a.matched) held) refl
     (c.put_factors.ensures ∙ ap (λ (p : List ℕ). double_bytes (symmetric_factors a.n
