@@ -9,7 +9,7 @@ use Rattle.float64.proofs.Scale.{mag_of_value}
 use Rattle.float64.proofs.Bits.{bits_are, pattern, no_nan}
 use Rattle.float64.proofs.Normalised.{normal_scaling}
 use Rattle.square_root.specs.Root.{square, root_of, sqrt_of, value_of}
-use Rattle.square_root.specs.declared.Root.TheVariants.{Is}
+use Rattle.std.specs.Prelude.{Ok}
 use Rattle.square_root.specs.inner.Steps.{WholeRoot}
 use Rattle.square_root.proofs.Whole.{expanded, next_square}
 use Rattle.square_root.proofs.Frame.{root_bits_lem, scaled_square}
@@ -59,6 +59,33 @@ pub record Differences (n a b over t d left : ℕ) : Type 0 where
   pub d_small : d < 2 ^ 58
   pub left_small : left < 2 ^ 58
 
+-- x less y, modulo 2 ^ 64, as `wrapping_sub` makes it
+abbrev pub less : ℕ → ℕ → ℕ
+less x y = (x + (2 ^ 64 - y)) % 2 ^ 64
+
+less_back : (x y : ℕ) → x < 2 ^ 64 → y ≤ 2 ^ 64 → (less x y + y) % 2 ^ 64 ≡ x
+less_back x y h k = omega arith
+
+pub differences : (n a b q : ℕ) → n < 2 ^ 64 → a < 2 ^ 27 → b < 2 ^ 27 → a * 2 ^ 27 + b ≡ q → let over = less n (a * a) in
+    let t = less (over * 2 ^ 26 % 2 ^ 64) (a * b) in
+    let d = less (t * 2 ^ 28 % 2 ^ 64) (b * b) in
+    let left = less (4 * q + 3) d in
+    over < 2 ^ 30 → t < 2 ^ 30 → d < 2 ^ 58 → left < 2 ^ 58 → Differences n a b over t d left
+differences n a b q h l m e over_small t_small d_small left_small =
+    let aa : a * a ≤ 2 ^ 27 * 2 ^ 27 = mul-le-mul (le_of_lt l) (le_of_lt l) in
+    let ab : a * b ≤ 2 ^ 27 * 2 ^ 27 = mul-le-mul (le_of_lt l) (le_of_lt m) in
+    let bb : b * b ≤ 2 ^ 27 * 2 ^ 27 = mul-le-mul (le_of_lt m) (le_of_lt m) in
+    record {
+      over-is = less_back n (a * a) h (omega arith);
+      t_is = less_back _ (a * b) (omega arith) (omega arith);
+      d_is = less_back _ (b * b) (omega arith) (omega arith);
+      left_is = less_back (4 * q + 3) _ (omega arith) (omega arith) ∙ omega arith;
+      over_small = over_small;
+      t_small = t_small;
+      d_small = d_small;
+      left_small = left_small;
+    }
+
 module _ {n a b over t d left : ℕ} (s : Differences n a b over t d left) (a_small : a < 2 ^ 27) (b-small : b < 2 ^ 27) where
   balance : n * 2 ^ 54 ≡ (a * 2 ^ 27 + b) * (a * 2 ^ 27 + b) + d
   balance =
@@ -82,7 +109,7 @@ zero_bits : (e : ℤ) → to_bits binary64 (fin false zero e) ≡ 0
 unfolding size
 zero_bits e = bits_are (fin false zero e) tt ∙ ap (pattern false) (mag_of_value (fin false zero e) false 0 (refl, omega arith))
 
-answer : (z : Float) → T (not (is_nan z)) → 0 < to_bits binary64 z → to_bits binary64 z < 2047 * 2 ^ 52 → sqrt_of z ≡ Is (root_of (square z))
+answer : (z : Float) → T (not (is_nan z)) → 0 < to_bits binary64 z → to_bits binary64 z < 2047 * 2 ^ 52 → sqrt_of z ≡ Ok (root_of (square z))
 unfolding sqrt_of is_nan
 answer nan n l h = absurd n
 answer (inf true) n l h = absurd (let k : 2 ^ 63 + 2047 * 2 ^ 52 < 2047 * 2 ^ 52 = unfold to_bits in h in omega arith)
@@ -91,25 +118,13 @@ answer (fin true m e) n l h = absurd (let k = bits_are (fin true m e) tt in omeg
 answer (fin false zero e) n l h = absurd (let k = zero_bits e in omega arith)
 answer (fin false (suc m) e) n l h = refl
 
-answer_of_lem : (b : ℕ) → 0 < b → b < 2047 * 2 ^ 52 → sqrt_of (of_bits binary64 b) ≡ Is (root_of (square (of_bits binary64 b)))
+answer_of_lem : (b : ℕ) → 0 < b → b < 2047 * 2 ^ 52 → sqrt_of (of_bits binary64 b) ≡ Ok (root_of (square (of_bits binary64 b)))
 answer_of_lem b l h =
     let n = subst (λ (t : Bool). T (not t)) (nan_bits_is binary64 b) (no_nan b h) in
     let e = to_bits-of_bits binary64 b (omega arith) n in
     answer (of_bits binary64 b) n (omega arith) (omega arith)
 
 -- ---- the check
-
--- the products that the code makes
-pub record Products (p : ℕ) : Type 0 where
-  pub aa : (2 * p - 1) / 2 ^ 27 * ((2 * p - 1) / 2 ^ 27) ≤ 2 ^ 54
-  pub ab : (2 * p - 1) / 2 ^ 27 * ((2 * p - 1) % 2 ^ 27) ≤ 2 ^ 54
-  pub bb : (2 * p - 1) % 2 ^ 27 * ((2 * p - 1) % 2 ^ 27) ≤ 2 ^ 54
-
-pub products : (p : ℕ) → p < 2 ^ 53 → Products p
-products p h =
-    let a : (2 * p - 1) / 2 ^ 27 ≤ 2 ^ 27 = omega arith in
-    let b : (2 * p - 1) % 2 ^ 27 ≤ 2 ^ 27 = omega arith in
-    record { aa = mul-le-mul a a; ab = mul-le-mul a b; bb = mul-le-mul b b }
 
 pub checked : (bits p : ℕ) {n a b over t d left : ℕ} → n ≡ under_root bits → 2 ^ 52 ≤ bits → bits < 2047 * 2 ^ 52
     → a * 2 ^ 27 + b + 1 ≡ 2 * p → a < 2 ^ 27 → b < 2 ^ 27 → Differences n a b over t d left

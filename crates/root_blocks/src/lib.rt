@@ -120,10 +120,10 @@ fn excess(bits: u64, p: u64) -> u64
     let a = q / 0x800_0000;
     let b = q % 0x800_0000;
     let n = under_root(bits);
-    let over = std::num::wrapping_sub_u64(n, a * a);
-    let t = std::num::wrapping_sub_u64(over << 26, a * b);
-    let d = std::num::wrapping_sub_u64(t << 28, b * b);
-    let left = std::num::wrapping_sub_u64(4 * q + 3, d);
+    let over = n.wrapping_sub(a * a);
+    let t = (over << 26).wrapping_sub(a * b);
+    let d = (t << 28).wrapping_sub(b * b);
+    let left = (4 * q + 3).wrapping_sub(d);
     far(over, t) + wide(d, left) + not_normal(bits / ONE_UP)
 }
 
@@ -177,8 +177,8 @@ fn off_line(bits: &[u64]) -> u64
     requires { length bits.now ≡ 16 }
 {
     let mut off = 0;
-    for i in 0..BLOCK {
-        off += (above_one(bits[i]) + 0x400_0000) % 0x20_0000_0000_0000 / 0x800_0000;
+    for b in bits {
+        off += (above_one(*b) + 0x400_0000) % 0x20_0000_0000_0000 / 0x800_0000;
     }
     off
 }

@@ -1,6 +1,7 @@
 -- SPECIFICATION 9: The square root of a double, twice: as what IEEE 754 asks of it (`Answer`), and as a definition that
 -- computes (`sqrt_of`). proofs/Laws.antt shows that the second is the first, and that the first leaves no choice.
-use Rattle.std.specs.Prelude.{◌≡◌, true, false, cond, ℕ, zero, suc, ◌+◌, ◌-◌, ◌*◌, ◌/◌, ◌^◌, ◌<◌, leb, Result, Ok, Err, Float}
+use Rattle.std.specs.Prelude.{◌≡◌, true, false, cond, ℕ, zero, suc, ◌+◌, ◌-◌, ◌*◌, ◌/◌, ◌^◌, ◌<◌, leb, Float}
+use Rattle.std.specs.Prelude.{Result, Ok, Err}
 use Rattle.std.specs.Float.{nan, inf, fin, binary64}
 use Rattle.std.specs.Float.Ieee.{size, units}
 use Rattle.float64.specs.Number.{Number, negative, magnitude, units_per_one}
@@ -25,8 +26,8 @@ root_fault (fin false (suc m) e) = accepted
 
 -- ---- units
 
--- In units of 2 ^ -1074, of which x has magnitude x and the number 1 has `units_per_one`, the exact root of x is √(square
--- x): it is √(magnitude x / one) times `units_per_one`.
+-- In units of 2 ^ -1074, of which x has magnitude x and the number 1 has `units_per_one`, the exact root of x is
+-- √(square x): it is √(magnitude x / one) times `units_per_one`.
 unfoldable pub square : Float → ℕ
 unfolding magnitude units_per_one
 square x = magnitude x * units_per_one

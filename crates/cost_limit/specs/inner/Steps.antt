@@ -7,4 +7,5 @@ use Rattle.float64.specs.inner.Keys.{Ordered}
 pub record Bound (e n : ℕ) (limit : Float) : Type 0 where
   pub ordered : Ordered limit
   pub sign : negative limit ≡ false
-  pub same : (x : Float) → Number x → ltb (magnitude x) (magnitude limit) ≡ ltb (n * magnitude x) (2 ^ e * units_per_one)
+  pub same : (x : Float) → Number x
+      → ltb (magnitude x) (magnitude limit) ≡ ltb (n * magnitude x) (2 ^ e * units_per_one)

@@ -1,5 +1,6 @@
 -- What stands in the lanes and in the words that are made of them.
-use Rattle.std.specs.Prelude.{◌≡◌, List, cond, ℕ, ◌+◌, ◌*◌, ◌^◌, ◌≤◌, ◌<◌, ltb, Result, Ok, Err, ℤ, Float, length, get_or}
+use Rattle.std.specs.Prelude.{◌≡◌, List, cond, ℕ, ◌+◌, ◌*◌, ◌^◌, ◌≤◌, ◌<◌, ltb, ℤ, Float, length, get_or}
+use Rattle.std.specs.Prelude.{Result, Ok, Err}
 use Rattle.std.specs.Float.{nan}
 use Rattle.refusal.specs.Refusal.{value_not_finite}
 use Rattle.whole_log.specs.Log.{log_from, from_units, whole_log}

@@ -1,5 +1,6 @@
 -- What the functions of a block promise: the bits of its numbers, the check of one candidate, and the roots.
-use Rattle.std.specs.Prelude.{◌≡◌, ℕ, ◌+◌, ◌*◌, ◌/◌, ◌%◌, ◌^◌, ◌<◌, true, not, T, List, from_bits, slice_index, slice_index_or, to_bits, Float}
+use Rattle.std.specs.Prelude.{◌≡◌, ℕ, ◌+◌, ◌*◌, ◌/◌, ◌%◌, ◌^◌, ◌<◌, true, not, T, List, Float}
+use Rattle.std.specs.Prelude.{from_bits, slice_index, slice_index_or, to_bits}
 use Rattle.std.specs.Float.{nan, binary64}
 use Rattle.std.specs.Float.Ieee.{lt, fits, nan_bits}
 use Rattle.float64.specs.Constants as Constants
@@ -7,7 +8,8 @@ use Rattle.square_root.specs.Root.{value_of, sqrt_of}
 
 -- b has the bits of x, if x is above zero, and never those of a NaN
 abbrev pub BitsOf : Float → ℕ → Type 0
-BitsOf x b = T (not (nan_bits binary64 b)) × (lt Constants.zero x ≡ true → (b ≡ to_bits binary64 x) × T (fits binary64 x))
+BitsOf x b = T (not (nan_bits binary64 b))
+    × (lt Constants.zero x ≡ true → (b ≡ to_bits binary64 x) × T (fits binary64 x))
 
 -- the digits of the double with these bits, doubled if its exponent is even
 abbrev pub under_root : ℕ → ℕ
