@@ -3,7 +3,7 @@ use mathlib.Core.Path.{◌≡◌, refl, sym, ap, ◌∙◌, subst}
 use mathlib.Core.Logic.{◌≢◌}
 use mathlib.Core.Bool.{Bool, true, false, cond, true≢false}
 use mathlib.Core.List.{List, [], ◌∷◌}
-use Prim.Native.Nat.{ℕ, zero, suc, ◌≤◌, ◌<◌}
+use Prim.Native.Nat.{ℕ, ◌≤◌, ◌<◌}
 use native.Mathlib.Omega.{arith}
 use borrow.Author.Tests.{leb-true, leb-false, le-leb, lt-leb, eq-eqb, ne_eqb}
 use lib.Dec.{leb}
@@ -11,12 +11,10 @@ use lib.ListN.{length, set}
 use Rattle.std.specs.Prelude.{Result, Ok, Err}
 use Rattle.limits.specs.Limits.{max_symmetric}
 use Rattle.refusal.specs.Refusal.{index_range}
-use Rattle.refusal.specs.Number.{fault_of}
 use Rattle.refusal.specs.Listed.{listed, OneOf, rule_numbers}
 use Rattle.slices.proofs.Lists.{only}
 use Rattle.slices.specs.Outcome.{outcome_is, Outcome, as_number, refusing}
 use Rattle.slices.proofs.Refusing.{refused_is, refusing_over}
-use Rattle.sparse.specs.Validate.{size_fault}
 use Rattle.sparse.proofs.Accepted.{sizes_accepted}
 use Rattle.sparse.proofs.Listed.{Listed, within, part}
 use Rattle.sparse.proofs.Theorems.{size_numbers, sizes_listed}

@@ -10,7 +10,6 @@ use Rattle.slices.specs.Outcome.{Outcome, outcome_is, as_number, refusing}
 use Rattle.sparse.specs.Validate.{size_fault}
 use Rattle.matching.specs.Match.{Match}
 use Rattle.factors_mc64.specs.declared.Scaled.{Scaled}
-use Rattle.factors_mc64.specs.declared.Scaled.TheVariants.{Applied, PartialSingular}
 use Rattle.factors_mc64.specs.Calls.{Slices, unmatched_of}
 use Rattle.factors_flat.specs.declared.Rule.{Rule}
 use Rattle.factors_flat.specs.declared.Rule.TheVariants.{Identity, Flat}

@@ -1,13 +1,11 @@
 -- `factors_by_number`: no rule, a wrong length, the refusal of the rule's call, or its unmatched count.
-use Rattle.std.proofs.Common.{◌≡◌, refl, sym, ap, ◌∙◌, rules}
-use Rattle.std.specs.Prelude.{ℕ, Ok, Err}
+use Rattle.std.proofs.Common.{◌≡◌, sym, ap, ◌∙◌, rules}
+use Rattle.std.specs.Prelude.{Ok, Err}
 use Rattle.sparse.specs.Matrix.{matrix}
 use Rattle.matching.specs.Match.{match_of}
 use Rattle.factors_mc64.specs.Calls.{Slices, slices, unmatched_of}
 use Rattle.factors_mc64.specs.declared.Scaled.{Scaled}
-use Rattle.factors_flat.specs.declared.Rule.{Rule}
 use Rattle.factors_flat.specs.Flat.{Input, input}
-use Rattle.factors_flat.specs.ByNumber.{unfit_fault}
 use Rattle.factors_flat.proofs.Numbers.{rule_found, rule_missing, no_rule, unfit, refused, done}
 use Rattle.factors_flat.proofs.factors_by_number.Goals as goal
 use Rattle.factors_flat.proofs.factors_by_number.Goals.{After-rule_for, in-Applied, in-PartialSingular}
@@ -49,8 +47,8 @@ returns c =
     let r = rule_found c.args.number c.in_ok-rule.ensures in
     let count : c.match-scaled.unmatched ≡ unmatched_of (Ok c.in_ok-scaled.scaled) =
     elim c.match-scaled.branch [
-      in-Applied w ↦ w.unmatched-is ∙ sym (ap (λ (a : Scaled). unmatched_of (Ok a)) w.in-Applied.is)
-    | in-PartialSingular w ↦ w.unmatched-is ∙ sym (ap (λ (a : Scaled). unmatched_of (Ok a)) w.in-PartialSingular.is)
+      | in-Applied w ↦ w.unmatched-is ∙ sym (ap (λ (a : Scaled). unmatched_of (Ok a)) w.in-Applied.is)
+      | in-PartialSingular w ↦ w.unmatched-is ∙ sym (ap (λ (a : Scaled). unmatched_of (Ok a)) w.in-PartialSingular.is)
     ] in
     done c.args.number c.args.matched (given s) (lent s) c.args.unmatched.now r.0 c.if-unmatched-ne1.false r.1
     c.in_ok-scaled.ensures _ count

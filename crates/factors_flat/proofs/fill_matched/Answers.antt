@@ -1,5 +1,4 @@
 -- `fill_matched`: cleared work is marked by rows, the factors are filled, the work is marked by indices.
-use Rattle.std.proofs.Common.{arith}
 use Rattle.matching.specs.Match.{match_of}
 use Rattle.factors_mc64.proofs.Loops.{no_marks_lem}
 use Rattle.factors_flat.proofs.Ends.{marked_start, levelled_start}
