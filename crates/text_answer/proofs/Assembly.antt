@@ -1,5 +1,4 @@
--- Entries with costs as triplets: assembling them requires nothing more, the kept count tells whether a pair repeats, and what is built is the
--- file's graph.
+-- Entries with costs as triplets: the kept count tells whether a pair repeats, and what is built is the file's graph.
 use mathlib.Core.Path.{◌≡◌, refl, sym, ap, ◌∙◌, subst}
 use mathlib.Core.Logic.{◌≢◌}
 use mathlib.Core.Bool.{true, false, not}
@@ -29,32 +28,6 @@ use Rattle.text_answer.proofs.Graphs.{has_text}
 module _ {n : ℕ} {rows cols : List ℕ} {values : List Float} {output : List ℕ} (S : Entries General n rows cols values output) where
   abbrev t : Triplets
   t = triplets rows cols values
-
-  -- what the assembly asks of the slices that are lent for the matrix, and of the work
-  pub sized : {col_ptr work : List ℕ} → length col_ptr ≡ n + 1 → length work ≡ 2 * n + 2 + length rows → Sized n rows cols col_ptr work
-  sized p w = record {
-    columns = omega (arith, S.held.few);
-    entries = omega (arith, S.held.short);
-    pairs = S.held.inside.pairs;
-    colptrs = p;
-    room = w;
-    rows_in = S.held.inside.rows_in;
-    cols_in = S.held.inside.cols_in;
-  }
-
-  pub roomy : {row_idx work : List ℕ} {cost : List Float} → length row_idx ≡ length rows → length cost ≡ length rows
-      → length work ≡ 2 * n + 2 + length rows → Roomy n rows cols values row_idx cost work
-  roomy r c w = record {
-    columns = omega (arith, S.held.few);
-    entries = omega (arith, S.held.short);
-    pairs = S.held.inside.pairs;
-    triples = ap length S.valued ∙ length-map S.weights (λ (x : ℕ). of_int binary64 (pos x)) ∙ S.held.sizes;
-    row_room = r;
-    value_room = c;
-    room = w;
-    rows_in = S.held.inside.rows_in;
-    cols_in = S.held.inside.cols_in;
-  }
 
   module _ {before after : Slices} {kept : ℕ} (b : Built n t before after kept) where
     -- fewer are kept exactly where a pair repeats

@@ -1,8 +1,9 @@
 -- From a reading to its entries: the lists that hold them are within the limits, and their text is the reading's.
 use mathlib.Core.Path.{◌≡◌, refl, sym, ap, subst, ◌∙◌}
 use mathlib.Core.Bool.{Bool, true, false, cond}
+use mathlib.Core.Logic.{◌⊎◌, inl, inr}
 use mathlib.Core.List.{List, [], ◌∷◌, map}
-use Prim.Native.Nat.{ℕ, zero, suc, ◌≤◌, ◌<◌}
+use Prim.Native.Nat.{ℕ, zero, suc, min, ◌≤◌, ◌<◌}
 use native.Mathlib.Omega.{arith}
 use borrow.Author.Tests.{leb-true, leb-false, lt-leb, lt-ltb, le-ltb}
 use lib.Dec.{leb}
@@ -13,7 +14,6 @@ use Rattle.refusal.specs.Refusal.{input_limit, repeated_pair}
 use Rattle.text_matrix_market.specs.declared.banner.Kind.{Kind}
 use Rattle.text_matrix_market.specs.declared.banner.Kind.TheVariants.{General, Symmetric, Pattern}
 use Rattle.text_matrix_market.specs.declared.stages.Entry.{Entry}
-use Rattle.text_matrix_market.specs.declared.Verdict.{Verdict}
 use Rattle.text_matrix_market.specs.File.{max_input, max_entries, Reading, file, refusal, repeated, unrepeated, file_of, reading_of}
 use Rattle.text_matrix_market.specs.File.{weight_fits, is_upper}
 use Rattle.text_matrix_market.specs.inner.Steps.{Lists, first_entries, reading_from, Places}
@@ -30,10 +30,6 @@ use Rattle.text_answer.specs.Answer.{ReportAnswer, report_written, Whole, ByInpu
 use Rattle.text_answer.specs.Answer.{text_of, graph_text, answer_text}
 use Rattle.text_answer.specs.inner.Steps.{FileEntries, Entries, entries_text}
 use Rattle.text_answer.proofs.Graphs.{as_general}
-
--- ---- what was read, by the verdict
-pub by_verdict : {v w : Verdict} {r : Reading} (l : Lists) → v ≡ w → reading_from v l ≡ r → reading_from w l ≡ r
-by_verdict l q e = sym (ap (λ (x : Verdict). reading_from x l) q) ∙ e
 
 -- ---- what the limits say of an entry, by its tests
 weight_fits_lem : (kind : Kind) (n : ℕ) (weight : ℕ) → WeightWithin kind n weight → weight_fits kind n weight ≡ true
@@ -144,6 +140,21 @@ pub told_in_kind : (form : Form) {kind other : Kind} (n : ℕ) (rows cols weight
     → reported ≡ report_written (entries_text form other n rows cols weights) old → reported ≡ report_written (entries_text form kind n rows cols weights) old
 told_in_kind form n rows cols weights old q e = e ∙ ap (λ (k : Kind). report_written (entries_text form k n rows cols weights) old) (sym q)
 
+-- the kinds that have costs
+abbrev pub HasCosts : Kind → Type 0
+HasCosts kind = (kind ≡ General) ⊎ (kind ≡ Pattern)
+
+pub cost_entries : {kind : Kind} {n : ℕ} {rows cols weights : List ℕ} {values : List Float} {output : List ℕ} → HasCosts kind
+    → FileEntries kind n rows cols weights output → values ≡ cost_values weights → Entries General n rows cols values output
+cost_entries (inl q) f v = as_entries q f v
+cost_entries (inr q) f v = pattern_values (as_entries q f v)
+
+pub cost_told : (form : Form) {kind : Kind} (n : ℕ) (rows cols weights old : List ℕ) {reported : ReportAnswer} → HasCosts kind
+    → reported ≡ report_written (entries_text form General n rows cols weights) old → reported ≡ report_written (entries_text form kind n rows cols weights) old
+cost_told form n rows cols weights old (inl q) e = told_in_kind form n rows cols weights old q e
+cost_told form n rows cols weights old (inr q) e =
+    told_in_kind form n rows cols weights old q (e ∙ ap (λ (text : List ℕ). report_written text old) (pattern_text form n rows cols weights))
+
 -- ---- a reading that is refused
 pub refused_text_lem : (form : Form) {number : ℕ} (input : List ℕ) → refusal number ≡ reading_of input → refused_text number ≡ answer_text form input
 unfolding answer_text text_of file_of
@@ -178,6 +189,15 @@ module _ (form : Form) (count : ℕ) (buffer old : List ℕ) {reported : ReportA
     λ k f. w input same ∙ ap (λ (r : Reading). report_written (text_of form r) old) ((refused_exactly input k).1 f),
   )
 
-  -- a full buffer
-  pub full : length buffer ≤ count → reported ≡ report_written (answer_text form buffer) old → reported ≡ report_written (answer_text form (take count buffer)) old
-  full h e = e ∙ ap (λ (l : List ℕ). report_written (answer_text form l) old) (sym (take_all count buffer h))
+-- the bytes that were read, at most as many as the buffer takes
+pub clipped : (count : ℕ) (buffer : List ℕ) {read : ℕ} → length buffer ≡ buffer_length → read ≡ min count buffer_length → take read buffer ≡ take count buffer
+clipped count buffer {read} h e = by (leb count buffer_length) refl
+  where
+    by : (t : Bool) → leb count buffer_length ≡ t → take read buffer ≡ take count buffer
+    by true l =
+        let few : count ≤ buffer_length = leb-true _ _ l in
+        let same : read ≡ count = omega arith in
+        ap (λ (k : ℕ). take k buffer) same
+    by false l =
+        let many : buffer_length < count = leb-false _ _ l in
+        take_all read buffer (omega arith) ∙ sym (take_all count buffer (omega arith))

@@ -1,4 +1,4 @@
--- The entries of a symmetric file: they are what the builder of their graph asks for, the graph that it leaves has a text, and that is theirs.
+-- The entries of a symmetric file: the graph that the builder leaves of them has a text, and that is theirs.
 use mathlib.Core.Path.{◌≡◌, refl, sym, ap, subst, ◌∙◌}
 use mathlib.Core.Bool.{true}
 use mathlib.Core.List.{List}
@@ -10,8 +10,6 @@ use Rattle.triplets.specs.Built.{triplets}
 use Rattle.text_matrix_market.specs.declared.banner.Kind.TheVariants.{Symmetric}
 use Rattle.hungarian.specs.Graph.{CostGraph, graph_of}
 use Rattle.text_graph.specs.Graph.{cost_values}
-use Rattle.text_symmetric_graph.specs.declared.Mirrored.{Mirrored}
-use Rattle.text_symmetric_graph.specs.declared.Mirrored.TheVariants.{Graph, Repeated}
 use Rattle.text_symmetric_graph.specs.Graph.{SymmetricValues, triplet_graph, symmetric_graph}
 use Rattle.text_symmetric_graph.specs.inner.Steps.{HoldsGraph, Answers}
 use Rattle.text_report.specs.declared.Form.{Form}
@@ -22,18 +20,7 @@ use Rattle.text_answer.specs.inner.Steps.{Entries, entries_text, Reportable}
 use Rattle.text_answer.proofs.Graphs.{as_symmetric, has_text}
 
 module _ {n : ℕ} {rows cols : List ℕ} {values : List Float} {output : List ℕ} (S : Entries Symmetric n rows cols values output) where
-  pub symmetric_values : SymmetricValues n rows cols values
-  symmetric_values = record { weights = S.weights; held = as_symmetric S.held; valued = S.valued }
-
   module _ (graph_ptr graph_rows : List ℕ) (cost : List Float) where
-    -- what is answered, by its case
-    pub held_graph : {a : Mirrored} {kept : ℕ} → a ≡ Graph kept → Answers n (triplets rows cols values) graph_ptr graph_rows cost a
-        → HoldsGraph n (triplets rows cols values) graph_ptr graph_rows cost kept
-    held_graph q h = subst (Answers n (triplets rows cols values) graph_ptr graph_rows cost) q h
-
-    pub some_repeated : {a : Mirrored} → a ≡ Repeated → Answers n (triplets rows cols values) graph_ptr graph_rows cost a → repeats rows cols ≡ true
-    some_repeated q h = subst (Answers n (triplets rows cols values) graph_ptr graph_rows cost) q h
-
     -- the graph as it is lent on
     module _ {kept : ℕ} (H : HoldsGraph n (triplets rows cols values) graph_ptr graph_rows cost kept) {ptr idx : List ℕ} {costs : List Float}
         (p : ptr ≡ graph_ptr) (r : idx ≡ take kept graph_rows) (c : costs ≡ take kept cost) where

@@ -166,8 +166,8 @@ fn set_values(weights: &[u64], values: &mut [f64])
     requires below { Below (2 ^ 53) weights.now }
     ensures { values.new ≡ cost_values weights.now }
 {
-    for (value, &weight) in values.iter_mut().zip(weights) {
-        *value = weight as f64;
+    for (k, &weight) in weights.iter().enumerate() {
+        values[k] = weight as f64;
     }
 }
 
