@@ -59,15 +59,16 @@ fn log_fits(limit: f64, value: f64, log: f64) -> bool
     !is_kept(value) | fits
 }
 
-// Refusal 8. The loop has no early exit, so that it can test several entries at a time.
+// Refusal 8. The loop has no early exit, so that it can test several entries at a time; over a `zip` of the slices it
+// tests them one by one, which takes a quarter longer.
 fn logs_fault(n: u32, values: &[f64], logs: &[f64]) -> Result<(), Refusal>
     requires { (n ≤ max_columns) × (length logs.now ≡ length values.now) }
     ensures { number_of result ≡ logs_fault n values.now logs.now }
 {
     let limit = cost_limit::log_limit(n);
     let mut fine = true;
-    for (&value, &log) in values.iter().zip(logs) {
-        fine &= log_fits(limit, value, log);
+    for k in 0..values.len() {
+        fine &= log_fits(limit, values[k], logs[k]);
     }
     if fine {
         Ok(())

@@ -5,5 +5,5 @@ use Rattle.sparse.proofs.Alike.{Tested}
 use Rattle.mc64_general.proofs.Fits.{fits, some}
 use Rattle.mc64_general.proofs.logs_fault.Given as goal
 
-abbrev pub invariant-loop-value : goal.invariant-loop-value
-invariant-loop-value l = Tested (fits l.n l.values l.logs) cost_range (length l.values) some l.fine (length l.yielded)
+abbrev pub invariant-loop-k : goal.invariant-loop-k
+invariant-loop-k l = Tested (fits l.n l.values l.logs) cost_range (length l.values) some l.fine l.k
