@@ -35,7 +35,8 @@ unfoldable pub general_column : ℕ → List ℕ → ℕ → ℕ → ℕ
 general_column n rows from to = first_of (to - from) (general_entry n rows from) from
 
 unfoldable pub general_columns : ℕ → List ℕ → List ℕ → ℕ
-general_columns n col_ptr rows = first_of n (λ j. general_column n rows (get_or col_ptr j 0) (get_or col_ptr (suc j) 0)) 0
+general_columns n col_ptr rows =
+    first_of n (λ j. general_column n rows (get_or col_ptr j 0) (get_or col_ptr (suc j) 0)) 0
 
 -- 1, 2, 3, 4, then 5 and 7 of each entry: the tests of a general matrix without its values, with the lengths of all
 -- slices in the place of 3
@@ -64,7 +65,8 @@ abbrev pub symmetric_column : ℕ → List ℕ → ℕ → ℕ → ℕ → ℕ
 symmetric_column n rows j from to = or_else (lower_column n rows j from to) (rising_column rows from to)
 
 unfoldable pub symmetric_columns : ℕ → List ℕ → List ℕ → ℕ
-symmetric_columns n col_ptr rows = first_of n (λ j. symmetric_column n rows j (get_or col_ptr j 0) (get_or col_ptr (suc j) 0)) 0
+symmetric_columns n col_ptr rows =
+    first_of n (λ j. symmetric_column n rows j (get_or col_ptr j 0) (get_or col_ptr (suc j) 0)) 0
 
 -- the lengths of a matrix's slices
 abbrev pub matrix_lengths : ℕ → List ℕ → List ℕ → List Float → Bool

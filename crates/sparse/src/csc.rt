@@ -8,8 +8,7 @@ ghost use Rattle.sparse.specs.Validate.{lower_column, rising_column, symmetric_c
 ghost use Rattle.sparse.specs.Validate.{symmetric_fault};
 ghost use Rattle.sparse.specs.Columns.{Pointers};
 ghost use Rattle.triplets.specs.Built.{triplets, slices, kept_count};
-ghost use Rattle.sparse.specs.Assemble.{AnswersBy, symmetric_triplet_fault};
-ghost use Rattle.sparse.specs.Assemble.{symmetric_assembly};
+ghost use Rattle.sparse.specs.Assemble.{AnswersBy, symmetric_triplet_fault, symmetric_assembly};
 
 use crate::{general, layout};
 use refusal::Refusal;

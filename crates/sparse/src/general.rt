@@ -8,8 +8,7 @@ ghost use Rattle.sparse.specs.Matrix.{matrix};
 ghost use Rattle.sparse.specs.Validate.{general_column, general_columns, pattern_fault, general_fault};
 ghost use Rattle.sparse.specs.Columns.{Pointers};
 ghost use Rattle.triplets.specs.Built.{triplets, slices, kept_count};
-ghost use Rattle.sparse.specs.Assemble.{AnswersBy, general_triplet_fault};
-ghost use Rattle.sparse.specs.Assemble.{general_assembly};
+ghost use Rattle.sparse.specs.Assemble.{AnswersBy, general_triplet_fault, general_assembly};
 
 use crate::layout;
 use refusal::Refusal;
@@ -63,8 +62,8 @@ fn column_fault(n: usize, row_idx: &[u32], from: usize, to: usize) -> Result<(),
     first_fault(n, row_idx, from, to)
 }
 
-// Refusals 5 and 7 of all columns. A function for this and for `csc::columns_fault`, lent the test of a column, would be
-// longer than the two loops.
+// Refusals 5 and 7 of all columns. A function for this and for `csc::columns_fault`, lent the test of a column, would
+// be longer than the two loops.
 pub fn columns_fault(n: usize, col_ptr: &[u32], row_idx: &[u32]) -> Result<(), Refusal>
     requires col_ptr_len { length col_ptr.now ≡ n + 1 }
     requires pointers { Pointers n col_ptr.now (length row_idx.now) }

@@ -1,5 +1,6 @@
 -- The one pass over sorted triplets, for the contracts of its steps: what the first k triplets assemble to.
-use Rattle.std.specs.Prelude.{◌≡◌, List, [], ◌++◌, map, ℕ, zero, suc, ◌+◌, ◌-◌, ◌*◌, ◌≤◌, ◌<◌, Float, length, get_or, take, drop}
+use Rattle.std.specs.Prelude.{◌≡◌, List, [], ◌++◌, map, ℕ, zero, suc, ◌+◌, ◌-◌, ◌*◌, ◌≤◌, ◌<◌, Float, length, get_or}
+use Rattle.std.specs.Prelude.{take, drop}
 use Rattle.limits.specs.Limits.{max_columns, max_general}
 use Rattle.slices.specs.Lists.{keep}
 use Rattle.triplets.specs.Built.{Triplets, filled, sum_at}

@@ -16,8 +16,8 @@ sizes_are : (c : After-size_fault) → let a = c.args in
 sizes_are c =
     ap (size_fault c.args.n c.args.limit (length c.args.row_idx.now)) (
     elim c.if-col_ptr-size.branch [
-      then-col_ptr-size w ↦ w.lengths-is ∙ rw (eq-eqb _ _ w.if-col_ptr-size.true)
-    | else-col_ptr-size w ↦ w.lengths-is ∙ rw (ne_eqb _ _ w.if-col_ptr-size.false)
+      | then-col_ptr-size w ↦ w.lengths-is ∙ rw (eq-eqb _ _ w.if-col_ptr-size.true)
+      | else-col_ptr-size w ↦ w.lengths-is ∙ rw (ne_eqb _ _ w.if-col_ptr-size.false)
     ])
 
 pub returns-in_err-size_fault : goal.returns-in_err-size_fault

@@ -17,8 +17,8 @@ lower g = not (eqb g.row.LOWER 0)
 limit_is : (g : Over) → (c : After-triplet_sizes g) → c.if-this-ne0.limit ≡ cond (lower g) max_symmetric max_general
 limit_is g c =
     elim c.if-this-ne0.branch [
-      then-this-ne0 w ↦ w.limit-is ∙ rw (ne_eqb g.row.LOWER 0 w.if-this-ne0.true)
-    | else-this-ne0 w ↦ w.limit-is ∙ rw (eq-eqb g.row.LOWER 0 w.if-this-ne0.false)
+      | then-this-ne0 w ↦ w.limit-is ∙ rw (ne_eqb g.row.LOWER 0 w.if-this-ne0.true)
+      | else-this-ne0 w ↦ w.limit-is ∙ rw (eq-eqb g.row.LOWER 0 w.if-this-ne0.false)
     ]
 
 pub returns-in_err-triplet_sizes : goal.returns-in_err-triplet_sizes
@@ -54,8 +54,8 @@ pub assemble-requires : goal.assemble-requires
 assemble-requires g c =
     let a = c.args in
     let q = assembles (lower g) a.n (triplets a.rows.now a.cols.now a.vals.now)
-        (slices a.col_ptr.now a.row_idx.now a.values.now a.work.now)
-        (limit_is g (goal.at.assemble-requires g c).After-triplet_sizes) c.in_ok-triplet_sizes.ensures c.in_ok-triplets_fault.ensures in
+    (slices a.col_ptr.now a.row_idx.now a.values.now a.work.now)
+    (limit_is g (goal.at.assemble-requires g c).After-triplet_sizes) c.in_ok-triplet_sizes.ensures c.in_ok-triplets_fault.ensures in
     record { sized = q.0; roomy = q.1 }
 
 pub returns : goal.returns
