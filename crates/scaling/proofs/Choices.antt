@@ -1,5 +1,8 @@
 -- What each choice's call answers and leaves is the chooser's outcome: the equation of that call under a function of its outcome.
 -- Its number is the fault of the choice.
+use Rattle.std.proofs.Common.{Result, Ok, Err}
+use Rattle.core.specs.Result.{result_err}
+use Rattle.core.specs.Option.{unwrap_or}
 use mathlib.Core.Path.{◌≡◌, refl, sym, ap, ◌∙◌}
 use mathlib.Core.Bool.{true, ◌&&◌}
 use mathlib.Core.List.{List, [], ◌∷◌}
@@ -11,18 +14,19 @@ use lib.Ieee.{Float}
 use lib.ListN.{length, set, replicate}
 use Rattle.limits.specs.Limits.{max_symmetric}
 use Rattle.refusal.specs.Refusal.{external_choice, index_range}
+use Rattle.refusal.specs.Number.{number, number_of, fault_of}
+use Rattle.refusal.specs.declared.Refusal.{Refusal}
+use Rattle.refusal.proofs.Numbers.{number_ne_zero}
 use Rattle.slices.specs.Outcome.{outcome_is, Outcome, as_number, refusing}
 use Rattle.slices.proofs.Refusing.{refused_is}
 use Rattle.float64.specs.Constants as Constants
 use Rattle.sparse.specs.Matrix.{Matrix}
 use Rattle.sparse.specs.Validate.{size_fault}
-use Rattle.sparse.proofs.First.{or-zero}
-use Rattle.hungarian.specs.Match.{hungarian_match}
-use Rattle.factors_mc64.proofs.Outcomes.{scaled_values_lem}
+use Rattle.sparse.specs.Fault.{or_else}
+use Rattle.sparse.proofs.First.{or-zero, or-none, answer_first}
 use Rattle.mc64_columns.specs.Graphs as Graphs
 use Rattle.hungarian_match.specs.Call as Match
 use Rattle.factors_mc64.specs.declared.Scaled.{Scaled}
-use Rattle.factors_mc64.specs.declared.Scaled.TheVariants as scaled
 use Rattle.factors_mc64.specs.Calls as Factors
 use Rattle.infnorm_factors.specs.Factors.{onepass_factors}
 use Rattle.infnorm.specs.Call as Infnorm
@@ -31,51 +35,58 @@ use Rattle.mc64.specs.Call as Mc64
 use Rattle.scaling.specs.declared.ScalingStrategy.{ScalingStrategy}
 use Rattle.scaling.specs.declared.ScalingStrategy.TheVariants.{InfNorm, OnePassInfNorm, Mc64Symmetric, Identity, External}
 use Rattle.scaling.specs.declared.Scaling.{Scaling}
-use Rattle.scaling.specs.declared.Scaling.TheVariants.{Applied, PartialSingular, NotApplied, Refused}
-use Rattle.scaling.specs.Choice.{Slices, slices, with_factors, of_scaled, external_fault, compute_scaling, choice_fault, strategy_for}
-use Rattle.scaling.specs.Choice.{number_of, info_of, mc64_slices, chosen, no_choice}
-use Rattle.scaling.specs.inner.Answers.{unless_refused}
+use Rattle.scaling.specs.declared.Scaling.TheVariants.{Applied, PartialSingular, NotApplied}
+use Rattle.scaling.specs.Choice.{Slices, slices, with_factors, of_answer, external_fault, compute_scaling, choice_fault}
+use Rattle.scaling.specs.Choice.{mc64_slices, chosen, no_choice}
 
 -- ---- answers
-pub done_unless : {number : ℕ} {done : Scaling} → number ≡ 0 → done ≡ unless_refused number done
-done_unless e = rw e refl
+-- what was done, or the refusal
+abbrev pub unless_refused : ℕ → Scaling → Result Scaling ℕ
+unless_refused zero done = Ok done
+unless_refused (suc fault) done = Err (suc fault)
 
-pub refused_unless : (number : ℕ) (done : Scaling) → number ≢ 0 → Refused number ≡ unless_refused number done
+pub refused_unless : (number : ℕ) (done : Scaling) → number ≢ 0 → Err number ≡ unless_refused number done
 refused_unless zero done h = absurd (h refl)
 refused_unless (suc number) done h = refl
+
+-- the refusal of a test, or else another one
+pub refusal_or : {A : Type 0} (test : Result A Refusal) (other : Refusal) {fault : ℕ} → number_of test ≡ fault
+    → number (unwrap_or (result_err test) other) ≡ or_else fault (number other)
+refusal_or (Ok x) other e = sym (or-none (sym e))
+refusal_or (Err refusal) other e = answer_first (number other) e (number_ne_zero refusal)
 
 -- ---- the choices
 -- what a choice's call answers and leaves, put into the chooser's slices
 module _ (m : Matrix) (external logs : List Float) (s : Slices) where
-  abbrev by_infnorm : Outcome ℕ Infnorm.Slices → Outcome Scaling Slices
+  abbrev by_infnorm : Outcome ℕ Infnorm.Slices → Outcome (Result Scaling ℕ) Slices
   by_infnorm o = outcome_is (unless_refused o.answer Applied) (slices o.after.factors o.after.work s.graph s.pairs s.factor_work)
 
-  abbrev by_factors : Scaling → Outcome ℕ (List Float) → Outcome Scaling Slices
+  abbrev by_factors : Scaling → Outcome ℕ (List Float) → Outcome (Result Scaling ℕ) Slices
   by_factors done o = outcome_is (unless_refused o.answer done) (with_factors o.after s)
 
-  abbrev pub by_mc64 : Outcome Scaled Mc64.ScalingSlices → Outcome Scaling Slices
-  by_mc64 o = outcome_is (of_scaled o.answer) (slices o.after.scaled.factors s.maxima o.after.graph o.after.pairs o.after.scaled.work)
+  abbrev pub by_mc64 : Outcome (Result Scaled ℕ) Mc64.ScalingSlices → Outcome (Result Scaling ℕ) Slices
+  by_mc64 o = outcome_is (of_answer o.answer) (slices o.after.scaled.factors s.maxima o.after.graph o.after.pairs o.after.scaled.work)
 
-  infnorm_over : (f : ℕ) → by_infnorm (refusing as_number f (Infnorm.iterated m) (Infnorm.slices s.factors s.maxima)) ≡ refusing Refused f
+  infnorm_over : (f : ℕ) → by_infnorm (refusing as_number f (Infnorm.iterated m) (Infnorm.slices s.factors s.maxima)) ≡ refusing Err f
       (chosen InfNorm m logs s) s
   unfolding chosen Infnorm.iterated
   infnorm_over zero = refl
   infnorm_over (suc f) = refl
 
-  onepass_over : (f : ℕ) → by_factors Applied (refusing as_number f (outcome_is 0 (onepass_factors m)) s.factors) ≡ refusing Refused f
+  onepass_over : (f : ℕ) → by_factors Applied (refusing as_number f (outcome_is 0 (onepass_factors m)) s.factors) ≡ refusing Err f
       (chosen OnePassInfNorm m logs s) s
   unfolding chosen
   onepass_over zero = refl
   onepass_over (suc f) = refl
 
-  mc64_over : (f : ℕ) → by_mc64 (refusing scaled.Refused f (Mc64.scaled m logs (mc64_slices s)) (mc64_slices s)) ≡ refusing Refused f
+  mc64_over : (f : ℕ) → by_mc64 (refusing Err f (Mc64.scaled m logs (mc64_slices s)) (mc64_slices s)) ≡ refusing Err f
       (chosen Mc64Symmetric m logs s) s
   unfolding chosen
   mc64_over zero = refl
   mc64_over (suc f) = refl
 
   identity_over : (f : ℕ) → by_factors NotApplied (refusing as_number f (outcome_is 0 (replicate m.pattern.n Constants.one))
-      s.factors) ≡ refusing Refused f
+      s.factors) ≡ refusing Err f
       (chosen Identity m logs s) s
   unfolding chosen
   identity_over zero = refl
@@ -95,7 +106,7 @@ pub no_choice_some : (m : Matrix) (factors : List Float) → no_choice m factors
 unfolding no_choice
 no_choice_some m factors z = let w : index_range ≡ 0 = (or-zero (Infnorm.input_fault m (Infnorm.lengths_fit m factors)) index_range z).1 in omega (arith, w)
 
-module _ {strategy : ScalingStrategy} (m : Matrix) (external logs : List Float) (s : Slices) {r : Scaling} where
+module _ {strategy : ScalingStrategy} (m : Matrix) (external logs : List Float) (s : Slices) {r : Result Scaling ℕ} where
   pub infnorm_chosen : {number : ℕ} {factors work : List Float} → strategy ≡ InfNorm → r ≡ unless_refused number Applied
       → outcome_is number (Infnorm.slices factors work) ≡ Infnorm.compute_infnorm m s.factors s.maxima
       → outcome_is r (slices factors work s.graph s.pairs s.factor_work) ≡ compute_scaling strategy m external logs s
@@ -110,8 +121,8 @@ module _ {strategy : ScalingStrategy} (m : Matrix) (external logs : List Float) 
   onepass_chosen q a e = rw (q, a)
       (ap (by_factors m external logs s Applied) e ∙ onepass_over m external logs s (Infnorm.input_fault m (Infnorm.lengths_fit m s.factors)))
 
-  pub mc64_chosen : {answer : Scaled} {graph : Graphs.Slices} {pairs : Match.Slices} {factors : List Float} {work : List ℕ} → strategy ≡ Mc64Symmetric
-      → r ≡ of_scaled answer
+  pub mc64_chosen : {answer : Result Scaled ℕ} {graph : Graphs.Slices} {pairs : Match.Slices} {factors : List Float} {work : List ℕ} → strategy ≡ Mc64Symmetric
+      → r ≡ of_answer answer
       → outcome_is answer (Mc64.scaling_slices graph pairs (Factors.slices factors work)) ≡ Mc64.symmetric_scaling m logs
       (Mc64.scaling_slices s.graph s.pairs (Factors.slices s.factors s.factor_work))
       → outcome_is r (slices factors s.maxima graph pairs work) ≡ compute_scaling strategy m external logs s
@@ -124,34 +135,28 @@ module _ {strategy : ScalingStrategy} (m : Matrix) (external logs : List Float) 
   identity_chosen q a e = rw (q, a)
       (ap (by_factors m external logs s NotApplied) e ∙ identity_over m external logs s (Infnorm.input_fault m (Infnorm.lengths_fit m s.factors)))
 
-  pub external_chosen : {number : ℕ} → strategy ≡ External → r ≡ Refused number → number ≡ external_fault m.pattern.n (length m.pattern.row_idx)
+  pub external_chosen : {number : ℕ} → strategy ≡ External → r ≡ Err number → number ≡ external_fault m.pattern.n (length m.pattern.row_idx)
       → outcome_is r s ≡ compute_scaling strategy m external logs s
   unfolding compute_scaling choice_fault
-  external_chosen q a e = rw (q, a) (refused_is Refused (chosen External m logs s) s e
+  external_chosen q a e = rw (q, a) (refused_is Err (chosen External m logs s) s e
       (λ z. external_some m.pattern.n (length m.pattern.row_idx) (sym e ∙ z)))
 
 -- ---- the number of a choice's answer
 module _ (m : Matrix) (external logs : List Float) (s : Slices) where
-  of_scaled_lem : (a : Scaled) → number_of (of_scaled a) ≡ Factors.number_of a
-  of_scaled_lem scaled.Applied = refl
-  of_scaled_lem (scaled.PartialSingular unmatched) = refl
-  of_scaled_lem (scaled.Refused number) = refl
-
   -- what is chosen has the number 0
-  pub chosen_number : (strategy : ScalingStrategy) → number_of (chosen strategy m logs s).answer ≡ 0
+  pub chosen_number : (strategy : ScalingStrategy) → fault_of (chosen strategy m logs s).answer ≡ 0
   unfolding chosen Mc64.scaled
   chosen_number InfNorm = refl
   chosen_number OnePassInfNorm = refl
-  chosen_number Mc64Symmetric = let k = (hungarian_match (Mc64.symmetric_graph m logs)).matched in
-      of_scaled_lem (Factors.applied_or_partial m.pattern.n k) ∙ (scaled_values_lem m.pattern.n k).0
+  chosen_number Mc64Symmetric = refl
   chosen_number Identity = refl
   chosen_number External = refl
 
-  by_fault : (strategy : ScalingStrategy) (fault : ℕ) → number_of (refusing Refused fault (chosen strategy m logs s) s).answer ≡ fault
+  by_fault : (strategy : ScalingStrategy) (fault : ℕ) → fault_of (refusing Err fault (chosen strategy m logs s) s).answer ≡ fault
   by_fault strategy zero = chosen_number strategy
   by_fault strategy (suc fault) = refl
 
-  pub choice_number : (strategy : ScalingStrategy) → number_of (compute_scaling strategy m external logs s).answer ≡ choice_fault strategy m external logs s
+  pub choice_number : (strategy : ScalingStrategy) → fault_of (compute_scaling strategy m external logs s).answer ≡ choice_fault strategy m external logs s
   unfolding compute_scaling
   choice_number strategy = by_fault strategy (choice_fault strategy m external logs s)
 
@@ -162,21 +167,3 @@ two_set [] x y h = absurd (omega arith)
 two_set (a ∷ []) x y h = absurd (omega arith)
 two_set (a ∷ b ∷ []) x y h = refl
 two_set (a ∷ b ∷ c ∷ old) x y h = absurd (omega arith)
-
-module _ (old : List ℕ) (two : length old ≡ 2) {done : Scaling} where
-  pub put_applied : done ≡ Applied → (0 ≡ number_of done) × (set (set old 0 0) 1 0 ≡ info_of done old)
-  put_applied e = rw e (refl, two_set old 0 0 two)
-
-  pub put_partial : {unmatched : ℕ} → done ≡ PartialSingular unmatched → (0 ≡ number_of done) × (set (set old 0 1) 1 unmatched ≡ info_of done old)
-  put_partial {unmatched} e = rw e (refl, two_set old 1 unmatched two)
-
-  pub put_not_applied : done ≡ NotApplied → (0 ≡ number_of done) × (set (set old 0 2) 1 0 ≡ info_of done old)
-  put_not_applied e = rw e (refl, two_set old 2 0 two)
-
-pub beyond : (choice : ℕ) → choice ≢ 0 → choice ≢ 1 → choice ≢ 2 → choice ≢ 3 → External ≡ strategy_for choice
-unfolding strategy_for
-beyond zero a b c d = absurd (a refl)
-beyond (suc zero) a b c d = absurd (b refl)
-beyond (suc (suc zero)) a b c d = absurd (c refl)
-beyond (suc (suc (suc zero))) a b c d = absurd (d refl)
-beyond (suc (suc (suc (suc more)))) a b c d = refl

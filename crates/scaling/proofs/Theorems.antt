@@ -10,6 +10,7 @@ use lib.ListN.{length}
 use Rattle.limits.specs.Limits.{max_columns, max_symmetric}
 use Rattle.refusal.specs.Listed.{listed, symmetric_numbers, symmetric_graph_numbers, external_numbers, chooser_numbers}
 use Rattle.refusal.specs.Refusal.{too_many_columns, too_many_entries, external_choice}
+use Rattle.refusal.specs.Number.{fault_of}
 use Rattle.sparse.specs.Fault.{unless, or_else}
 use Rattle.sparse.specs.Validate.{size_fault}
 use Rattle.sparse.specs.Matrix.{Matrix}
@@ -22,7 +23,7 @@ use Rattle.infnorm.specs.Call.{lengths_fit}
 use Rattle.infnorm.proofs.Refusals.{input_listed}
 use Rattle.scaling.specs.declared.ScalingStrategy.{ScalingStrategy}
 use Rattle.scaling.specs.declared.ScalingStrategy.TheVariants.{InfNorm, OnePassInfNorm, Mc64Symmetric, Identity, External}
-use Rattle.scaling.specs.Choice.{Slices, external_fault, compute_scaling, choice_fault, no_choice, number_of}
+use Rattle.scaling.specs.Choice.{Slices, external_fault, compute_scaling, choice_fault, no_choice}
 use Rattle.scaling.proofs.Choices.{choice_number}
 
 -- the numbers of a choice
@@ -54,12 +55,12 @@ module _ (m : Matrix) (external logs : List Float) (s : Slices) where
   fault_listed Identity = input_listed m (lengths_fit m s.factors)
   fault_listed External = external_listed m.pattern.n (length m.pattern.row_idx)
 
-  pub choice_listed : (strategy : ScalingStrategy) → Listed (choice_numbers strategy) (number_of (compute_scaling strategy m external logs s).answer)
+  pub choice_listed : (strategy : ScalingStrategy) → Listed (choice_numbers strategy) (fault_of (compute_scaling strategy m external logs s).answer)
   choice_listed strategy = subst (Listed (choice_numbers strategy)) (sym (choice_number m external logs s strategy)) (fault_listed strategy)
 
 -- whatever the choice
 pub scaling_listed : (m : Matrix) (external logs : List Float) (s : Slices) (strategy : ScalingStrategy)
-    → Listed chooser_numbers (number_of (compute_scaling strategy m external logs s).answer)
+    → Listed chooser_numbers (fault_of (compute_scaling strategy m external logs s).answer)
 unfolding listed within
 scaling_listed m external logs s InfNorm = part symmetric_numbers (choice_listed m external logs s InfNorm) refl
 scaling_listed m external logs s OnePassInfNorm = part symmetric_numbers (choice_listed m external logs s OnePassInfNorm) refl

@@ -45,10 +45,8 @@ impl From<Scaled> for Scaling {
 pub fn external_fault(n: u32, count: usize) -> Refusal
     ensures { number result ≡ external_fault n count }
 {
-    match sparse::layout::size_fault(n, limits::MAX_SYMMETRIC, count, true) {
-        Ok(()) => Refusal::ExternalChoice,
-        Err(fault) => fault,
-    }
+    let sizes = sparse::layout::size_fault(n, limits::MAX_SYMMETRIC, count, true);
+    sizes.err().unwrap_or(Refusal::ExternalChoice)
 }
 
 // The factors by the strategy. MC64 uses `logs` and the slices after `maxima`, the iterated kind uses `maxima`;
@@ -131,6 +129,7 @@ pub fn compute_scaling(
 }
 
 // The strategy of a number from 0 to 4, in the order of the enum.
+#[tactic(auto, unfolding(crate::specs::Choice::strategy_for))]
 pub fn strategy_for(choice: u32) -> ScalingStrategy
     ensures { result ≡ strategy_for choice }
 {
@@ -156,10 +155,8 @@ pub fn no_choice(
         number result ≡ no_choice m factors.now }
 {
     let lengths = infnorm::lengths_fit(n as usize, col_ptr, row_idx, values, factors);
-    match infnorm::input_fault(n, col_ptr, row_idx, values, lengths) {
-        Ok(()) => Refusal::IndexRange,
-        Err(fault) => fault,
-    }
+    let input = infnorm::input_fault(n, col_ptr, row_idx, values, lengths);
+    input.err().unwrap_or(Refusal::IndexRange)
 }
 
 // Writes what was done as two numbers; a refusal leaves them as they were.
