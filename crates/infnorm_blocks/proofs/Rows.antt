@@ -1,5 +1,5 @@
 -- The one-pass factors come row after row, and block after block: the factors of the rows so far stand before the maxima of the others.
-use Rattle.std.proofs.Common.{◌≡◌, true, ℕ, ◌+◌, ◌<◌, ◌≤◌, List, ◌++◌, Float, length, get_or, take, drop, set, map, refl, sym, ap, ◌∙◌, zero-add, append-nil, le_refl, arith}
+use Rattle.std.proofs.Common.{◌≡◌, true, ℕ, ◌+◌, ◌<◌, ◌≤◌, List, ◌++◌, Float, length, get_or, take, drop, set, map, refl, ap, ◌∙◌, zero-add, append-nil, le_refl, arith}
 use Rattle.std.proofs.Math.Seq.{take-add}
 use Rattle.std.proofs.lemmas.List.{map-append, take_all, drop_all, length-map, length-take-le, get_or_default}
 use Rattle.std.proofs.lemmas.List.Edits.{map_over_more}

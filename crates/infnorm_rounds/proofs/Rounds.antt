@@ -1,6 +1,6 @@
 -- One round and the rounds: the new factors of the rows so far stand before the old ones of the others, row after row and block after block, and the
 -- rounds from here on are all rounds.
-use Rattle.std.proofs.Common.{◌≡◌, refl, sym, ap, ◌∙◌, Bool, true, false, cond, List, [], ◌∷◌, ◌++◌, ℕ, zero, suc, ◌+◌, ◌-◌, ◌≤◌, ◌<◌, Float, length, get_or, set, take, drop, append-nil, zero-add, le_refl, arith}
+use Rattle.std.proofs.Common.{◌≡◌, refl, sym, ap, ◌∙◌, Bool, true, false, cond, List, [], ◌∷◌, ◌++◌, ℕ, suc, ◌+◌, ◌-◌, ◌≤◌, ◌<◌, Float, length, get_or, set, take, drop, append-nil, zero-add, le_refl, arith}
 use Rattle.std.proofs.Math.Seq.{take-add}
 use Rattle.std.proofs.lemmas.List.{take_all, drop_all, take_more, length-take-le}
 use Rattle.std.specs.Float.{nan}

@@ -35,7 +35,7 @@ use Rattle.mc64.specs.Call as Mc64
 use Rattle.scaling.specs.declared.ScalingStrategy.{ScalingStrategy}
 use Rattle.scaling.specs.declared.ScalingStrategy.TheVariants.{InfNorm, OnePassInfNorm, Mc64Symmetric, Identity, External}
 use Rattle.scaling.specs.declared.Scaling.{Scaling}
-use Rattle.scaling.specs.declared.Scaling.TheVariants.{Applied, PartialSingular, NotApplied}
+use Rattle.scaling.specs.declared.Scaling.TheVariants.{Applied, NotApplied}
 use Rattle.scaling.specs.Choice.{Slices, slices, with_factors, of_answer, external_fault, compute_scaling, choice_fault}
 use Rattle.scaling.specs.Choice.{mc64_slices, chosen, no_choice}
 

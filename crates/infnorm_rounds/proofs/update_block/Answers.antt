@@ -1,6 +1,6 @@
 -- What is written is the new factor of the old one that stood there, by the root of the maximum.
-use Rattle.std.proofs.Common.{◌≡◌, length, arith}
-use Rattle.infnorm_rounds.proofs.Rounds.{none_updated, row_next, all_updated, root_there}
+use Rattle.std.proofs.Common.{arith}
+use Rattle.infnorm_rounds.proofs.Rounds.{none_updated, row_next, root_there}
 use Rattle.infnorm_rounds.proofs.update_block.Goals as goal
 
 pub loop-i-init : goal.loop-i-init

@@ -1,5 +1,5 @@
 -- Each choice by its own call: what the call answers and leaves, put into the chooser's slices.
-use Rattle.std.proofs.Common.{◌≡◌, Result, Ok, Err, refl, rules}
+use Rattle.std.proofs.Common.{◌≡◌, Err, refl, rules}
 use Rattle.refusal.specs.Number.{number, numbered}
 use Rattle.refusal.proofs.Numbers.{number_ne_zero}
 use Rattle.sparse.specs.Matrix.{Matrix, matrix}
