@@ -2,13 +2,13 @@
 use mathlib.Core.Path.{◌≡◌, sym, ap, ◌∙◌, subst}
 use mathlib.Core.Bool.{cond}
 use mathlib.Core.List.{List}
-use Prim.Native.Nat.{ℕ, ◌+◌, ◌-◌, ◌*◌, ◌^◌, ◌≤◌, ◌<◌}
+use Prim.Native.Nat.{ℕ, ◌+◌, ◌-◌, ◌*◌, ◌^◌, ◌≤◌, ◌<◌, max}
 use native.Mathlib.Omega.{arith}
 use lib.Dec.{eqb}
 use lib.ListN.{length, get_or}
 use lib.Ieee.{Float, nan}
 use Rattle.hungarian.specs.Counts.{larger}
-use Rattle.hungarian.proofs.Tree.{larger_most}
+use Rattle.hungarian.proofs.Larger.{larger_max}
 use Rattle.match_gap.specs.Rounding.{zero_step, lower, upper}
 use Rattle.match_gap.specs.inner.Scans.{InSteps, Scannable, Scanned}
 use Rattle.match_gap.proofs.Most.{Most, most_begins, most_goes_on, most_ends}
@@ -44,7 +44,7 @@ module _ (unit row : ℕ) (row_idx : List ℕ) (cost u : List Float) (dual : Flo
       → (x ≡ upper (2 ^ unit) (get_or u (get_or row_idx k 0) nan) + high - (lower (2 ^ unit) (get_or cost k nan) + zero_step)) × (x ≤ 2 ^ 51)
       → (y ≡ cond (eqb (get_or row_idx k 0) row) (upper (2 ^ unit) (get_or cost k nan) + zero_step - (lower (2 ^ unit) (get_or u (get_or row_idx k 0) nan) + low))
       0) × (y ≤ 3 * 2 ^ 49)
-      → {excess' lack' : ℕ} → excess' ≡ larger excess x → lack' ≡ larger lack y
+      → {excess' lack' : ℕ} → excess' ≡ max excess x → lack' ≡ max lack y
       → Scanning unit row row_idx cost u dual from to excess' lack' (k + 1)
   scan_goes_on {excess} {lack} {k} {high} {low} {x} {y} s h hi lo p q {excess'} {lack'} e l =
       let a : x ≡ excess_in unit row_idx cost u dual k =
@@ -55,10 +55,10 @@ module _ (unit row : ℕ) (row_idx : List ℕ) (cost u : List Float) (dual : Flo
       record {
         above = omega (arith, s.above);
         below = omega arith;
-        few = (omega (arith, e, larger_most excess x (2 ^ 51) s.few.0 p.1), omega (arith, l, larger_most lack y (3 * 2 ^ 49) s.few.1 q.1));
-        most = subst (λ (m : ℕ). Most (excess_in unit row_idx cost u dual) from to m (k + 1)) (sym (e ∙ ap (larger excess) a))
+        few = (omega (arith, e, s.few.0, p.1), omega (arith, l, s.few.1, q.1));
+        most = subst (λ (m : ℕ). Most (excess_in unit row_idx cost u dual) from to m (k + 1)) (sym (e ∙ sym (larger_max excess x) ∙ ap (larger excess) a))
             (most_goes_on (excess_in unit row_idx cost u dual) from to excess k h s.most);
-        lacks = subst (λ (m : ℕ). Most (lack_in unit row row_idx cost u dual) from to m (k + 1)) (sym (l ∙ ap (larger lack) b))
+        lacks = subst (λ (m : ℕ). Most (lack_in unit row row_idx cost u dual) from to m (k + 1)) (sym (l ∙ sym (larger_max lack y) ∙ ap (larger lack) b))
             (most_goes_on (lack_in unit row row_idx cost u dual) from to lack k h s.lacks);
       }
 

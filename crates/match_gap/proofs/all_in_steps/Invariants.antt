@@ -1,5 +1,5 @@
 -- `all_in_steps`: the result of the test over the doubles before the index.
-use Rattle.std.proofs.Common.{ℕ, length, get_or}
+use Rattle.std.proofs.Common.{length, get_or}
 use Rattle.std.specs.Float.{nan}
 use Rattle.match_check.proofs.Every.{Every}
 use Rattle.match_gap.specs.Rounding.{step, in_steps}

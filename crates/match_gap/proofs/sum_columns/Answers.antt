@@ -7,6 +7,9 @@ pub loop-j-init : goal.loop-j-init
 loop-j-init c = let a = c.args in
     sum_begins a.unit a.n a.col_ptr.now a.row_idx.now a.cost.now a.perm.now a.u.now a.v.now
 
+pub scan_column-column-requires-clause-fact_1 : goal.scan_column-column-requires-clause-fact_1
+scan_column-column-requires-clause-fact_1 c = scannable _ _ _ _ _ _ _ _ c.requires c.loop-j.j (omega arith)
+
 pub loop-j-preserved : goal.loop-j-preserved
 loop-j-preserved c = let a = c.args in
     sum_goes_on a.unit a.n a.col_ptr.now a.row_idx.now a.cost.now a.perm.now a.u.now a.v.now c.loop-j.invariant

@@ -1,5 +1,5 @@
 -- `upper_place` meets its contract: a place rounded up is the place of the negation, rounded down, seen from zero.
-use Rattle.std.proofs.Common.{ℕ, ◌-◌, ap, ◌∙◌, arith}
+use Rattle.std.proofs.Common.{ℕ, ◌-◌, ◌^◌, ap, ◌∙◌, arith}
 use Rattle.match_gap.proofs.Places.{neg_in, upper_by_lower}
 use Rattle.match_gap.proofs.upper_place.Goals as goal
 
