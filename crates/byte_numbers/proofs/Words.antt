@@ -92,28 +92,14 @@ module _ {A : Type 0} (f : ℕ → A) (d : List A) where
   pub fill_more : (n : ℕ) → n < length d → set (filled f d n) n (f n) ≡ filled f d (n + 1)
   fill_more n l = subst (λ (k : ℕ). set (filled f d n) n (f n) ≡ filled f d k) (sym (add-one n)) (fill_suc n f d l)
 
-  pub fill_all : (n : ℕ) → length d ≤ n → filled f d n ≡ list_of n f
-  fill_all n l = ap (λ (t : List A). list_of n f ++ t) (drop_of_length-le d {i = n} l) ∙ append-nil (list_of n f)
-
 pub list_at : {A : Type 0} (n : ℕ) (f : ℕ → A) (i : ℕ) (z : A) → i < n → get_or (list_of n f) i z ≡ f i
 unfolding list_of
 list_at zero f i z l = absurd (not-suc-le-zero l)
 list_at (suc n) f zero z l = refl
 list_at (suc n) f (suc i) z l = list_at n (λ (k : ℕ). f (suc k)) i z (le_of_suc-le-suc l)
 
-abbrev pub word_at : List ℕ → ℕ → ℕ
-word_at bytes i = number_at 4 bytes (4 * i)
-
 abbrev pub double_at : List ℕ → ℕ → Float
 double_at bytes i = of_bits binary64 (number_at 8 bytes (8 * i))
-
-pub words_are : (bytes : List ℕ) (n : ℕ) → list_of n (word_at bytes) ≡ words bytes n
-unfolding words
-words_are bytes n = refl
-
-pub doubles_are : (bytes : List ℕ) (n : ℕ) → list_of n (double_at bytes) ≡ doubles bytes n
-unfolding doubles
-doubles_are bytes n = refl
 
 pub double_at_lem : (bytes : List ℕ) (n i : ℕ) → i < n → get_or (doubles bytes n) i nan ≡ double_at bytes i
 unfolding doubles

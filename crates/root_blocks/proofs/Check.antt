@@ -15,21 +15,6 @@ use Rattle.square_root.proofs.Whole.{expanded, next_square}
 use Rattle.square_root.proofs.Frame.{root_bits_lem, scaled_square}
 use Rattle.root_blocks.specs.inner.Blocks.{under_root, root_bits, root_by}
 
--- ---- the number under the root
-
-scaled : (n m k : ℕ) → k < 2 → (k ≡ 0 → n ≡ m) → (k ≡ 1 → n ≡ 2 * m) → n ≡ m * 2 ^ k
-scaled n m zero h e o = let x = e refl in omega arith
-scaled n m (suc zero) h e o = let x = o refl in omega arith
-scaled n m (suc (suc k)) h e o = absurd (omega arith)
-
-pub odd_exponent : (b v : ℕ) → v ≡ (b % 2 ^ 53 + 2 ^ 52) % 2 ^ 53 → v < 2 ^ 52 → v + 2 ^ 52 ≡ under_root b
-odd_exponent b v e h =
-    scaled (v + 2 ^ 52) (b % 2 ^ 52 + 2 ^ 52) ((b / 2 ^ 52 + 1073) % 2) (omega arith) (λ k. omega arith) (λ k. absurd (omega arith))
-
-pub even_exponent : (b v : ℕ) → v ≡ (b % 2 ^ 53 + 2 ^ 52) % 2 ^ 53 → 2 ^ 52 ≤ v → 2 * v ≡ under_root b
-even_exponent b v e h =
-    scaled (2 * v) (b % 2 ^ 52 + 2 ^ 52) ((b / 2 ^ 52 + 1073) % 2) (omega arith) (λ k. absurd (omega arith)) (λ k. omega arith)
-
 -- ---- the whole root
 
 -- p is half of the whole root of n, rounded up

@@ -1,10 +1,10 @@
 -- Whole roots of plain numbers. There is at most one (`root_unique`), and the definition's digit steps find it (`root_found`). Half of it, rounded up,
--- is the nearest number to half of the exact root (`over_half`, `under_half`). And one division gives 27 more digits of it (`extended_down`,
--- `extended_up`); near a power of 4 it lies on a straight line (`near_above`, `near_below`).
+-- is the nearest number to half of the exact root (`over_half`, `under_half`). And one division gives 27 more digits of it (`extended_down`);
+-- near a power of 4 it lies on a straight line (`near_above`, `near_below`).
 use mathlib.Core.Path.{◌≡◌, sym, ap, ◌∙◌, subst}
 use mathlib.Core.Bool.{Bool, true, false, not, cond}
 use mathlib.Core.Logic.{◌⊎◌, inl, inr, ◌≢◌}
-use Prim.Native.Nat.{ℕ, zero, suc, ◌+◌, ◌-◌, ◌*◌, ◌/◌, ◌%◌, ◌^◌, ◌≤◌, ◌<◌, zero-le}
+use Prim.Native.Nat.{ℕ, zero, suc, ◌+◌, ◌-◌, ◌*◌, ◌/◌, ◌%◌, ◌^◌, ◌≤◌, ◌<◌}
 use native.Mathlib.Nat.{eq-or-lt_of_le, lt_of_le_of_lt, lt_of_lt_of_le, add_assoc, mul-add, add-mul, mul_comm, mul_assoc}
 use native.Mathlib.Nat.{mul_right_comm, mul-mul-mul_comm, mul-le-mul, mul-le-mul_left, le_of_mul-le-mul_right, div-add-mod'}
 use native.Mathlib.Nat.{mod-lt, pow-suc, le_refl}
@@ -18,10 +18,6 @@ use Rattle.square_root.specs.inner.Steps.{WholeRoot}
 
 square_mono : (a b : ℕ) → a ≤ b → a * a ≤ b * b
 square_mono a b h = mul-le-mul h h
-
--- a number whose square is above another is above 0
-pub root_pos : (n s : ℕ) → n < s * s → 0 < s
-root_pos n s h = root_lt 0 s (lt_of_le_of_lt zero-le h)
 
 -- (a + b) squared
 pub expanded : (a b : ℕ) → (a + b) * (a + b) ≡ a * a + 2 * (a * b) + b * b
@@ -128,11 +124,6 @@ module _ (n s : ℕ) (big : 2 ^ 52 ≤ n) (w : WholeRoot n s) where
       let e : s * s + (n - s * s) ≡ n = omega (arith, w.at_most) in
       omega arith
 
-  pub extended_up : next * next ≤ rest % s * 2 ^ 28 → WholeRoot (n * 2 ^ 54) (s * 2 ^ 27 + next)
-  extended_up h =
-      let l : rest % s < s = mod-lt rest (omega (arith, root_big)) in
-      record { at_most = omega (arith, balance); less = omega (arith, balance, next_square (s * 2 ^ 27 + next)) }
-
   pub extended_down : rest % s * 2 ^ 28 < next * next → WholeRoot (n * 2 ^ 54) (s * 2 ^ 27 + next - 1)
   extended_down h =
       let t = s * 2 ^ 27 + next - 1 in
@@ -142,9 +133,6 @@ module _ (n s : ℕ) (big : 2 ^ 52 ≤ n) (w : WholeRoot n s) where
       record { at_most = omega (arith, balance, next_square t, next_small, root_big); less = omega (arith, balance) }
 
 -- ---- near a power of 4 the root is a straight line, less than one away from it
-
-pub at_power : (n : ℕ) → n ≡ 2 ^ 52 → WholeRoot (n * 2 ^ 54) (2 ^ 53)
-at_power n e = rw e record { at_most = omega arith; less = omega arith }
 
 above : (n k : ℕ) → n ≡ 2 ^ 52 + k → 0 < k → k ≤ 2 ^ 27 → WholeRoot (n * 2 ^ 54) (2 ^ 53 + k - 1)
 above n zero e h l = absurd (omega arith)
