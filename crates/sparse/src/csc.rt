@@ -85,7 +85,8 @@ pub fn columns_fault(n: usize, col_ptr: &[u32], row_idx: &[u32]) -> Result<(), R
     Ok(())
 }
 
-// Tests a matrix: the first thing wrong refuses it.
+// Tests a matrix: the first thing wrong refuses it. What this and `general::validate` share is the order of two calls;
+// a function for both would be lent the limit and the test of the columns, and be as long as either.
 pub fn validate(n: u32, col_ptr: &[u32], row_idx: &[u32], values: &[f64]) -> Result<(), Refusal>
     ensures answer { number_of result ≡ symmetric_fault (matrix n col_ptr.now row_idx.now values.now) }
     ensures number { OneOf symmetric_numbers (number_of result) }
