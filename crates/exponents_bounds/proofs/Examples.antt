@@ -1,5 +1,6 @@
 -- Small matrices by computing: a match that others made may have no exponents (`far_refused`), neither bound can be sharper for our own
 -- (`small_scaled`), and a symmetric matrix is scaled to one that is not (`triangle_scaled`).
+use Rattle.std.proofs.Common.{Result}
 use mathlib.Core.Path.{◌≡◌, refl}
 use mathlib.Core.Bool.{false}
 use mathlib.Core.List.{List, [], ◌∷◌, map}
@@ -8,6 +9,7 @@ use lib.IntN.{ℤ, pos, negsuc}
 use lib.Ieee.{Float, fin, nan, binary64, of_int, of_bits, add, sub, neg, lt, le, eq, ne}
 use lib.ListN.{get_or, replicate}
 use Rattle.refusal.specs.Refusal.{accepted, exponent_range}
+use Rattle.refusal.specs.Number.{fault_of}
 use Rattle.slices.specs.Outcome.{Outcome, outcome_is}
 use Rattle.float64.specs.Number.{magnitude, units_per_one, whole_of}
 use Rattle.slices.specs.Lists.{tabulate}
@@ -21,13 +23,12 @@ use Rattle.hungarian.specs.Graph.{CostGraph, graph_of}
 use Rattle.hungarian.specs.Test.{graph_fault, cost_fault}
 use Rattle.hungarian.specs.Match.{hungarian_match}
 use Rattle.hungarian_match.specs.Call as Match
-use Rattle.hungarian_match.specs.declared.Answer.{Answer}
+use Rattle.hungarian.specs.declared.Counts.{Counts}
 use Rattle.match_check.specs.Check.{claim, every_of, some_of, check_fault}
 use Rattle.cost_limit.specs.Range.{in_range}
 use Rattle.whole_log.specs.Log.{whole_log}
 use Rattle.mc64_columns.specs.Columns.{largest, largest_from, normalised}
 use Rattle.mc64_columns.specs.Graphs as Graphs
-use Rattle.mc64_columns.specs.declared.Built.{Built}
 use Rattle.mc64_general.specs.Graph.{is_kept, kept_places, largest_log}
 use Rattle.mc64_symmetric.specs.Graph.{places_to}
 use Rattle.whole_graphs.specs.Graphs.{finite_fault, general_input_fault, symmetric_input_fault, whole_general_graph, whole_symmetric_graph, graph_left}
@@ -67,10 +68,10 @@ zeros n = replicate n 0
 abbrev blanks : ℕ → List Float
 blanks n = replicate n nan
 
-abbrev builds : Outcome Built Graphs.Slices
+abbrev builds : Outcome (Result ℕ ℕ) Graphs.Slices
 builds = whole_general_graph small (Graphs.slices (zeros 4) (zeros 5) (blanks 5) (blanks 3) (zeros 13))
 
-abbrev matches : Outcome Answer Match.Slices
+abbrev matches : Outcome (Result Counts ℕ) Match.Slices
 matches = Match.match_outcome (graph_left 3 builds.after) (Match.slices (zeros 3) (blanks 3) (blanks 3) (zeros 37) (blanks 6))
 
 abbrev makes : Outcome ℕ Exponents
@@ -81,7 +82,7 @@ abbrev set : Exponents
 set = exponents (pos 0 ∷ pos 0 ∷ pos 0 ∷ []) (negsuc 0 ∷ negsuc 0 ∷ pos 0 ∷ [])
 
 -- each call accepts, and the values left are 3/4, 1/2, 3/4, 1/2 and 1
-pub small_scaled : (Graphs.number_of builds.answer ≡ accepted) × (Match.number_of matches.answer ≡ accepted)
+pub small_scaled : (fault_of builds.answer ≡ accepted) × (fault_of matches.answer ≡ accepted)
     × (get_or (Match.counts_left matches.answer []) 0 0 ≡ 3)
     × (makes ≡ outcome_is accepted set)
     × (apply_exponents small.pattern set bits ≡ outcome_is accepted
@@ -100,10 +101,10 @@ triangle_bits = 0x4008_0000_0000_0000 ∷ 0x3FF0_0000_0000_0000 ∷ []
 abbrev triangle : Matrix
 triangle = matrix 2 (0 ∷ 2 ∷ 2 ∷ []) (0 ∷ 1 ∷ []) (map (of_bits binary64) triangle_bits)
 
-abbrev triangle_builds : Outcome Built Graphs.Slices
+abbrev triangle_builds : Outcome (Result ℕ ℕ) Graphs.Slices
 triangle_builds = whole_symmetric_graph triangle (Graphs.slices (zeros 3) (zeros 4) (blanks 4) (blanks 2) (zeros 8))
 
-abbrev triangle_matches : Outcome Answer Match.Slices
+abbrev triangle_matches : Outcome (Result Counts ℕ) Match.Slices
 triangle_matches = Match.match_outcome (graph_left 2 triangle_builds.after) (Match.slices (zeros 2) (blanks 2) (blanks 2) (zeros 25) (blanks 4))
 
 abbrev triangle_makes : Outcome ℕ Exponents
@@ -115,7 +116,7 @@ abbrev triangle_set : Exponents
 triangle_set = exponents (pos 0 ∷ pos 1 ∷ []) (negsuc 1 ∷ pos 0 ∷ [])
 
 -- each call accepts; 3 becomes 3/4, and 1 becomes 1/2 where it is stored and 1 as its mirror: what is scaled is not symmetric
-pub triangle_scaled : (Graphs.number_of triangle_builds.answer ≡ accepted) × (Match.number_of triangle_matches.answer ≡ accepted)
+pub triangle_scaled : (fault_of triangle_builds.answer ≡ accepted) × (fault_of triangle_matches.answer ≡ accepted)
     × (get_or (Match.counts_left triangle_matches.answer []) 0 0 ≡ 2)
     × (triangle_makes ≡ outcome_is accepted triangle_set)
     × (apply_exponents triangle.pattern triangle_set triangle_bits ≡ outcome_is accepted (0x3FE8_0000_0000_0000 ∷ 0x3FE0_0000_0000_0000 ∷ []))

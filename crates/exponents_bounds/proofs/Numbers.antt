@@ -1,5 +1,6 @@
 -- Whole numbers and their floors: the logarithm of a kept value, small factors that have an exponent, and the bounds of one value put as the
 -- definition says them.
+use Rattle.std.proofs.Common.{Result, Ok, Err}
 use mathlib.Core.Path.{◌≡◌, refl, sym, ap, ap₂, ◌∙◌, subst}
 use mathlib.Core.Bool.{Bool, true, false, not, cond, ◌&&◌, false≢true}
 use mathlib.Core.List.{List, [], ◌∷◌, map}
@@ -24,8 +25,6 @@ use Rattle.float64.proofs.Scale.{mag_lt}
 use Rattle.float64.proofs.Order.{eq_key}
 use Rattle.float64.proofs.WholeNumbers.{number_whole, whole_key, whole_add, whole_neg, whole_of_lem, ordered}
 use Rattle.whole_log.specs.Log.{whole_log, double_of, Bounds, Logarithm, Answer}
-use Rattle.whole_log.specs.declared.Log.{Log}
-use Rattle.whole_log.specs.declared.Log.TheVariants.{Is, Refused}
 use Rattle.whole_log.proofs.Theorems.{log_correct, log_small, log_whole}
 use Rattle.mc64_columns.specs.Columns.{largest, largest_from}
 use Rattle.mc64_columns.proofs.Whole.{Short}
@@ -56,16 +55,16 @@ kept_log x t k =
     let b = both (finite x) _ k in
     go (whole_log x) refl (value_log 0 x (omega arith) t (subst T (sym b.0) tt) (not-true (eq x Constants.zero) b.1)).0
   where
-    go : (a : Log) → whole_log x ≡ a → Short (double_of a) → ValueLog x (double_of a)
-    go (Is p) e s =
+    go : (a : Result ℤ ℕ) → whole_log x ≡ a → Short (double_of a) → ValueLog x (double_of a)
+    go (Ok p) e s =
         let r = log_small x p t e in
         let w = log_whole x p t e in
-        let q : whole_of (double_of (Is p)) ≡ p = whole_of_lem (double_of (Is p)) p w in
+        let q : whole_of (double_of (Ok p)) ≡ p = whole_of_lem (double_of (Ok p)) p w in
         record {
-          logged = record { whole = subst (Whole (double_of (Is p))) (sym q) w; up = omega (arith, r.1, ap plus q); down = omega (arith, r.0, ap minus q) };
-          logarithm = subst (Logarithm x) (sym q) (subst (λ (a : Log). Answer x a) e (log_correct x t));
+          logged = record { whole = subst (Whole (double_of (Ok p))) (sym q) w; up = omega (arith, r.1, ap plus q); down = omega (arith, r.0, ap minus q) };
+          logarithm = subst (Logarithm x) (sym q) (subst (λ (a : Result ℤ ℕ). Answer x a) e (log_correct x t));
         }
-    go (Refused number) e s = absurd s.whole.is_finite
+    go (Err number) e s = absurd s.whole.is_finite
 
 -- the largest of a list is one of it
 larger_logged : (top : Float) (l : List Float) → Logged top → ((k : ℕ) → k < length l → Logged (get_or l k nan)) → Logged (largest_from top l)

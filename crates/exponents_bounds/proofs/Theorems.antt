@@ -2,6 +2,7 @@
 -- matches that others made. Each call's outcome, as its contract has it,
 -- is a premise; what it says follows from the definition (`none_wrong`, `found`, `made_set`, `applied_exact`). Both kinds share one argument
 -- (`ours_end`, `checked_end`), over what `Prepared` says of the graph that is left.
+use Rattle.std.proofs.Common.{Result, Err}
 use mathlib.Core.Path.{◌≡◌, refl, sym, ap, ap₂, ◌∙◌, subst}
 use mathlib.Core.List.{List, [], ◌∷◌, map}
 use Prim.Native.Nat.{ℕ, zero, suc, ◌*◌, ◌<◌}
@@ -14,6 +15,7 @@ use lib.Ieee.{Float, nan, binary64, fits, up, down, of_bits}
 use lib.Ieee.Bits.{of_bits-fits}
 use lib.ListN.{length, get_or, length-map}
 use Rattle.refusal.specs.Refusal.{accepted}
+use Rattle.refusal.specs.Number.{fault_of}
 use Rattle.float64.specs.Number.{magnitude}
 use Rattle.slices.specs.Outcome.{outcome_is, Outcome, refusing, as_number}
 use Rattle.slices.proofs.Lists.{table_at}
@@ -22,17 +24,13 @@ use Rattle.sparse.specs.Pattern.{Pattern}
 use Rattle.hungarian.specs.Graph.{CostGraph}
 use Rattle.hungarian.specs.Match.{hungarian_match}
 use Rattle.hungarian_match.specs.Call as Match
-use Rattle.hungarian_match.specs.declared.Answer.{Answer}
-use Rattle.hungarian_match.specs.declared.Answer.TheVariants.{Refused}
-use Rattle.match_check.specs.Check.{Claim, claim}
-use Rattle.match_check.specs.Call.{Certified, checked}
-use Rattle.match_check.specs.Call as Check
-use Rattle.match_check.specs.declared.Verdict.{Verdict}
+use Rattle.hungarian.specs.declared.Counts.{Counts}
+use Rattle.match_check.specs.Check.{Claim, claim, check_fault}
+use Rattle.match_check.specs.Call.{Certified}
 use Rattle.match_check.proofs.Ours.{ours_certified}
 use Rattle.match_check.proofs.Calling.{promises}
 use Rattle.mc64_columns.specs.Columns.{value_logs}
-use Rattle.mc64_columns.specs.Graphs.{Slices, number_of, outcome, GraphColumns, graph_largest, built}
-use Rattle.mc64_columns.specs.declared.Built.{Built}
+use Rattle.mc64_columns.specs.Graphs.{Slices, outcome, GraphColumns, graph_largest, built}
 use Rattle.mc64_columns.proofs.Entries.{graph_by}
 use Rattle.mc64_columns.proofs.Kept.{map_at}
 use Rattle.mc64_symmetric.specs.Graph.{mirrored_columns}
@@ -52,10 +50,10 @@ use Rattle.exponents_bounds.proofs.BothTriangles.{general_form}
 
 -- ---- what the outcome of each call says
 -- a builder that accepts found nothing wrong
-pub none_wrong : (n : ℕ) (g : GraphColumns) (logs : List Float) (s after : Slices) (a : Built) (fault : ℕ)
-    → outcome_is a after ≡ outcome fault n g logs s → number_of a ≡ accepted → fault ≡ 0
+pub none_wrong : (n : ℕ) (g : GraphColumns) (logs : List Float) (s after : Slices) (a : Result ℕ ℕ) (fault : ℕ)
+    → outcome_is a after ≡ outcome fault n g logs s → fault_of a ≡ accepted → fault ≡ 0
 none_wrong n g logs s after a zero o e = refl
-none_wrong n g logs s after a (suc fault) o e = let q : number_of a ≡ suc fault = ap (λ (x : Outcome Built Slices). number_of x.answer) o in
+none_wrong n g logs s after a (suc fault) o e = let q : fault_of a ≡ suc fault = ap (λ (x : Outcome (Result ℕ ℕ) Slices). fault_of x.answer) o in
     let z : ⊥ = omega arith in absurd z
 
 -- `hungarian_match` left the match of the graph and matched every column
@@ -65,19 +63,19 @@ record Found (g : CostGraph) (left : Match.Slices) : Type 0 where
   v : left.v ≡ (hungarian_match g).v
   full : (hungarian_match g).matched ≡ g.pattern.n
 
-found : (g : CostGraph) (before left : Match.Slices) (answer : Answer) (old : List ℕ) → outcome_is answer left ≡ Match.match_outcome g before
-    → Match.number_of answer ≡ accepted → get_or (Match.counts_left answer old) 0 0 ≡ g.pattern.n → Found g left
+found : (g : CostGraph) (before left : Match.Slices) (answer : Result Counts ℕ) (old : List ℕ) → outcome_is answer left ≡ Match.match_outcome g before
+    → fault_of answer ≡ accepted → get_or (Match.counts_left answer old) 0 0 ≡ g.pattern.n → Found g left
 unfolding Match.match_outcome Match.finished
 found g before left answer old o e count = go (Match.match_fault g before) o
   where
-    go : (f : ℕ) → outcome_is answer left ≡ refusing Refused f (Match.finished g before) before → Found g left
+    go : (f : ℕ) → outcome_is answer left ≡ refusing Err f (Match.finished g before) before → Found g left
     go zero q = record {
-      perm = ap (λ (x : Outcome Answer Match.Slices). x.after.perm) q;
-      u = ap (λ (x : Outcome Answer Match.Slices). x.after.u) q;
-      v = ap (λ (x : Outcome Answer Match.Slices). x.after.v) q;
-      full = sym (ap (λ (x : Outcome Answer Match.Slices). get_or (Match.counts_left x.answer old) 0 0) q) ∙ count;
+      perm = ap (λ (x : Outcome (Result Counts ℕ) Match.Slices). x.after.perm) q;
+      u = ap (λ (x : Outcome (Result Counts ℕ) Match.Slices). x.after.u) q;
+      v = ap (λ (x : Outcome (Result Counts ℕ) Match.Slices). x.after.v) q;
+      full = sym (ap (λ (x : Outcome (Result Counts ℕ) Match.Slices). get_or (Match.counts_left x.answer old) 0 0) q) ∙ count;
     }
-    go (suc f) q = let w : Match.number_of answer ≡ suc f = ap (λ (x : Outcome Answer Match.Slices). Match.number_of x.answer) q in let z : ⊥ =
+    go (suc f) q = let w : fault_of answer ≡ suc f = ap (λ (x : Outcome (Result Counts ℕ) Match.Slices). fault_of x.answer) q in let z : ⊥ =
         omega (arith, e, w) in absurd z
 
 -- the match that it left is certified, and so is one that `check_match` accepts
@@ -87,12 +85,12 @@ module _ (n : ℕ) (after : Slices) (W : WholeGraph (graph_left n after)) where
       ours_certified (graph_left n after) (claim left.perm left.u left.v)
       (record { graph = W.matched; costs = W.whole; left = rw (F.perm, F.u, F.v) refl; full = F.full })
 
-  pub left_certified : (before left : Match.Slices) (answer : Answer) (old : List ℕ) → outcome_is answer left ≡ Match.match_outcome (graph_left n after) before
-      → Match.number_of answer ≡ accepted → get_or (Match.counts_left answer old) 0 0 ≡ n → Certified (graph_left n after) (claim left.perm left.u left.v)
+  pub left_certified : (before left : Match.Slices) (answer : Result Counts ℕ) (old : List ℕ) → outcome_is answer left ≡ Match.match_outcome (graph_left n after) before
+      → fault_of answer ≡ accepted → get_or (Match.counts_left answer old) 0 0 ≡ n → Certified (graph_left n after) (claim left.perm left.u left.v)
   left_certified before left answer old o z count = found_certified left (found (graph_left n after) before left answer old o z count)
 
-  pub checked_certified : (c : Claim) → Doubles c.u → Doubles c.v → (verdict : Verdict) → verdict ≡ checked (graph_left n after) c
-      → Check.number_of verdict ≡ accepted → Certified (graph_left n after) c
+  pub checked_certified : (c : Claim) → Doubles c.u → Doubles c.v → (verdict : ℕ) → verdict ≡ check_fault (graph_left n after) c
+      → verdict ≡ accepted → Certified (graph_left n after) c
   checked_certified c du dv verdict o z =
       (promises (graph_left n after) c (λ k h. (W.whole k h).1.double)
       (record { rows = double_at_lem c.u du; columns = double_at_lem c.v dv }) o).exactly.0 z
@@ -194,8 +192,8 @@ prepared n g values logs after Good L left tops whole good = record {
 -- ---- the match and the exponents
 module _ {n : ℕ} {after : Slices} {Good : List ℕ → Exponents → Type 0} (P : Prepared n after Good) where
   -- ours
-  ours_end : (before left : Match.Slices) (answer : Answer) (old : List ℕ) → outcome_is answer left ≡ Match.match_outcome (graph_left n after) before
-      → Match.number_of answer ≡ accepted → get_or (Match.counts_left answer old) 0 0 ≡ n
+  ours_end : (before left : Match.Slices) (answer : Result Counts ℕ) (old : List ℕ) → outcome_is answer left ≡ Match.match_outcome (graph_left n after) before
+      → fault_of answer ≡ accepted → get_or (Match.counts_left answer old) 0 0 ≡ n
       → (rows columns : List ℤ) → length rows ≡ n → length columns ≡ n
       → (number : ℕ) (e : Exponents) → outcome_is number e ≡ make_exponents n (duals left.u left.v after.cmax) rows columns
       → (number ≡ accepted) × Good left.perm e
@@ -211,8 +209,8 @@ module _ {n : ℕ} {after : Slices} {Good : List ℕ → Exponents → Type 0} (
       )
 
   -- others'
-  checked_end : (c : Claim) → Doubles c.u → Doubles c.v → (verdict : Verdict) → verdict ≡ checked (graph_left n after) c
-      → Check.number_of verdict ≡ accepted
+  checked_end : (c : Claim) → Doubles c.u → Doubles c.v → (verdict : ℕ) → verdict ≡ check_fault (graph_left n after) c
+      → verdict ≡ accepted
       → (rows columns : List ℤ) (number : ℕ) (e : Exponents) → outcome_is number e ≡ make_exponents n (duals c.u c.v after.cmax) rows columns
       → number ≡ accepted
       → Good c.perm e
@@ -231,14 +229,14 @@ largest_left : (n : ℕ) (g : GraphColumns) (logs : List Float) (s after : Slice
 unfolding built
 largest_left n g logs s after e = ap (λ (x : Slices). x.cmax) e
 
-module _ (m : Matrix) (bits : List ℕ) (same : m.values ≡ map (of_bits binary64) bits) (s after : Slices) (a : Built) where
+module _ (m : Matrix) (bits : List ℕ) (same : m.values ≡ map (of_bits binary64) bits) (s after : Slices) (a : Result ℕ ℕ) where
   abbrev logs : List Float
   logs = value_logs m.values
 
   doubles : Doubles m.values
   doubles = bits_double m.values bits same
 
-  general_prepared : outcome_is a after ≡ whole_general_graph m s → number_of a ≡ accepted → Prepared m.pattern.n after (Scales m bits)
+  general_prepared : outcome_is a after ≡ whole_general_graph m s → fault_of a ≡ accepted → Prepared m.pattern.n after (Scales m bits)
   unfolding whole_general_graph
   general_prepared o z =
       let fine : whole_general_fault m s ≡ 0 = none_wrong m.pattern.n (kept_columns m) logs s after a (whole_general_fault m s) o z in
@@ -247,7 +245,7 @@ module _ (m : Matrix) (bits : List ℕ) (same : m.values ≡ map (of_bits binary
       (largest_left m.pattern.n (kept_columns m) logs s after e) (general_optimal m s fine doubles after e)
       (λ c C. scales m bits same (general_set m s fine doubles c C))
 
-  symmetric_prepared : outcome_is a after ≡ whole_symmetric_graph m s → number_of a ≡ accepted → Prepared m.pattern.n after (ScalesSymmetric m bits)
+  symmetric_prepared : outcome_is a after ≡ whole_symmetric_graph m s → fault_of a ≡ accepted → Prepared m.pattern.n after (ScalesSymmetric m bits)
   unfolding whole_symmetric_graph
   symmetric_prepared o z =
       let fine : whole_symmetric_fault m s ≡ 0 = none_wrong m.pattern.n (mirrored_columns m) logs s after a (whole_symmetric_fault m s) o z in
@@ -258,16 +256,16 @@ module _ (m : Matrix) (bits : List ℕ) (same : m.values ≡ map (of_bits binary
 
   -- ---- what the product needs
   -- no two entries of an accepted matrix are in one place
-  pub general_once : outcome_is a after ≡ whole_general_graph m s → number_of a ≡ accepted → Alone m (EntryAt m)
+  pub general_once : outcome_is a after ≡ whole_general_graph m s → fault_of a ≡ accepted → Alone m (EntryAt m)
   unfolding whole_general_graph
   general_once o z = general_alone m s (none_wrong m.pattern.n (kept_columns m) logs s after a (whole_general_fault m s) o z) doubles
 
-  pub symmetric_once : outcome_is a after ≡ whole_symmetric_graph m s → number_of a ≡ accepted → Alone m (EitherAt m)
+  pub symmetric_once : outcome_is a after ≡ whole_symmetric_graph m s → fault_of a ≡ accepted → Alone m (EitherAt m)
   unfolding whole_symmetric_graph
   symmetric_once o z = symmetric_alone m s (none_wrong m.pattern.n (mirrored_columns m) logs s after a (whole_symmetric_fault m s) o z) doubles
 
   -- the costs of the graph that is left are whole, and a certified match of it has potentials
-  pub general_left : outcome_is a after ≡ whole_general_graph m s → number_of a ≡ accepted
+  pub general_left : outcome_is a after ≡ whole_general_graph m s → fault_of a ≡ accepted
       → WholeGraph (graph_left m.pattern.n after) × ((c : Claim) → Certified (graph_left m.pattern.n after) c → LogPotentials m (EntryAt m) c.perm)
   unfolding whole_general_graph
   general_left o z =
@@ -276,7 +274,7 @@ module _ (m : Matrix) (bits : List ℕ) (same : m.values ≡ map (of_bits binary
       let W = general_optimal m s fine doubles after e in
       (W, λ c C. general_logs m s fine doubles c (subst (λ (x : CostGraph). Certified x c) (left_is (kept_columns m) m s after e) C))
 
-  pub symmetric_left : outcome_is a after ≡ whole_symmetric_graph m s → number_of a ≡ accepted
+  pub symmetric_left : outcome_is a after ≡ whole_symmetric_graph m s → fault_of a ≡ accepted
       → WholeGraph (graph_left m.pattern.n after) × ((c : Claim) → Certified (graph_left m.pattern.n after) c → LogPotentials m (EitherAt m) c.perm)
   unfolding whole_symmetric_graph
   symmetric_left o z =
@@ -288,36 +286,36 @@ module _ (m : Matrix) (bits : List ℕ) (same : m.values ≡ map (of_bits binary
   -- ---- the theorems
   -- If `whole_general_graph` accepts, and `hungarian_match` accepts the graph left and matches all n columns, then `exponents` accepts what is
   -- left, and brings all entries below 2 and the matched ones above 1/4, also in the values that `apply_exponents` leaves
-  pub general_ends : outcome_is a after ≡ whole_general_graph m s → number_of a ≡ accepted
-      → (before left : Match.Slices) (answer : Answer) (old : List ℕ) → outcome_is answer left ≡ Match.match_outcome (graph_left m.pattern.n after) before
-      → Match.number_of answer ≡ accepted → get_or (Match.counts_left answer old) 0 0 ≡ m.pattern.n
+  pub general_ends : outcome_is a after ≡ whole_general_graph m s → fault_of a ≡ accepted
+      → (before left : Match.Slices) (answer : Result Counts ℕ) (old : List ℕ) → outcome_is answer left ≡ Match.match_outcome (graph_left m.pattern.n after) before
+      → fault_of answer ≡ accepted → get_or (Match.counts_left answer old) 0 0 ≡ m.pattern.n
       → (rows columns : List ℤ) → length rows ≡ m.pattern.n → length columns ≡ m.pattern.n
       → (number : ℕ) (e : Exponents) → outcome_is number e ≡ make_exponents m.pattern.n (duals left.u left.v after.cmax) rows columns
       → (number ≡ accepted) × Scales m bits left.perm e
   general_ends o z = ours_end (general_prepared o z)
 
   -- the same for `whole_symmetric_graph`: the entries of the stored triangle and their mirrors, and so the general form
-  pub symmetric_ends : outcome_is a after ≡ whole_symmetric_graph m s → number_of a ≡ accepted
-      → (before left : Match.Slices) (answer : Answer) (old : List ℕ) → outcome_is answer left ≡ Match.match_outcome (graph_left m.pattern.n after) before
-      → Match.number_of answer ≡ accepted → get_or (Match.counts_left answer old) 0 0 ≡ m.pattern.n
+  pub symmetric_ends : outcome_is a after ≡ whole_symmetric_graph m s → fault_of a ≡ accepted
+      → (before left : Match.Slices) (answer : Result Counts ℕ) (old : List ℕ) → outcome_is answer left ≡ Match.match_outcome (graph_left m.pattern.n after) before
+      → fault_of answer ≡ accepted → get_or (Match.counts_left answer old) 0 0 ≡ m.pattern.n
       → (rows columns : List ℤ) → length rows ≡ m.pattern.n → length columns ≡ m.pattern.n
       → (number : ℕ) (e : Exponents) → outcome_is number e ≡ make_exponents m.pattern.n (duals left.u left.v after.cmax) rows columns
       → (number ≡ accepted) × ScalesSymmetric m bits left.perm e
   symmetric_ends o z = ours_end (symmetric_prepared o z)
 
   -- the same for a match that `check_match` accepts on such a graph, whoever made it, if `exponents` accepts it; it may refuse it with 43 (Examples.antt)
-  pub checked_general_ends : outcome_is a after ≡ whole_general_graph m s → number_of a ≡ accepted
-      → (c : Claim) → Doubles c.u → Doubles c.v → (verdict : Verdict) → verdict ≡ checked (graph_left m.pattern.n after) c
-      → Check.number_of verdict ≡ accepted
+  pub checked_general_ends : outcome_is a after ≡ whole_general_graph m s → fault_of a ≡ accepted
+      → (c : Claim) → Doubles c.u → Doubles c.v → (verdict : ℕ) → verdict ≡ check_fault (graph_left m.pattern.n after) c
+      → verdict ≡ accepted
       → (rows columns : List ℤ) (number : ℕ) (e : Exponents) → outcome_is number e ≡ make_exponents m.pattern.n
       (duals c.u c.v after.cmax) rows columns
       → number ≡ accepted
       → Scales m bits c.perm e
   checked_general_ends o z = checked_end (general_prepared o z)
 
-  pub checked_symmetric_ends : outcome_is a after ≡ whole_symmetric_graph m s → number_of a ≡ accepted
-      → (c : Claim) → Doubles c.u → Doubles c.v → (verdict : Verdict) → verdict ≡ checked (graph_left m.pattern.n after) c
-      → Check.number_of verdict ≡ accepted
+  pub checked_symmetric_ends : outcome_is a after ≡ whole_symmetric_graph m s → fault_of a ≡ accepted
+      → (c : Claim) → Doubles c.u → Doubles c.v → (verdict : ℕ) → verdict ≡ check_fault (graph_left m.pattern.n after) c
+      → verdict ≡ accepted
       → (rows columns : List ℤ) (number : ℕ) (e : Exponents) → outcome_is number e ≡ make_exponents m.pattern.n
       (duals c.u c.v after.cmax) rows columns
       → number ≡ accepted

@@ -1,5 +1,6 @@
 -- Small matrices by computing: a match whose product is less than the largest by more than 2 ^ (n / 65536), so that half of the bound would not be
 -- enough (`even_far`); a symmetric matrix whose largest product takes an entry and its mirror (`triangle_matched`).
+use Rattle.std.proofs.Common.{Result}
 use mathlib.Core.Path.{◌≡◌, refl, sym, ap, ◌∙◌}
 use mathlib.Core.List.{List, [], ◌∷◌, map}
 use Prim.Native.Nat.{ℕ, ◌*◌, ◌^◌, ◌≤◌, ◌<◌}
@@ -10,6 +11,7 @@ use borrow.Author.Tests.{leb-true, ltb-true}
 use lib.Ieee.{Float, nan, binary64, of_int, of_bits, add, sub, neg, lt, le, eq, ne}
 use lib.ListN.{get_or, replicate}
 use Rattle.refusal.specs.Refusal.{accepted}
+use Rattle.refusal.specs.Number.{fault_of}
 use Rattle.slices.specs.Outcome.{Outcome}
 use Rattle.float64.specs.Number.{magnitude, units_per_one}
 use Rattle.sparse.specs.Fault.{first_of}
@@ -21,12 +23,11 @@ use Rattle.sparse.specs.Pattern.{column_of}
 use Rattle.hungarian.specs.Test.{graph_fault, cost_fault}
 use Rattle.hungarian.specs.Match.{hungarian_match}
 use Rattle.hungarian_match.specs.Call as Match
-use Rattle.hungarian_match.specs.declared.Answer.{Answer}
+use Rattle.hungarian.specs.declared.Counts.{Counts}
 use Rattle.cost_limit.specs.Range.{in_range}
 use Rattle.whole_log.specs.Log.{whole_log}
 use Rattle.mc64_columns.specs.Columns.{largest, largest_from, normalised}
 use Rattle.mc64_columns.specs.Graphs as Graphs
-use Rattle.mc64_columns.specs.declared.Built.{Built}
 use Rattle.mc64_general.specs.Graph.{is_kept, kept_places, largest_log}
 use Rattle.mc64_symmetric.specs.Graph.{places_to}
 use Rattle.whole_graphs.specs.Graphs.{finite_fault, general_input_fault, symmetric_input_fault, whole_general_graph, whole_symmetric_graph, graph_left}
@@ -49,14 +50,14 @@ greater = 174536318
 abbrev even : Matrix
 even = matrix 2 (0 ∷ 2 ∷ 4 ∷ []) (0 ∷ 1 ∷ 0 ∷ 1 ∷ []) (map (of_bits binary64) (174536318 ∷ 174534472 ∷ 174534472 ∷ 174536318 ∷ []))
 
-abbrev even_builds : Outcome Built Graphs.Slices
+abbrev even_builds : Outcome (Result ℕ ℕ) Graphs.Slices
 even_builds = whole_general_graph even (Graphs.slices (zeros 3) (zeros 4) (blanks 4) (blanks 2) (zeros 10))
 
-abbrev even_matches : Outcome Answer Match.Slices
+abbrev even_matches : Outcome (Result Counts ℕ) Match.Slices
 even_matches = Match.match_outcome (graph_left 2 even_builds.after) (Match.slices (zeros 2) (blanks 2) (blanks 2) (zeros 25) (blanks 4))
 
 -- the match does not take the diagonal, whose product is larger
-pub even_matched : (Graphs.number_of even_builds.answer ≡ accepted) × (Match.number_of even_matches.answer ≡ accepted)
+pub even_matched : (fault_of even_builds.answer ≡ accepted) × (fault_of even_matches.answer ≡ accepted)
     × (get_or (Match.counts_left even_matches.answer []) 0 0 ≡ 2) × (even_matches.after.perm ≡ 1 ∷ 0 ∷ [])
 unfolding whole_general_graph general_input_fault finite_fault frame_fault general_fault Graphs.slices_fit Graphs.built Graphs.joined kept_places is_kept
     largest_log largest largest_from normalised whole_log Match.match_outcome Match.finished Match.match_lengths hungarian_match graph_fault
@@ -101,14 +102,14 @@ even_far =
 abbrev triangle : Matrix
 triangle = matrix 2 (0 ∷ 2 ∷ 2 ∷ []) (0 ∷ 1 ∷ []) (map (of_bits binary64) (0x4008_0000_0000_0000 ∷ 0x3FF0_0000_0000_0000 ∷ []))
 
-abbrev triangle_builds : Outcome Built Graphs.Slices
+abbrev triangle_builds : Outcome (Result ℕ ℕ) Graphs.Slices
 triangle_builds = whole_symmetric_graph triangle (Graphs.slices (zeros 3) (zeros 4) (blanks 4) (blanks 2) (zeros 8))
 
-abbrev triangle_matches : Outcome Answer Match.Slices
+abbrev triangle_matches : Outcome (Result Counts ℕ) Match.Slices
 triangle_matches = Match.match_outcome (graph_left 2 triangle_builds.after) (Match.slices (zeros 2) (blanks 2) (blanks 2) (zeros 25) (blanks 4))
 
 -- the 1 at row 1 and column 0 is at row 0 and column 1 too, and has its size at both; the diagonal has 3 and nothing
-pub triangle_matched : (Graphs.number_of triangle_builds.answer ≡ accepted) × (Match.number_of triangle_matches.answer ≡ accepted)
+pub triangle_matched : (fault_of triangle_builds.answer ≡ accepted) × (fault_of triangle_matches.answer ≡ accepted)
     × (get_or (Match.counts_left triangle_matches.answer []) 0 0 ≡ 2) × (triangle_matches.after.perm ≡ 1 ∷ 0 ∷ [])
     × (product_of 2 (symmetric_size triangle) (rows_of (1 ∷ 0 ∷ [])) ≡ 2 ^ 1074 * 2 ^ 1074) × (product_of 2 (symmetric_size triangle) (rows_of (0 ∷ 1 ∷ [])) ≡ 0)
 unfolding whole_symmetric_graph symmetric_input_fault finite_fault frame_fault symmetric_fault symmetric_columns lower_column rising_column Graphs.slices_fit

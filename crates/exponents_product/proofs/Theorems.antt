@@ -1,6 +1,7 @@
 -- The product of a match against that of any complete choice of entries, of what the calls leave: `general_largest_product` and `symmetric_largest_product` for
 -- our own matches, `checked_general_product` and `checked_symmetric_product` for matches that others made. The calls' outcomes are premises, as in
 -- exponent_bounds; what is left has potentials (`general_left`, `symmetric_left`), and these show it (`near_largest`).
+use Rattle.std.proofs.Common.{Result}
 use mathlib.Core.Path.{◌≡◌, refl, sym, ap₂, subst}
 use mathlib.Core.Bool.{Bool, ◌&&◌}
 use mathlib.Core.List.{List, map}
@@ -12,19 +13,16 @@ use lib.Ieee.{binary64, of_bits}
 use lib.Ieee.Bits.{is_true}
 use lib.ListN.{length, get_or}
 use Rattle.refusal.specs.Refusal.{accepted}
+use Rattle.refusal.specs.Number.{fault_of}
 use Rattle.slices.specs.Outcome.{outcome_is}
 use Rattle.slices.proofs.Bools.{both}
 use Rattle.sparse.specs.Matrix.{Matrix}
 use Rattle.sparse.specs.Pattern.{column_of}
 use Rattle.hungarian.proofs.Rows.{or_l, or_r, or_cases}
 use Rattle.hungarian_match.specs.Call as Match
-use Rattle.hungarian_match.specs.declared.Answer.{Answer}
-use Rattle.match_check.specs.Check.{Claim, claim}
-use Rattle.match_check.specs.Call.{checked}
-use Rattle.match_check.specs.Call as Check
-use Rattle.match_check.specs.declared.Verdict.{Verdict}
-use Rattle.mc64_columns.specs.Graphs.{Slices, number_of}
-use Rattle.mc64_columns.specs.declared.Built.{Built}
+use Rattle.hungarian.specs.declared.Counts.{Counts}
+use Rattle.match_check.specs.Check.{Claim, claim, check_fault}
+use Rattle.mc64_columns.specs.Graphs.{Slices}
 use Rattle.whole_graphs.specs.Graphs.{whole_general_graph, whole_symmetric_graph, graph_left}
 use Rattle.whole_graphs.proofs.Theorems.{Doubles}
 use Rattle.exponents_bounds.specs.Bounds.{entry_magnitude}
@@ -55,14 +53,14 @@ symmetric_near : (m : Matrix) (perm : List ℕ) → LogPotentials m (EitherAt m)
 symmetric_near m perm = near_largest m (EitherAt m) (either_at m) (either_says m) (either_tells m) perm
 
 -- ---- the theorems
-module _ (m : Matrix) (bits : List ℕ) (same : m.values ≡ map (of_bits binary64) bits) (s after : Slices) (a : Built) where
+module _ (m : Matrix) (bits : List ℕ) (same : m.values ≡ map (of_bits binary64) bits) (s after : Slices) (a : Result ℕ ℕ) where
   -- the size at the place of an entry is its own, as no other is there; of a symmetric matrix at its mirror's place too
-  pub general_sizes : outcome_is a after ≡ whole_general_graph m s → number_of a ≡ accepted
+  pub general_sizes : outcome_is a after ≡ whole_general_graph m s → fault_of a ≡ accepted
       → (k : ℕ) → k < length m.pattern.row_idx → general_size m (get_or m.pattern.row_idx k 0) (column_of m.pattern k) ≡ entry_magnitude m k
   general_sizes o z k h = size_is m (EntryAt m) (entry_at m) (entry_says m) (entry_tells m) (general_once m bits same s after a o z) _ _ k h
       (refl, refl)
 
-  pub symmetric_sizes_lem : outcome_is a after ≡ whole_symmetric_graph m s → number_of a ≡ accepted → (k : ℕ) → k < length m.pattern.row_idx
+  pub symmetric_sizes_lem : outcome_is a after ≡ whole_symmetric_graph m s → fault_of a ≡ accepted → (k : ℕ) → k < length m.pattern.row_idx
       → (symmetric_size m (get_or m.pattern.row_idx k 0) (column_of m.pattern k) ≡ entry_magnitude m k)
       × (symmetric_size m (column_of m.pattern k) (get_or m.pattern.row_idx k 0) ≡ entry_magnitude m k)
   symmetric_sizes_lem o z k h =
@@ -71,9 +69,9 @@ module _ (m : Matrix) (bits : List ℕ) (same : m.values ≡ map (of_bits binary
 
   -- If `whole_general_graph` accepts, and `hungarian_match` accepts the graph left and matches all n columns, no complete choice of the matrix's entries has a
   -- product of 2 ^ (n / 32768) times that of the match
-  pub general_largest_product : outcome_is a after ≡ whole_general_graph m s → number_of a ≡ accepted
-      → (before left : Match.Slices) (answer : Answer) (old : List ℕ) → outcome_is answer left ≡ Match.match_outcome (graph_left m.pattern.n after) before
-      → Match.number_of answer ≡ accepted → get_or (Match.counts_left answer old) 0 0 ≡ m.pattern.n
+  pub general_largest_product : outcome_is a after ≡ whole_general_graph m s → fault_of a ≡ accepted
+      → (before left : Match.Slices) (answer : Result Counts ℕ) (old : List ℕ) → outcome_is answer left ≡ Match.match_outcome (graph_left m.pattern.n after) before
+      → fault_of answer ≡ accepted → get_or (Match.counts_left answer old) 0 0 ≡ m.pattern.n
       → NearLargest m.pattern.n (general_size m) left.perm
   general_largest_product o z before left answer old p q count =
       let (whole, logs) = general_left m bits same s after a o z in
@@ -81,9 +79,9 @@ module _ (m : Matrix) (bits : List ℕ) (same : m.values ≡ map (of_bits binary
       (logs (claim left.perm left.u left.v) (left_certified m.pattern.n after whole before left answer old p q count))
 
   -- the same of `whole_symmetric_graph`: a choice is of entries of both triangles, and a stored entry has its size at its own place and at its mirror's
-  pub symmetric_largest_product : outcome_is a after ≡ whole_symmetric_graph m s → number_of a ≡ accepted
-      → (before left : Match.Slices) (answer : Answer) (old : List ℕ) → outcome_is answer left ≡ Match.match_outcome (graph_left m.pattern.n after) before
-      → Match.number_of answer ≡ accepted → get_or (Match.counts_left answer old) 0 0 ≡ m.pattern.n
+  pub symmetric_largest_product : outcome_is a after ≡ whole_symmetric_graph m s → fault_of a ≡ accepted
+      → (before left : Match.Slices) (answer : Result Counts ℕ) (old : List ℕ) → outcome_is answer left ≡ Match.match_outcome (graph_left m.pattern.n after) before
+      → fault_of answer ≡ accepted → get_or (Match.counts_left answer old) 0 0 ≡ m.pattern.n
       → NearLargest m.pattern.n (symmetric_size m) left.perm
   symmetric_largest_product o z before left answer old p q count =
       let (whole, logs) = symmetric_left m bits same s after a o z in
@@ -91,17 +89,17 @@ module _ (m : Matrix) (bits : List ℕ) (same : m.values ≡ map (of_bits binary
       (logs (claim left.perm left.u left.v) (left_certified m.pattern.n after whole before left answer old p q count))
 
   -- the same for a match that `check_match` accepts on such a graph, whoever made it
-  pub checked_general_product : outcome_is a after ≡ whole_general_graph m s → number_of a ≡ accepted
-      → (c : Claim) → Doubles c.u → Doubles c.v → (verdict : Verdict) → verdict ≡ checked (graph_left m.pattern.n after) c
-      → Check.number_of verdict ≡ accepted
+  pub checked_general_product : outcome_is a after ≡ whole_general_graph m s → fault_of a ≡ accepted
+      → (c : Claim) → Doubles c.u → Doubles c.v → (verdict : ℕ) → verdict ≡ check_fault (graph_left m.pattern.n after) c
+      → verdict ≡ accepted
       → NearLargest m.pattern.n (general_size m) c.perm
   checked_general_product o z c du dv verdict p q =
       let (whole, logs) = general_left m bits same s after a o z in
       general_near m c.perm (logs c (checked_certified m.pattern.n after whole c du dv verdict p q))
 
-  pub checked_symmetric_product : outcome_is a after ≡ whole_symmetric_graph m s → number_of a ≡ accepted
-      → (c : Claim) → Doubles c.u → Doubles c.v → (verdict : Verdict) → verdict ≡ checked (graph_left m.pattern.n after) c
-      → Check.number_of verdict ≡ accepted
+  pub checked_symmetric_product : outcome_is a after ≡ whole_symmetric_graph m s → fault_of a ≡ accepted
+      → (c : Claim) → Doubles c.u → Doubles c.v → (verdict : ℕ) → verdict ≡ check_fault (graph_left m.pattern.n after) c
+      → verdict ≡ accepted
       → NearLargest m.pattern.n (symmetric_size m) c.perm
   checked_symmetric_product o z c du dv verdict p q =
       let (whole, logs) = symmetric_left m bits same s after a o z in
