@@ -5,8 +5,7 @@ use Rattle.std.specs.Float.Ieee.{sub}
 use Rattle.refusal.specs.Number.{number, number_of}
 use Rattle.refusal.proofs.Numbers.{number_ne_zero}
 use Rattle.sparse.proofs.First.{or-none, answer_first, answer_second}
-use Rattle.exponents.specs.Call.{Duals, duals, differences, lengths_fit, factors_fault, exponents_fault}
-use Rattle.exponents.specs.inner.Steps.{Gives}
+use Rattle.exponents.specs.Call.{duals, differences, lengths_fit, factors_fault, exponents_fault}
 use Rattle.exponents.proofs.Calling.{Fitting, fitting, refuses, accepts, differences_length, difference_at}
 use Rattle.exponents.proofs.exponents.Goals as goal
 use Rattle.exponents.proofs.exponents.Goals.{In_ok-size_fault, In_ok-factors_fault, In_ok-factors_fault-2}

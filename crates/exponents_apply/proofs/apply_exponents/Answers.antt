@@ -1,12 +1,11 @@
 -- Each refusal is the first fault of the chain and leaves the values; after all tests the values are scaled.
-use Rattle.std.proofs.Common.{◌≡◌, List, ℕ, length, refl, sym, ◌∙◌, rules, arith}
+use Rattle.std.proofs.Common.{◌≡◌, refl, sym, ◌∙◌, rules}
 use Rattle.refusal.specs.Number.{number, number_of}
 use Rattle.refusal.proofs.Numbers.{number_ne_zero}
 use Rattle.sparse.specs.Pattern.{pattern}
 use Rattle.sparse.proofs.First.{or-none, answer_first, answer_second}
 use Rattle.exponents_powers.specs.Power.{exponents}
 use Rattle.exponents_apply.specs.Apply.{apply_fault}
-use Rattle.exponents_apply.specs.inner.Steps.{Tested}
 use Rattle.exponents_apply.proofs.Calling.{tested, refuses, accepts}
 use Rattle.exponents_apply.proofs.apply_exponents.Goals as goal
 
