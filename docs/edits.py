@@ -10,7 +10,8 @@ The comment of an edit says what the contract says and the edit breaks. A line `
 false under the edit; an edit without one has an empty column. PLACE is a file of the crate's proofs, and FACT a law in
 it; or PLACE is a function, as its folder in proofs, and FACT a goal of its proof (`returns`, `loop-k-init`).
 The status is 1 if an edit has no comment, if its line `false:` is not of this form, if a file of proofs that it names
-has no such law or goal, or if neither proofs nor src have what it names.
+has no such law, or if neither proofs nor src have what it names. Goals that the check finds alone stand in no file, so
+the name of a goal is not tested.
 """
 import re
 import sys
@@ -26,13 +27,14 @@ faults = []
 
 
 def stands(crate, place, fact):
-    """whether the fact is in that place; of a function without a proof file, whether there is such a function"""
+    """whether the fact is in that place; a goal that the check finds alone is in no file, and so any goal of a function
+    of the crate passes"""
     proofs = ROOT / "crates" / crate / "proofs"
     files = [proofs / f"{place}.antt", *(proofs / place).glob("*.antt")]
     texts = [path.read_text() for path in files if path.is_file()]
-    if not texts:
-        function = re.compile(rf"\bfn {re.escape(place.split('/')[-1])}\b")
-        return any(function.search(path.read_text()) for path in (ROOT / "crates" / crate / "src").rglob("*.rt"))
+    function = re.compile(rf"\bfn {re.escape(place.split('/')[-1])}\b")
+    if any(function.search(path.read_text()) for path in (ROOT / "crates" / crate / "src").rglob("*.rt")):
+        return True
     return any(re.search(rf"^ *(?:pub )?{re.escape(fact)}(?: |$)", text, re.M) for text in texts)
 
 
