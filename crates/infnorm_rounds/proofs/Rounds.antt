@@ -57,8 +57,12 @@ module _ (factors work updated : List Float) (i : ℕ) (same : length factors �
   unfolding written zipped
   row_next {x} h e =
       place_set written factors i (long (omega arith)) stands x h
-      ∙ rw (e ∙ ap (λ (d : Float). new_factor d (get_or work i nan)) (factor_there (omega arith)), take_more factors i nan h, take_more work i nan (omega arith),
-      zipped_append new_factor (take i factors) (take i work) (get_or factors i nan ∷ []) (get_or work i nan ∷ []) (ends (omega arith))) refl
+      ∙ rw (
+        e ∙ ap (λ (d : Float). new_factor d (get_or work i nan)) (factor_there (omega arith)),
+        take_more factors i nan h,
+        take_more work i nan (omega arith),
+        zipped_append new_factor (take i factors) (take i work) (get_or factors i nan ∷ []) (get_or work i nan ∷ []) (ends (omega arith)),
+      ) refl
 
   pub block_next : (k to : ℕ) {part : List Float} → i + k ≡ to → to ≤ length factors
       → part ≡ zipped new_factor (take k (drop i updated)) (take k (drop i work)) → Updated factors work (put_mid i k updated part) to
@@ -67,14 +71,23 @@ module _ (factors work updated : List Float) (i : ℕ) (same : length factors �
       let new : part ≡ zipped new_factor (take k (drop i factors)) (take k (drop i work)) =
       q ∙ ap (λ (l : List Float). zipped new_factor (take k l) (take k (drop i work))) (rest_is written factors i (long (omega arith)) stands) in
       part_put written factors i (long (omega arith)) stands k part
-      ∙ rw (new, ← zipped_append new_factor (take i factors) (take i work) (take k (drop i factors)) (take k (drop i work)) (ends (omega arith)),
-      ← take-add i k factors, ← take-add i k work, e) refl
+      ∙ rw (
+        new,
+        ← zipped_append new_factor (take i factors) (take i work) (take k (drop i factors)) (take k (drop i work)) (ends (omega arith)),
+        ← take-add i k factors,
+        ← take-add i k work,
+        e,
+      ) refl
 
 pub all_updated : (factors work updated : List Float) → length factors ≡ length work → Updated factors work updated (length factors)
     → updated ≡ zipped new_factor factors work
 all_updated factors work updated same is =
-    is ∙ rw (drop_all (length factors) factors (le_refl _), append-nil (zipped new_factor (take (length factors) factors) (take (length factors) work)),
-    take_all (length factors) factors (le_refl _), take_all (length factors) work (omega arith)) refl
+    is ∙ rw (
+      drop_all (length factors) factors (le_refl _),
+      append-nil (zipped new_factor (take (length factors) factors) (take (length factors) work)),
+      take_all (length factors) factors (le_refl _),
+      take_all (length factors) work (omega arith),
+    ) refl
 
 -- the root that stands for the number at place i is its root
 pub root_there : {numbers roots : List Float} → Roots numbers 0 roots 16 → (i : ℕ) → i < 16 → lt Constants.zero (get_or numbers i nan) ≡ true

@@ -65,7 +65,11 @@ fn update_factors(factors: &mut [f64], work: &[f64]) -> bool
         let from = i * root_blocks::BLOCK;
         let maxima = &work[from..from + root_blocks::BLOCK];
         root_blocks::roots_of(maxima, 0, &mut roots);
-        update_block(&mut factors[from..from + root_blocks::BLOCK], maxima, &roots);
+        update_block(
+            &mut factors[from..from + root_blocks::BLOCK],
+            maxima,
+            &roots,
+        );
     }
     let from = blocks * root_blocks::BLOCK;
     update_rest(&mut factors[from..], &work[from..]);
