@@ -63,7 +63,7 @@ module _ (g : CostGraph) (s : Slices) (old : List ℕ) where
       let wrong : number ≡ result_fault g s old = rw (ne_eqb (length old) 8 h) e in
       let o = refused_is as_number (match_result_of (call.finished g s) old) (lent s old) wrong some in
       let l : OneOf graph_numbers number = subst (OneOf graph_numbers) (sym e) (part {l = graph_numbers} size_numbers
-          (sizes_listed g.pattern.n max_general (entries g.pattern) false) refl).is in
+      (sizes_listed g.pattern.n max_general (entries g.pattern) false) refl).is in
       only_numbered (outcome_is number (lent s old)) o some l
 
   module _ (h : length old ≡ 8) {after : Slices} where

@@ -140,10 +140,10 @@ module _ (sheet : List ℕ) (before : Match ℕ) (old : List ℕ) where
     pub was_read : reading.ReadPromises sheet before (numbered r) after → ReadPromises sheet before old (outcome_is k (read_lent after answer))
     was_read p =
         as_read (rw (q, v) (read_left read_sheet_numbers (reading.Holds sheet) reading.Rewritten (body_fault sheet) sheet before old h r
-            p.outcome p.number p.holds p.rewritten))
+        p.outcome p.number p.holds p.rewritten))
 
     pub was_canonical : reading.CanonicalPromises sheet before (numbered r) after
         → CanonicalPromises sheet before old (outcome_is k (read_lent after answer))
     was_canonical p =
         as_canonical (rw (q, v) (read_left canonical_sheet_numbers (reading.Holds sheet) Again (canonical_body sheet) sheet before old h r
-            p.outcome p.number p.holds p.again))
+        p.outcome p.number p.holds p.again))

@@ -8,7 +8,7 @@ use Rattle.suontarvi.proofs.factor_calls.suontarvi_log_factors_bytes.Goals as go
 pub returns-in-Err : goal.returns-in-Err
 returns-in-Err c =
     factors_number _ _ _ _ _ _ _ _ (factors_refused _ _ _ _ _ _ _ _ (c.from.ensures ∙ c.in-Err.ensures)
-        (λ z. number_ne_zero c.in-Err.refusal (sym c.from.ensures ∙ z)))
+    (λ z. number_ne_zero c.in-Err.refusal (sym c.from.ensures ∙ z)))
 
 pub read_factors-requires-clause-duals : goal.read_factors-requires-clause-duals
 read_factors-requires-clause-duals c =
@@ -28,4 +28,4 @@ read_factors-requires-clause-factors_len c =
 pub returns : goal.returns
 returns c =
     factors_number _ _ _ _ _ _ _ _ (factors_result _ _ _ _ _ _ _ _ c.in_default.ensures refl
-        (rw c.answer.ensures c.read_factors.ensures))
+    (rw c.answer.ensures c.read_factors.ensures))

@@ -8,7 +8,7 @@ use Rattle.suontarvi.proofs.factor_calls.suontarvi_unsymmetric_factors_bytes.Goa
 pub returns-in-Err : goal.returns-in-Err
 returns-in-Err c =
     sides_number _ _ _ _ _ _ (sides_refused _ _ _ _ _ _ (c.from.ensures ∙ c.in-Err.ensures)
-        (λ z. number_ne_zero c.in-Err.refusal (sym c.from.ensures ∙ z)))
+    (λ z. number_ne_zero c.in-Err.refusal (sym c.from.ensures ∙ z)))
 
 pub read_sides-requires-clause-duals : goal.read_sides-requires-clause-duals
 read_sides-requires-clause-duals c =
