@@ -28,6 +28,9 @@ struct Column {
     lack: u64,
 }
 
+// The most digits of a step.
+const MAX_DIGITS: u32 = 50;
+
 // The place of zero, and the most steps that a number may have.
 const ORIGIN: u64 = 0x2_0000_0000_0000;
 
@@ -254,7 +257,7 @@ fn gap_fault(
         let c = claim perm.now u.now v.now in
         number_of result ≡ gap_fault digits g c gap.now }
 {
-    if digits > 50 {
+    if digits > MAX_DIGITS {
         return Err(Refusal::IndexRange);
     }
     let lengths = lengths_fit(n as usize, col_ptr, row_idx, cost, perm, u, v) & (gap.len() == 1);
