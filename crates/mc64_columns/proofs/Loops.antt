@@ -40,4 +40,3 @@ costs_go_on top l k h = rw (add-one k) (go l k h)
     go [] k h = absurd (omega arith)
     go (c ∷ l) zero h = refl
     go (c ∷ l) (suc k) h = ap (λ (r : List Float). sub binary64 top c ∷ r) (go l k (omega arith))
-

@@ -12,8 +12,8 @@ pub loop-log-preserved : goal.loop-log-preserved
 loop-log-preserved c =
     let goes_on = largest_goes_on _ _ _ c.loop-log.log-index (omega arith) c.loop-log.invariant in
     elim c.if-log-top.branch [
-      then-log-top w ↦ rw w.top-is (goes_on true w.if-log-top.true)
-    | else-log-top w ↦ rw w.top-is (goes_on false w.if-log-top.false)
+      | then-log-top w ↦ rw w.top-is (goes_on true w.if-log-top.true)
+      | else-log-top w ↦ rw w.top-is (goes_on false w.if-log-top.false)
     ]
 
 pub returns : goal.returns
