@@ -144,9 +144,6 @@ pub record Claiming (n : ℕ) (col_ptr w₀ w : List ℕ) (i num : ℕ) : Type 0
       (claim (graph_of n col_ptr rows cost) (region least_at n w₀)) (pairs_counted n w₀ 0)
 
 module _ {n : ℕ} {col_ptr w₀ : List ℕ} where
-  pub claiming_start : Claimable n col_ptr w₀ → Claiming n col_ptr w₀ w₀ 0 0
-  claiming_start c = record { within = omega arith; few = omega arith; claimable = c; least = refl; run = λ rows cost. refl }
-
   module _ {w : List ℕ} {i num : ℕ} (c : Claiming n col_ptr w₀ w i num) where
     pub claiming_turn : {w' : List ℕ} {r : ℕ} → i < n → length w' ≡ length w → ClaimedRow n col_ptr w i num w' r → Claiming n col_ptr w₀ w' (i + 1) r
     claiming_turn {w'} {r} h l s = record {

@@ -65,16 +65,6 @@ pub record Lowering (g : CostGraph) (j : ℕ) (u₀ : List Float) (w₀ : List �
       (minima_of g.pattern.n u₀ w₀)
 
 module _ {g : CostGraph} {j : ℕ} {u₀ : List Float} {w₀ : List ℕ} (ready : Ready g u₀ w₀) (h : j < g.pattern.n) where
-  pub lowering_start : Lowering g j u₀ w₀ u₀ w₀ (start g.pattern j)
-  lowering_start = record {
-    within = rw (stop_is g j) (ready.sound.columns.pointers.rises j h);
-    duals = ready.duals;
-    words =
-        ready.words;
-    entries = refl;
-    run = refl;
-  }
-
   module _ {u : List Float} {w : List ℕ} {k : ℕ} (s : Lowering g j u₀ w₀ u w k) where
     lowering_takes : k < stop g j → le (cost_of g k) (get_or u (row_of g.pattern k) nan) ≡ true → Lowering g j u₀ w₀ (set u (row_of g.pattern k) (cost_of g k))
         (set (set w (row_of g.pattern k) j) (2 * g.pattern.n + row_of g.pattern k) k) (k + 1)

@@ -32,7 +32,7 @@ use Rattle.hungarian.proofs.Initial.{initial_matched}
 use Rattle.hungarian.proofs.Accepts.{near_setting}
 use Rattle.hungarian.proofs.Theorems.{turns, exact_start}
 use Rattle.hungarian_init.specs.inner.Steps.{Begun}
-use Rattle.hungarian_search.specs.inner.Steps.{Searched, Started as Ready}
+use Rattle.hungarian_search.specs.inner.Steps.{Searched}
 use Rattle.hungarian_match.specs.inner.Steps.{PairedUp, Solvable, Solved}
 use Rattle.hungarian_match.specs.Call.{Slices, match_lengths}
 use Rattle.hungarian_match.specs.inner.StepsFinish.{Finishable, Columned}
@@ -81,11 +81,6 @@ pub last_late : (g : CostGraph) → (initial g).pairs.num ≢ g.pattern.n → (l
     × (last_duals g ≡ (searched g (first_duals g) (initial g)).u) × (last_counts g ≡ (searched g (first_duals g) (initial g)).stats)
 unfolding last_pairs last_duals last_counts
 last_late g e = let t = ne_eqb (initial g).pairs.num g.pattern.n e in (rw t refl, rw t refl, rw t refl)
-
--- what the start leaves is what the searches ask
-pub searchable : {g : CostGraph} {u : List Float} {w : List ℕ} {r : Counts} → Accepted g → length w ≡ 12 * g.pattern.n + 1 → Begun g u w r
-    → Ready g u w r.matched r.stats
-searchable a l b = record { accepted = a; size = l; iperm = b.iperm; jperm = b.jperm; duals = b.duals; number = b.num; counts = b.stats }
 
 -- both ends leave the last pairs
 pub paired_early : {g : CostGraph} {u : List Float} {w : List ℕ} {r : Counts} → Begun g u w r → r.matched ≡ g.pattern.n → PairedUp g u w r

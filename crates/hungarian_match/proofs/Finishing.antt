@@ -75,9 +75,6 @@ pub record Copied (n : ℕ) (rows : List ℕ) (cost u : List Float) (ks perm : L
   pub duals_at : (col_ptr : List ℕ) → take j v ≡ take j (column_duals (graph_of n col_ptr rows cost) u ks)
 
 module _ {n : ℕ} {rows : List ℕ} {cost u : List Float} {ks perm : List ℕ} {v : List Float} where
-  pub copy_begins : Copied n rows cost u ks perm v 0
-  copy_begins = record { rows_at = λ col_ptr. refl; duals_at = λ col_ptr. refl }
-
   module _ {j : ℕ} (h : j < length ks) (a : length perm ≡ length ks) (b : length v ≡ length ks) (C : Copied n rows cost u ks perm v j) where
     -- a free column
     pub copy_free : eqb (get_or ks j 0) none ≡ true → Copied n rows cost u ks (set perm j none) (set v j fzero) (j + 1)

@@ -1,6 +1,6 @@
 -- The loop over the costs, by the law of tests whose faults have one number; and the numbers that the graph test answers, from those of its parts.
 use mathlib.Core.Path.{◌≡◌, refl}
-use mathlib.Core.Bool.{Bool, true, cond, ◌&&◌}
+use mathlib.Core.Bool.{Bool, cond, ◌&&◌}
 use mathlib.Core.List.{List}
 use mathlib.Core.Logic.{◌≢◌}
 use Prim.Native.Nat.{ℕ, ◌+◌, ◌<◌, ◌≤◌}
@@ -27,9 +27,6 @@ module _ (n : ℕ) (cost : List Float) where
 
   abbrev pub Tested : Bool → ℕ → Type 0
   Tested fine k = Alike.Tested fits cost_range (length cost) some fine k
-
-  pub test_begins : Tested true 0
-  test_begins = Alike.test_begins fits cost_range (length cost) some
 
   pub test_goes_on : (fine : Bool) (k : ℕ) → k < length cost → Tested fine k → Tested (fine && in_range n (get_or cost k nan)) (k + 1)
   test_goes_on = Alike.test_goes_on fits cost_range (length cost) some

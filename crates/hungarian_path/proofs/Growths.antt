@@ -350,10 +350,6 @@ empty len c x y z = rw (eq-eqb len 0 z)
 -- what the loop's test reads
 module _ (g : CostGraph) (u : List Float) (w pos : List ℕ) (keys d : List Float) (frontier : Frontier) (stats : HungarianStats)
     (Y : Growing g u w pos keys d frontier stats) where
-  pub test_asks : 0 < frontier.len → 0 < length keys
-  unfolding tree_of heap_in
-  test_asks l = let h = Y.scanning.grown.heap.room in omega (arith, Y.sized.key_count)
-
   -- the code's test is the definition's
   test_is : (b : Bool) → has_nearer_row frontier.len frontier.csp (get_or keys 0 nan) ≡ b
       → has_nearer_row (tree_of g.pattern.n w pos d frontier stats).heap.len (tree_of g.pattern.n w pos d frontier stats).csp
@@ -380,21 +376,6 @@ module _ (g : CostGraph) (u : List Float) (w pos : List ℕ) (keys d : List Floa
           positive (suc m) z = omega arith
 
 module _ (g : CostGraph) (u : List Float) (w₀ pos₀ : List ℕ) (keys₀ d₀ : List Float) (frontier₀ : Frontier) (stats₀ : HungarianStats) where
-  pub grow_start : Growing g u w₀ pos₀ keys₀ d₀ frontier₀ stats₀ → frontier₀.popped ≡ 0
-      → GrowAt g u w₀ pos₀ keys₀ d₀ frontier₀ stats₀ w₀ pos₀ keys₀ d₀ frontier₀ stats₀
-  grow_start Y e = record {
-    growing = Y;
-    size = refl;
-    places = refl;
-    key_count = refl;
-    d_count = refl;
-    iperm = refl;
-    jperm = refl;
-    run =
-        ap (λ (m : ℕ). grow g (pairs_of g.pattern.n w₀) u m (tree_of g.pattern.n w₀ pos₀ d₀ frontier₀ stats₀))
-        (let z : g.pattern.n - frontier₀.popped ≡ g.pattern.n = omega arith in z);
-  }
-
   module _ (w pos : List ℕ) (keys d : List Float) (frontier : Frontier) (stats : HungarianStats)
       (A : GrowAt g u w₀ pos₀ keys₀ d₀ frontier₀ stats₀ w pos keys d frontier stats) where
     pub grow_next : has_nearer_row frontier.len frontier.csp (get_or keys 0 nan) ≡ true → (w' pos' : List ℕ) (keys' d' : List Float)

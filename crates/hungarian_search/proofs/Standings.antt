@@ -24,10 +24,6 @@ use Rattle.hungarian_path.proofs.Roots.{inexact}
 use Rattle.hungarian.specs.declared.Counts.{Counts}
 use Rattle.hungarian_search.specs.inner.Steps.{Augments, Standing}
 
-pub standing_at : {g : CostGraph} {u : List Float} {w pos : List ℕ} {keys d : List Float} {r : Counts} {j k : ℕ} → j ≡ k
-    → Standing g u w pos keys d r j → Standing g u w pos keys d r k
-standing_at {g} {u} {w} {pos} {keys} {d} {r} e A = subst (Standing g u w pos keys d r) e A
-
 module _ (g : CostGraph) (u : List Float) (w pos : List ℕ) (keys d : List Float) (r : Counts) (j : ℕ) (A : Standing g u w pos keys d r j)
     (below : j < g.pattern.n) where
   abbrev x : Running

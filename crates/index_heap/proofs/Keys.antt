@@ -68,9 +68,6 @@ module _ (n : ℕ) (heap pos : List ℕ) (keys : List Float) (ready : Ready n he
     rows = λ k a b. set_either (λ (z : ℕ). z < n) heap p k r 0 h (ready.rows k a b);
   }
 
-  pub ready_place : (i x : ℕ) → Ready n heap (set pos i x) keys
-  ready_place i x = record { places = ready.places; room = simp length-set ready.room; keyed = ready.keyed; small = ready.small; rows = ready.rows }
-
 -- an inverse heap is ready, whatever stands for the rows that are not in it
 pub ready : (n : ℕ) (h : Heap) (pos : List ℕ) (keys : List Float) → Inverse n h → length pos ≡ n → length keys ≡ n → n < 2 ^ 32 → Ready n h.heap pos keys
 ready n h pos keys inv e f small = record { places = inv.heap_length; room = e; keyed = f; small = small; rows = inv.rows }

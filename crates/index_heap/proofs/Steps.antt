@@ -72,9 +72,6 @@ pub record Rising (n i : ℕ) (x : Float) (place : ℕ) (heap₀ pos₀ : List �
       → Keyed d len p heap keys × (sift_up steps d i (heap_of heap pos len) p ≡ sift_up place d i (heap_of heap₀ pos₀ len) place)
 
 module _ (n i : ℕ) (x : Float) (place : ℕ) (heap₀ pos₀ : List ℕ) (keys₀ : List Float) (short : place ≤ n) where
-  pub rising_start : Ready n heap₀ pos₀ keys₀ → 1 ≤ place → Rising n i x place heap₀ pos₀ keys₀ heap₀ pos₀ keys₀ place
-  rising_start ready h = record { ready = ready; positive = h; within = le_refl place; steps = place; enough = le_refl place; run = λ d len l e K. (K, refl) }
-
   module _ (heap pos : List ℕ) (keys : List Float) (p : ℕ) (r : Rising n i x place heap₀ pos₀ keys₀ heap pos keys p) where
     pub rising_ranges : (p ≤ n) × (length heap ≡ n + 1) × (length pos ≡ n) × (length keys ≡ n) × (n < 2 ^ 32)
     rising_ranges = (omega (arith, r.within), r.ready.places, r.ready.room, r.ready.keyed, r.ready.small)
