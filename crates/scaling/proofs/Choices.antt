@@ -1,8 +1,6 @@
 -- What each choice's call answers and leaves is the chooser's outcome: the equation of that call under a function of its outcome.
 -- Its number is the fault of the choice.
 use Rattle.std.proofs.Common.{Result, Ok, Err}
-use Rattle.core.specs.Result.{result_err}
-use Rattle.core.specs.Option.{unwrap_or}
 use mathlib.Core.Path.{◌≡◌, refl, sym, ap, ◌∙◌}
 use mathlib.Core.Bool.{true, ◌&&◌}
 use mathlib.Core.List.{List, [], ◌∷◌}
@@ -14,7 +12,7 @@ use lib.Ieee.{Float}
 use lib.ListN.{length, set, replicate}
 use Rattle.limits.specs.Limits.{max_symmetric}
 use Rattle.refusal.specs.Refusal.{external_choice, index_range}
-use Rattle.refusal.specs.Number.{number, number_of, fault_of}
+use Rattle.refusal.specs.Number.{number, fault_of}
 use Rattle.refusal.specs.declared.Refusal.{Refusal}
 use Rattle.refusal.proofs.Numbers.{number_ne_zero}
 use Rattle.slices.specs.Outcome.{outcome_is, Outcome, as_number, refusing}
@@ -49,11 +47,12 @@ pub refused_unless : (number : ℕ) (done : Scaling) → number ≢ 0 → Err nu
 refused_unless zero done h = absurd (h refl)
 refused_unless (suc number) done h = refl
 
--- the refusal of a test, or else another one
-pub refusal_or : {A : Type 0} (test : Result A Refusal) (other : Refusal) {fault : ℕ} → number_of test ≡ fault
-    → number (unwrap_or (result_err test) other) ≡ or_else fault (number other)
-refusal_or (Ok x) other e = sym (or-none (sym e))
-refusal_or (Err refusal) other e = answer_first (number other) e (number_ne_zero refusal)
+-- the refusal of a test, and another one where the test refuses nothing
+pub refused_first : (refusal : Refusal) {fault : ℕ} (other : ℕ) → number refusal ≡ fault → number refusal ≡ or_else fault other
+refused_first refusal other e = answer_first other e (number_ne_zero refusal)
+
+pub refused_else : {fault : ℕ} (other : ℕ) → 0 ≡ fault → other ≡ or_else fault other
+refused_else other e = sym (or-none (sym e))
 
 -- ---- the choices
 -- what a choice's call answers and leaves, put into the chooser's slices

@@ -45,8 +45,10 @@ impl From<Scaled> for Scaling {
 pub fn external_fault(n: u32, count: usize) -> Refusal
     ensures { number result ≡ external_fault n count }
 {
-    let sizes = sparse::layout::size_fault(n, limits::MAX_SYMMETRIC, count, true);
-    sizes.err().unwrap_or(Refusal::ExternalChoice)
+    match sparse::layout::size_fault(n, limits::MAX_SYMMETRIC, count, true) {
+        Err(refusal) => refusal,
+        Ok(()) => Refusal::ExternalChoice,
+    }
 }
 
 // The factors by the strategy. MC64 uses `logs` and the slices after `maxima`, the iterated kind uses `maxima`;
@@ -155,8 +157,10 @@ pub fn no_choice(
         number result ≡ no_choice m factors.now }
 {
     let lengths = infnorm::lengths_fit(n as usize, col_ptr, row_idx, values, factors);
-    let input = infnorm::input_fault(n, col_ptr, row_idx, values, lengths);
-    input.err().unwrap_or(Refusal::IndexRange)
+    match infnorm::input_fault(n, col_ptr, row_idx, values, lengths) {
+        Err(refusal) => refusal,
+        Ok(()) => Refusal::IndexRange,
+    }
 }
 
 // Writes what was done as two numbers; a refusal leaves them as they were.

@@ -1,9 +1,13 @@
 -- The fault of the sizes, or at last the choice's.
-use Rattle.refusal.specs.declared.Refusal.TheVariants.{ExternalChoice}
+use Rattle.refusal.specs.Refusal.{external_choice}
 use Rattle.scaling.specs.Choice.{external_fault}
-use Rattle.scaling.proofs.Choices.{refusal_or}
+use Rattle.scaling.proofs.Choices.{refused_first, refused_else}
 use Rattle.scaling.proofs.external_fault.Goals as goal
 
-pub returns : goal.returns
+pub returns-in-Err : goal.returns-in-Err
 unfolding external_fault
-returns c = rw (c.unwrap_or.ensures, c.err.ensures.value) (refusal_or c.size_fault-sizes.result ExternalChoice c.size_fault-sizes.ensures)
+returns-in-Err c = refused_first _ external_choice c.in-Err.ensures
+
+pub returns-in-Ok : goal.returns-in-Ok
+unfolding external_fault
+returns-in-Ok c = refused_else external_choice c.in-Ok.ensures
