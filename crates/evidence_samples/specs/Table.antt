@@ -1,7 +1,8 @@
 -- Samples 1 to 11 and 13 to 15 of SPECIFICATION 13, as one table: a row is the sample's number and a test to compute.
 -- The tests are about what the calls' contracts name: what each call answers and leaves in slices that held other
 -- values. Indices from 0, doubles by their bits.
-use Rattle.std.specs.Prelude.{Bool, true, false, ◌&&◌, List, [], ◌∷◌, ◌++◌, map, ℕ, zero, suc, ◌+◌, ◌-◌, ◌*◌, eqb, Float, ℤ, pos, negsuc, Result, Ok, Err, get_or, replicate}
+use Rattle.std.specs.Prelude.{Bool, true, false, ◌&&◌, List, [], ◌∷◌, ◌++◌, map, ℕ, zero, suc, ◌+◌, ◌-◌}
+use Rattle.std.specs.Prelude.{◌*◌, eqb, Float, ℤ, pos, negsuc, Result, Ok, Err, get_or, replicate}
 use Prim.Native.String.{String}
 use Rattle.std.specs.Float.{nan, binary64}
 use Rattle.std.specs.Float.Ieee.{of_bits, to_bits}

@@ -1,0 +1,14 @@
+-- What is read is as long as it says, and so is what is lent. By the laws of the arrays, which are too long for a
+-- search.
+use Rattle.std.proofs.Common.{ℕ, sym}
+use lib.ListN.{length-replicate}
+use Rattle.evidence_replay.proofs.main.Goals as goal
+
+pub slice_bounds-read_full-end : goal.slice_bounds-read_full-end
+slice_bounds-read_full-end c = sym (length-replicate {A = ℕ} 524288 0)
+
+pub slice_bounds-input-end : goal.slice_bounds-input-end
+slice_bounds-input-end c = c.read_full-length.ensures.0
+
+pub slice_bounds-replay-end : goal.slice_bounds-replay-end
+slice_bounds-replay-end c = c.read_full-length.ensures.1
