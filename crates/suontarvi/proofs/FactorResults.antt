@@ -16,7 +16,7 @@ Answered = Outcome (Result Scaled ℕ) Slices
 
 module _ (n matched : ℕ) (c : Match Float) (s : Slices) (old : List ℕ) where
   -- what the call promises, with its number
-  with_number : {number : ℕ} {after : Slices} {left : List ℕ} → outcome_is number (lent after left) ≡ log_factors_result n matched c s old
+  pub with_number : {number : ℕ} {after : Slices} {left : List ℕ} → outcome_is number (lent after left) ≡ log_factors_result n matched c s old
       → FactorsPromises n matched c s old (outcome_is number (lent after left))
   with_number e =
       record { outcome = e; number = subst (OneOf log_factor_numbers) (sym (ap (λ (r : Outcome ℕ Lent). r.answer) e)) (factors_listed n matched c s old).is }

@@ -22,7 +22,7 @@ abbrev Answered : Type 0
 Answered = Outcome (Result Counts ℕ) Slices
 
 -- the match as a number and counts
-match_over : (g : CostGraph) (s : Slices) (old : List ℕ) → match_result_of (match_outcome g s) old ≡ refusing as_number (match_fault g s)
+pub match_over : (g : CostGraph) (s : Slices) (old : List ℕ) → match_result_of (match_outcome g s) old ≡ refusing as_number (match_fault g s)
     (match_result_of (call.finished g s) old) (lent s old)
 unfolding match_outcome
 match_over g s old = refusing_over (λ (o : Answered). match_result_of o old) Err as_number (match_fault g s) (call.finished g s) s

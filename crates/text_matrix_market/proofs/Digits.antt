@@ -74,7 +74,7 @@ module _ (word : List ℕ) where
     read_all h = sym (r.same ∙ rw (drop_of_length-le word {i = i} h))
 
 -- ---- a minus in front
-size_minus : (word : List ℕ) → pointwise nat_eq (take 1 word) (45 ∷ []) ≡ true → number_read (drop 1 word) ≡ size_read word
+pub size_minus : (word : List ℕ) → pointwise nat_eq (take 1 word) (45 ∷ []) ≡ true → number_read (drop 1 word) ≡ size_read word
 unfolding size_read
 size_minus [] e = let y : ⊥ = cc in absurd y
 size_minus (b ∷ word) e = let first : eqb b 45 ≡ true = sym (and-true (eqb b 45)) ∙ e in rw first
