@@ -33,8 +33,8 @@ def crates():
 
 def named():
     """The names of several words that the docs and README have, but for TRUSTED.md, which names definitions alone, and
-    PORT.md, a record."""
-    made = [INDEX, HERE / "docs" / "TRUSTED.md", HERE / "docs" / "PORT.md"]
+    PORT.md and DESIGN-PASS.md, records."""
+    made = [INDEX, HERE / "docs" / "TRUSTED.md", HERE / "docs" / "PORT.md", HERE / "docs" / "DESIGN-PASS.md"]
     pages = [HERE / "README.md", *(page for page in (HERE / "docs").glob("*.md") if page not in made)]
     return {name for page in pages for name in re.findall(r"`([^`\s]+[_-][^`\s]+)`", page.read_text())}
 
