@@ -6,7 +6,7 @@ use mathlib.Core.List.{List}
 use mathlib.Core.Logic.{◌≢◌}
 use Prim.Native.Nat.{ℕ, suc, ◌+◌, ◌-◌, ◌≤◌, ◌<◌}
 use native.Mathlib.Decide.{ℕ_discrete}
-use native.Mathlib.Nat.{sub-zero}
+use native.Mathlib.Nat.{sub-zero, le_trans}
 use native.Mathlib.Numerals.{add-one}
 use native.Mathlib.Omega.{arith}
 use lib.Ieee.{Float, nan, lt}
@@ -14,11 +14,10 @@ use lib.ListN.{length, get_or, set, replicate, length-set}
 use lib.Seq.{get_or-set_same, get_or-set_other, set-get_or, set-set, set_comm}
 use Rattle.float64.specs.Constants as Constants
 use Rattle.sparse.proofs.Accepted.{pointer_below}
-use Rattle.sparse.specs.Columns.{Columns}
 use Rattle.sparse.specs.Pattern.{start, end}
 use Rattle.sparse.specs.Matrix.{Matrix}
 use Rattle.infnorm_factors.specs.Maxima.{larger, raise, enter, enter_column, enter_columns, row_maxima}
-use Rattle.infnorm_maxima.specs.inner.Steps.{Stretch}
+use Rattle.infnorm_maxima.specs.inner.Steps.{Accepted, Stretch}
 
 -- ---- one entry
 -- raising twice to one size is raising once
@@ -120,8 +119,18 @@ module _ (size : ℕ → ℕ → Float) (m : Matrix) where
     walk_end h = sym (w ∙ no_column (n - j) j maxima (omega arith))
 
 -- ---- what a column's scan asks for
-pub column_stretch : {n j room : ℕ} {col_ptr rows : List ℕ} → Columns n col_ptr rows → room ≡ n → j < n
-    → Stretch room rows j (get_or col_ptr j 0) (get_or col_ptr (j + 1) 0)
-column_stretch {n} {j} c e h =
-    let p = c.pointers in
-    rw (e, add-one j) (record { column = h; up = p.rises j h; within = pointer_below p (suc j) h; inside = c.inside })
+pub column_stretch : (j room : ℕ) (m : Matrix) → Accepted m → room ≡ m.pattern.n → j < m.pattern.n
+    → Stretch room m.pattern.row_idx m.values j (start m.pattern j) (start m.pattern (j + 1))
+column_stretch j room m a e h =
+    let p = a.columns.pointers in
+    rw (e, add-one j)
+    (record { column = h; up = p.rises j h; within = pointer_below p (suc j) h; stored = a.sizes.stored; inside = a.columns.inside })
+
+pub pointers_fit : (j : ℕ) (m : Matrix) → Accepted m → j < m.pattern.n
+    → (j + 1 < length m.pattern.col_ptr) × (start m.pattern j ≤ 131072) × (start m.pattern (j + 1) ≤ 131072)
+pointers_fit j m a h =
+    let p = a.columns.pointers in (
+      omega (arith, a.sizes.colptrs),
+      le_trans (pointer_below p j (omega arith)) a.sizes.entries,
+      le_trans (pointer_below p (j + 1) (omega arith)) a.sizes.entries,
+    )

@@ -10,12 +10,9 @@ pub record Accepted (m : Matrix) : Type 0 where
   pub columns : Columns m.pattern.n m.pattern.col_ptr m.pattern.row_idx
 
 -- places from `from` up to `to`, whose rows and column have a maximum each
-pub record Stretch (n : ℕ) (rows : List ℕ) (j from to : ℕ) : Type 0 where
+pub record Stretch (n : ℕ) (rows : List ℕ) (values : List Float) (j from to : ℕ) : Type 0 where
   pub column : j < n
   pub up : from ≤ to
   pub within : to ≤ length rows
+  pub stored : length values ≡ length rows
   pub inside : (k : ℕ) → k < length rows → get_or rows k 0 < n
-
--- what a call gives for the entries of column j, by row, column and place, is their sizes
-pub record Sized (post : ℕ → ℕ → ℕ → Float → Type 0) (rows : List ℕ) (j : ℕ) (sizes : ℕ → Float) : Type 0 where
-  pub at : (k : ℕ) → k < length rows → (x : Float) → post (get_or rows k 0) j k x → x ≡ sizes k
