@@ -1,99 +1,50 @@
--- One round and the rounds: the new factors of the rows so far stand before the old ones of the others, row after row and block after block, and the
--- rounds from here on are all rounds.
-use Rattle.std.proofs.Common.{◌≡◌, refl, sym, ap, ◌∙◌, Bool, true, false, cond, List, [], ◌∷◌, ◌++◌, ℕ, suc, ◌+◌, ◌-◌, ◌≤◌, ◌<◌, Float, length, get_or, set, take, drop, append-nil, zero-add, le_refl, arith}
-use Rattle.std.proofs.Math.Seq.{take-add}
-use Rattle.std.proofs.lemmas.List.{take_all, drop_all, take_more, length-take-le}
-use Rattle.std.specs.Float.{nan}
-use Rattle.std.specs.Float.Ieee.{lt}
-use borrow.Rule.Slice.PartMut.{put_mid}
+-- One round and the rounds: what a loop over the rows leaves is the definition's list, and the rounds from here on are all rounds.
+use mathlib.Core.Path.{◌≡◌, refl, sym, ap, ◌∙◌, subst}
+use mathlib.Core.Bool.{Bool, true, false, cond}
+use mathlib.Core.List.{List, [], ◌∷◌}
+use Prim.Native.Nat.{ℕ, zero, suc, ◌+◌, ◌-◌, ◌≤◌, ◌<◌}
+use native.Mathlib.Nat.{not-suc-le-zero}
+use native.Mathlib.Omega.{arith}
+use lib.Ieee.{Float, nan, lt}
+use lib.ListN.{length, get_or, set}
 use Rattle.float64.specs.Constants as Constants
 use Rattle.sparse.specs.Matrix.{Matrix}
-use Rattle.root_blocks.specs.inner.Blocks.{Roots}
-use Rattle.infnorm_factors.specs.Factors.{Round, round_from, root, new_factor, zipped, rounds}
-use Rattle.infnorm_factors.proofs.Parts.{rest_is, place_is, place_set, part_put}
+use Rattle.infnorm_factors.specs.Factors.{Round, round_from, new_factor, zipped, rounds}
+use Rattle.slices.specs.inner.Steps.{Front}
+use Rattle.slices.proofs.Fronts.{front_reads, front_next}
+use Rattle.infnorm_rounds.specs.inner.Blocks.{Updated}
 
 -- ---- f of the numbers of two lists of one length
-length_zipped : (f : Float → Float → Float) (l r : List Float) → length l ≡ length r → length (zipped f l r) ≡ length l
+pub length_zipped : (f : Float → Float → Float) (l r : List Float) → length l ≡ length r → length (zipped f l r) ≡ length l
 unfolding zipped
 length_zipped f [] r e = refl
 length_zipped f (x ∷ l) [] e = let z : ⊥ = omega arith in absurd z
 length_zipped f (x ∷ l) (y ∷ r) e = ap suc (length_zipped f l r (omega arith))
 
-zipped_append : (f : Float → Float → Float) (a b c e : List Float) → length a ≡ length b → zipped f (a ++ c) (b ++ e) ≡ zipped f a b ++ zipped f c e
+pub get_d_zipped : (f : Float → Float → Float) (l r : List Float) (i : ℕ) → length l ≡ length r → i < length l
+    → get_or (zipped f l r) i nan ≡ f (get_or l i nan) (get_or r i nan)
 unfolding zipped
-zipped_append f [] [] c e h = refl
-zipped_append f [] (y ∷ b) c e h = let z : ⊥ = omega arith in absurd z
-zipped_append f (x ∷ a) [] c e h = let z : ⊥ = omega arith in absurd z
-zipped_append f (x ∷ a) (y ∷ b) c e h = ap (λ (l : List Float). f x y ∷ l) (zipped_append f a b c e (omega arith))
+get_d_zipped f [] r i e h = absurd (not-suc-le-zero h)
+get_d_zipped f (x ∷ l) [] i e h = let z : ⊥ = omega arith in absurd z
+get_d_zipped f (x ∷ l) (y ∷ r) zero e h = refl
+get_d_zipped f (x ∷ l) (y ∷ r) (suc i) e h = get_d_zipped f l r i (omega arith) (omega arith)
 
--- ---- the rows below i have their new factors
-abbrev pub Updated : List Float → List Float → List Float → ℕ → Type 0
-Updated factors work updated i = updated ≡ zipped new_factor (take i factors) (take i work) ++ drop i factors
+-- ---- one row more
+pub updated_next : {work f g : List Float} {x : Float} {from i : ℕ} → Updated work f from g i → length g ≡ length work → i < length work
+    → x ≡ new_factor (get_or g i nan) (get_or work i nan) → Updated work f from (set g i x) (i + 1)
+updated_next {work} {f} {g} {x} {from} {i} s e h a = record { come = λ before u. go before (s.come before u) }
+  where
+    go : (before : List Float) → Front (zipped new_factor before work) before g i → Front (zipped new_factor before work) before (set g i x) (i + 1)
+    go before v =
+        let n : length before ≡ length work = sym v.same ∙ e in
+        front_next v (omega arith)
+        (a ∙ ap (λ (d : Float). new_factor d (get_or work i nan)) (front_reads v) ∙ sym (get_d_zipped new_factor before work i n (omega arith)))
 
-pub none_updated : (factors work : List Float) → Updated factors work factors 0
-unfolding zipped
-none_updated factors work = refl
+pub updated_to : {work f g : List Float} {from i to : ℕ} → Updated work f from g i → i ≡ to → Updated work f from g to
+updated_to {work} {f} {g} {from} s e = subst (Updated work f from g) e s
 
-module _ (factors work updated : List Float) (i : ℕ) (same : length factors ≡ length work) (is : Updated factors work updated i) where
-  written : List Float
-  written = zipped new_factor (take i factors) (take i work)
-
-  ends : i ≤ length factors → length (take i factors) ≡ length (take i work)
-  ends h = length-take-le i factors h ∙ sym (length-take-le i work (omega arith))
-
-  long : i ≤ length factors → length written ≡ i
-  unfolding written
-  long h = length_zipped new_factor (take i factors) (take i work) (ends h) ∙ length-take-le i factors h
-
-  stands : updated ≡ written ++ drop i factors
-  unfolding written
-  stands = is
-
-  -- row i has its old factor still
-  pub factor_there : i ≤ length factors → get_or updated i nan ≡ get_or factors i nan
-  factor_there h = place_is written factors i (long h) stands nan
-
-  pub row_next : {x : Float} → i < length factors → x ≡ new_factor (get_or updated i nan) (get_or work i nan) → Updated factors work (set updated i x) (i + 1)
-  unfolding written zipped
-  row_next {x} h e =
-      place_set written factors i (long (omega arith)) stands x h
-      ∙ rw (
-        e ∙ ap (λ (d : Float). new_factor d (get_or work i nan)) (factor_there (omega arith)),
-        take_more factors i nan h,
-        take_more work i nan (omega arith),
-        zipped_append new_factor (take i factors) (take i work) (get_or factors i nan ∷ []) (get_or work i nan ∷ []) (ends (omega arith)),
-      ) refl
-
-  pub block_next : (k to : ℕ) {part : List Float} → i + k ≡ to → to ≤ length factors
-      → part ≡ zipped new_factor (take k (drop i updated)) (take k (drop i work)) → Updated factors work (put_mid i k updated part) to
-  unfolding written
-  block_next k to {part} e h q =
-      let new : part ≡ zipped new_factor (take k (drop i factors)) (take k (drop i work)) =
-      q ∙ ap (λ (l : List Float). zipped new_factor (take k l) (take k (drop i work))) (rest_is written factors i (long (omega arith)) stands) in
-      part_put written factors i (long (omega arith)) stands k part
-      ∙ rw (
-        new,
-        ← zipped_append new_factor (take i factors) (take i work) (take k (drop i factors)) (take k (drop i work)) (ends (omega arith)),
-        ← take-add i k factors,
-        ← take-add i k work,
-        e,
-      ) refl
-
-pub all_updated : (factors work updated : List Float) → length factors ≡ length work → Updated factors work updated (length factors)
-    → updated ≡ zipped new_factor factors work
-all_updated factors work updated same is =
-    is ∙ rw (
-      drop_all (length factors) factors (le_refl _),
-      append-nil (zipped new_factor (take (length factors) factors) (take (length factors) work)),
-      take_all (length factors) factors (le_refl _),
-      take_all (length factors) work (omega arith),
-    ) refl
-
--- the root that stands for the number at place i is its root
-pub root_there : {numbers roots : List Float} → Roots numbers 0 roots 16 → (i : ℕ) → i < 16 → lt Constants.zero (get_or numbers i nan) ≡ true
-    → get_or roots i nan ≡ root (get_or numbers i nan)
-unfolding root
-root_there {numbers} r i h t = (rw zero-add at (r.at i h)) t
+pub not_yet : {work f : List Float} {from : ℕ} → Updated work f from f from
+not_yet = record { come = λ before u. u }
 
 -- ---- the rounds
 module _ (m : Matrix) where

@@ -1,35 +1,38 @@
 // The rounds of the iterated inf-norm factors.
 #![tactic(auto)]
 
-ghost use Rattle.std.specs.Prelude.{◌≡◌, not, ◌&&◌, length};
+ghost use Rattle.std.specs.Prelude.{◌≡◌, not, ◌&&◌, ◌+◌, ◌≤◌, length};
 ghost use Rattle.std.specs.Float.Ieee.{lt, le};
 ghost use Rattle.root_blocks.specs.inner.Blocks.{Roots};
 ghost use Rattle.sparse.specs.Matrix.{matrix};
 ghost use Rattle.float64.specs.Constants as Constants;
 ghost use Rattle.infnorm_factors.specs.Factors as Factors;
 ghost use Rattle.infnorm_maxima.specs.inner.Steps.{Accepted};
+ghost use Rattle.infnorm_rounds.specs.inner.Blocks.{Updated};
 
 const INFNORM_MAX_ITER: usize = 10;
 
 const INFNORM_TOL: f64 = 1e-8;
 
-// New factors of a block from the maxima and their roots.
-fn update_block(factors: &mut [f64], work: &[f64], roots: &[f64])
-    requires factors_len { (length factors.old ≡ 16) × (length work.now ≡ 16) }
-    requires roots_len { (length roots.now ≡ 16) × Roots work.now 0 roots.now 16 }
-    ensures { factors.new ≡ Factors.zipped Factors.new_factor factors.old work.now }
+// New factors of a block from the maxima and their roots. Blocks by index: with the slices cut into blocks, and the
+// test of the rows over their items, the rounds take 1.3 to 1.7 times as long.
+fn update_block(factors: &mut [f64], work: &[f64], from: usize, roots: &[f64])
+    requires factors_len { (length factors.old ≡ length work.now) × (from + 16 ≤ length work.now) }
+    requires roots_len { (length roots.now ≡ 16) × Roots work.now from roots.now 16 }
+    ensures { Updated work.now factors.old from factors.new (from + 16) }
 {
     for i in 0..root_blocks::BLOCK {
-        factors[i] = infnorm_factors::new_factor(factors[i], work[i], roots[i]);
+        let at = from + i;
+        factors[at] = infnorm_factors::new_factor(factors[at], work[at], roots[i]);
     }
 }
 
 // The same of the rows after the last block.
-fn update_rest(factors: &mut [f64], work: &[f64])
-    requires { length factors.old ≡ length work.now }
-    ensures { factors.new ≡ Factors.zipped Factors.new_factor factors.old work.now }
+fn update_rest(factors: &mut [f64], work: &[f64], from: usize)
+    requires { (length factors.old ≡ length work.now) × (from ≤ length work.now) }
+    ensures { Updated work.now factors.old from factors.new (length work.now) }
 {
-    for i in 0..factors.len() {
+    for i in from..factors.len() {
         let m = work[i];
         factors[i] = infnorm_factors::new_factor(factors[i], m, root_blocks::root(m));
     }
@@ -47,8 +50,8 @@ fn one_is_far(work: &[f64]) -> bool
     ensures { lt (Factors.deviating_all Constants.zero work.now) Constants.infnorm_tol ≡ not result }
 {
     let mut far = false;
-    for &m in work {
-        far |= is_far(m);
+    for i in 0..work.len() {
+        far = far | is_far(work[i]);
     }
     far
 }
@@ -60,19 +63,13 @@ fn update_factors(factors: &mut [f64], work: &[f64]) -> bool
         (factors.new ≡ round.factors) × (lt round.largest Constants.infnorm_tol ≡ not result) }
 {
     let mut roots = [0.0; root_blocks::BLOCK];
-    let blocks = factors.len() / root_blocks::BLOCK;
-    for i in 0..blocks {
-        let from = i * root_blocks::BLOCK;
-        let maxima = &work[from..from + root_blocks::BLOCK];
-        root_blocks::roots_of(maxima, 0, &mut roots);
-        update_block(
-            &mut factors[from..from + root_blocks::BLOCK],
-            maxima,
-            &roots,
-        );
+    let mut from = 0;
+    while factors.len() - from >= root_blocks::BLOCK {
+        root_blocks::roots_of(work, from, &mut roots);
+        update_block(factors, work, from, &roots);
+        from += root_blocks::BLOCK;
     }
-    let from = blocks * root_blocks::BLOCK;
-    update_rest(&mut factors[from..], &work[from..]);
+    update_rest(factors, work, from);
     one_is_far(work)
 }
 
@@ -110,9 +107,12 @@ pub fn iterate(
         ≡ Factors.rounds 10 (matrix n col_ptr.now row_idx.now values.now)
         factors.old }
 {
-    for _ in 0..INFNORM_MAX_ITER {
-        if !one_round(n, col_ptr, row_idx, values, factors, work) {
+    let mut done = 0;
+    while done < INFNORM_MAX_ITER {
+        let far = one_round(n, col_ptr, row_idx, values, factors, work);
+        if !far {
             return;
         }
+        done += 1;
     }
 }

@@ -1,0 +1,2 @@
+-- The rounds: what the functions of one round promise each other.
+pub mod inner

@@ -1,0 +1,2 @@
+-- One round, block by block.
+pub mod Blocks
