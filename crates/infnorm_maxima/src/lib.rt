@@ -59,8 +59,7 @@ pub fn row_maxima(
     }
 }
 
-// As `scan_column`, with the sizes of the values alone. One function over a closure for the size reads the column's
-// factor at every entry, and the rounds take 1.3 times as long.
+// As `scan_column`, with the sizes of the values alone.
 fn scan_values(
     j: usize,
     from: usize,

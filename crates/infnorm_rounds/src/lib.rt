@@ -14,8 +14,7 @@ const INFNORM_MAX_ITER: usize = 10;
 
 const INFNORM_TOL: f64 = 1e-8;
 
-// New factors of a block from the maxima and their roots. Blocks by index: with the slices cut into blocks, and the
-// test of the rows over their items, the rounds take 1.3 to 1.7 times as long.
+// New factors of a block from the maxima and their roots.
 fn update_block(factors: &mut [f64], work: &[f64], from: usize, roots: &[f64])
     requires factors_len { (length factors.old ≡ length work.now) × (from + 16 ≤ length work.now) }
     requires roots_len { (length roots.now ≡ 16) × Roots work.now from roots.now 16 }
