@@ -9,9 +9,9 @@ an edit: that it refuses each, `bash .ci/run` and `tests/edits.sh` find. Edits t
 The comment of an edit says what the contract says and the edit breaks. A line `false: PLACE, FACT` names a fact that is
 false under the edit; an edit without one has an empty column. PLACE is a file of the crate's proofs, and FACT a law in
 it; or PLACE is a function, as its folder in proofs, and FACT a goal of its proof (`returns`, `loop-k-init`).
-The status is 1 if an edit has no comment, if its line `false:` is not of this form, if a file of proofs that it names
-has no such law, or if neither proofs nor src have what it names. Goals that the check finds alone stand in no file, so
-the name of a goal is not tested.
+The status is 1 if an edit has no comment, if its line `false:` is not of this form, if the place that it names has no
+such fact, or if neither proofs nor src have the place. A goal that the check finds alone stands in no file: its name
+then has to be made of the check's own words and of names in the code of the function, the edit's lines included.
 """
 import re
 import sys
@@ -23,19 +23,30 @@ HEAD = """
 | edit | of | what the contract says, and the edit breaks | a fact that is false under it |
 |---|---|---|---|
 """
+# what a goal's name is made of: what is owed, and where; the names of the code stand between these words
+KIND = re.compile(r"returns|requires|preserved|init|bounds|slice_bounds|overflow_\w+|measure")
+OWN = re.compile(r"loop|then|else|in|not|clause|in_err|in_ok|(eq|ne|lt|le|gt|ge)?\d*")
 faults = []
 
 
-def stands(crate, place, fact):
-    """whether the fact is in that place; a goal that the check finds alone is in no file, and so any goal of a function
-    of the crate passes"""
+def stands(crate, place, fact, edit):
+    """whether the fact is in that place: in a file of proofs, or by its name a goal of the function"""
     proofs = ROOT / "crates" / crate / "proofs"
     files = [proofs / f"{place}.antt", *(proofs / place).glob("*.antt")]
     texts = [path.read_text() for path in files if path.is_file()]
-    function = re.compile(rf"\bfn {re.escape(place.split('/')[-1])}\b")
-    if any(function.search(path.read_text()) for path in (ROOT / "crates" / crate / "src").rglob("*.rt")):
+    if any(re.search(rf"^ *(?:pub )?{re.escape(fact)}(?: |$)", text, re.M) for text in texts):
         return True
-    return any(re.search(rf"^ *(?:pub )?{re.escape(fact)}(?: |$)", text, re.M) for text in texts)
+    codes = [path.read_text() for path in (ROOT / "crates" / crate / "src").rglob("*.rt")]
+    function = re.compile(rf"\bfn {re.escape(place.split('/')[-1])}\b.*?\n( *)\{{\n.*?\n\1\}}\n", re.S)
+    bodies = "".join(found[0] for code in codes for found in function.finditer(code))
+    return bool(bodies) and is_goal(fact, set(re.findall(r"\w+", bodies + "".join(re.findall(r"^new: (.*)$", edit, re.M)))))
+
+
+def is_goal(fact, names):
+    """whether the name is one that the check gives a goal of a function with these names in its code"""
+    words = fact.split("-")
+    return any(KIND.fullmatch(word) for word in words) and all(
+        KIND.fullmatch(word) or OWN.fullmatch(word) or word in names for word in words)
 
 
 def false_fact(crate, label, text):
@@ -45,7 +56,7 @@ def false_fact(crate, label, text):
         if re.search(r"^false", text, re.M):
             faults.append(f"{crate}/{label}: its line `false:` is not `false: PLACE, FACT`")
         return ""
-    if not stands(crate, *named.groups()):
+    if not stands(crate, *named.groups(), text):
         faults.append(f"{crate}/{label}: {named[1]} has no {named[2]}")
     return f"{named[1]}, `{named[2]}`"
 

@@ -1,6 +1,6 @@
 #!/usr/bin/env bash
 # Proves and builds what hosts link and run: `tools/build.sh NAME...` of suontarvi, ties and pairs, or all three. The
-# archive goes to target/staticlib/libsuontarvi.a, a program to target/bin.
+# archive goes to target/staticlib/libsuontarvi.a, a program to target/bin. Needs objcopy (binutils) for the archive.
 set -eu
 cd "$(dirname "$0")/.."
 [ $# -gt 0 ] || set -- suontarvi ties pairs
@@ -9,6 +9,8 @@ for name in "$@"; do
     suontarvi)
         (cd crates/suontarvi && rt lib)
         install -D -m 644 crates/suontarvi/out/libsuontarvi.a target/staticlib/libsuontarvi.a
+        # every function at a multiple of 64 bytes: else the speed of a loop depends on where a host's linker puts it
+        objcopy --set-section-alignment '.text.*=64' target/staticlib/libsuontarvi.a
         ;;
     ties | pairs)
         (cd "crates/$name" && rt run < stdin > /dev/null)

@@ -216,3 +216,39 @@ double_bytes_are values = refl
 
 pub one_laid : (d : List ℕ) (a : ℕ) → length d ≡ 4 → sets d 0 (bytes_of 4 a) ≡ word_bytes (a ∷ [])
 one_laid d a h = (lay_on 4 (a ∷ []) d 0 0 d (omega arith) h (lay_none 4 (a ∷ []) d)).1 ∙ lay_all 4 (a ∷ []) d h ∙ word_bytes_are (a ∷ [])
+
+-- ---- eight numbers
+
+eight_laid : (d : List ℕ) (a b c e f g p q : ℕ) → length d ≡ 64
+    → sets (sets (sets (sets (sets (sets (sets (sets d 0 (bytes_of 8 a)) 8 (bytes_of 8 b)) 16 (bytes_of 8 c)) 24 (bytes_of 8 e)) 32 (bytes_of 8 f)) 40
+    (bytes_of 8 g)) 48 (bytes_of 8 p)) 56 (bytes_of 8 q)
+    ≡ all_bytes 8 (a ∷ b ∷ c ∷ e ∷ f ∷ g ∷ p ∷ q ∷ [])
+eight_laid d a b c e f g p q h =
+    let vs : List ℕ = a ∷ b ∷ c ∷ e ∷ f ∷ g ∷ p ∷ q ∷ [] in
+    let s1 : List ℕ = sets d 0 (bytes_of 8 a) in
+    let s2 : List ℕ = sets s1 8 (bytes_of 8 b) in
+    let s3 : List ℕ = sets s2 16 (bytes_of 8 c) in
+    let s4 : List ℕ = sets s3 24 (bytes_of 8 e) in
+    let s5 : List ℕ = sets s4 32 (bytes_of 8 f) in
+    let s6 : List ℕ = sets s5 40 (bytes_of 8 g) in
+    let s7 : List ℕ = sets s6 48 (bytes_of 8 p) in
+    let p0 = lay_on 8 vs d 0 0 d (omega arith) h (lay_none 8 vs d) in
+    let p1 = lay_on 8 vs d 1 0 s1 (omega arith) p0.0 p0.1 in
+    let p2 = lay_on 8 vs d 2 0 s2 (omega arith) p1.0 p1.1 in
+    let p3 = lay_on 8 vs d 3 0 s3 (omega arith) p2.0 p2.1 in
+    let p4 = lay_on 8 vs d 4 0 s4 (omega arith) p3.0 p3.1 in
+    let p5 = lay_on 8 vs d 5 0 s5 (omega arith) p4.0 p4.1 in
+    let p6 = lay_on 8 vs d 6 0 s6 (omega arith) p5.0 p5.1 in
+    let p7 = lay_on 8 vs d 7 0 s7 (omega arith) p6.0 p6.1 in
+    p7.1 ∙ lay_all 8 vs d h
+
+-- the same of slices that are written one after the other
+pub eight_written : {s1 s2 s3 s4 s5 s6 s7 s8 : List ℕ} (d : List ℕ) (a b c e f g p q : ℕ) → length d ≡ 64
+    → s1 ≡ sets d 0 (bytes_of 8 a) → s2 ≡ sets s1 8 (bytes_of 8 b) → s3 ≡ sets s2 16 (bytes_of 8 c) → s4 ≡ sets s3 24 (bytes_of 8 e)
+    → s5 ≡ sets s4 32 (bytes_of 8 f) → s6 ≡ sets s5 40 (bytes_of 8 g) → s7 ≡ sets s6 48 (bytes_of 8 p) → s8 ≡ sets s7 56 (bytes_of 8 q)
+    → s8 ≡ all_bytes 8 (a ∷ b ∷ c ∷ e ∷ f ∷ g ∷ p ∷ q ∷ [])
+eight_written d a b c e f g p q h e1 e2 e3 e4 e5 e6 e7 e8 =
+    onto 56 q (onto 48 p (onto 40 g (onto 32 f (onto 24 e (onto 16 c (onto 8 b e1 e2) e3) e4) e5) e6) e7) e8 ∙ eight_laid d a b c e f g p q h
+  where
+    onto : {s t r : List ℕ} (k x : ℕ) → s ≡ t → r ≡ sets s k (bytes_of 8 x) → r ≡ sets t k (bytes_of 8 x)
+    onto k x u w = w ∙ ap (λ (l : List ℕ). sets l k (bytes_of 8 x)) u

@@ -1,21 +1,7 @@
 // Cases of graph building of both kinds.
 use crate::list::Place;
+use crate::matrices::Kind;
 use crate::{list, matrices};
-use refusal::Refusal;
-
-// The call that builds a graph.
-pub type Build = fn(
-    u32,
-    &[u32],
-    &[u32],
-    &[f64],
-    &[f64],
-    &mut [u32],
-    &mut [u32],
-    &mut [f64],
-    &mut [f64],
-    &mut [u32],
-) -> Result<u32, Refusal>;
 
 // The slices that a graph is built into.
 pub fn fill(
@@ -50,10 +36,9 @@ pub fn expect(
 }
 
 // The case, with slices of its lengths: fills them from the list, makes the call, and compares what it leaves.
-fn graph_lent(
+fn graph_lent<K: Kind>(
     input: &[u8],
     from: Place,
-    build: Build,
     n: u32,
     col_ptr: &mut [u32],
     rows: &mut [u32],
@@ -64,13 +49,11 @@ fn graph_lent(
     cost: &mut [f64],
     cmax: &mut [f64],
     work: &mut [u32],
-) -> Place
-    requires { IsAlwaysCallable build }
-{
+) -> Place {
     let place = matrices::fill(input, from, col_ptr, rows, values);
     let place = list::fill(input, place, logs);
     let place = fill(input, place, graph_ptr, graph_rows, cost, cmax, work);
-    let answer = build(
+    let answer = K::build(
         n, col_ptr, rows, values, logs, graph_ptr, graph_rows, cost, cmax, work,
     );
     let place = list::expect_answer(input, place, answer);
@@ -78,9 +61,7 @@ fn graph_lent(
 }
 
 // One case of the call: the lengths of its slices, then the slices.
-pub fn graph(input: &[u8], from: Place, build: Build, rows: &mut [u32], values: &mut [f64]) -> Place
-    requires { IsAlwaysCallable build }
-{
+pub fn graph<K: Kind>(input: &[u8], from: Place, rows: &mut [u32], values: &mut [f64]) -> Place {
     let most = rows.len();
     let places = values.len();
     let n = list::next_u32(input, from);
@@ -100,10 +81,9 @@ pub fn graph(input: &[u8], from: Place, build: Build, rows: &mut [u32], values: 
     let mut cost = [0.0f64; list::ENTRIES];
     let mut cmax = [0.0f64; list::COLUMNS];
     let mut work = [0u32; list::BUILD_WORK];
-    graph_lent(
+    graph_lent::<K>(
         input,
         l8,
-        build,
         list::word(n),
         &mut col_ptr[..list::size(l0, list::POINTERS)],
         &mut rows[..list::size(l1, most)],

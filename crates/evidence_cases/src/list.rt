@@ -136,7 +136,9 @@ fn behind(input: &[u8], at: usize, mark: u8) -> usize {
     }
 }
 
-// A word `value`, or a run of words `count*value` or `count*value+step`, at its first word.
+// A word `value`, or a run of words `count*value` or `count*value+step`, at its first word. Apart from `next`, which is
+// then short enough to stand in its callers' loops: a place passed and copied there takes twice the time.
+#[inline(never)]
 fn run(input: &[u8], from: Place) -> Place {
     let start = skip(input, from.at);
     let first = number(input, start);

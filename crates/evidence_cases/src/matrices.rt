@@ -3,20 +3,37 @@ use crate::list;
 use crate::list::Place;
 use refusal::Refusal;
 
-// The call that tests a matrix.
-pub type Validate = fn(u32, &[u32], &[u32], &[f64]) -> Result<(), Refusal>;
+// A kind of matrix, by its calls.
+pub trait Kind {
+    // Tests a matrix.
+    fn validate(n: u32, col_ptr: &[u32], rows: &[u32], values: &[f64]) -> Result<(), Refusal>;
 
-// The call that assembles triplets.
-pub type Assemble = fn(
-    u32,
-    &[u32],
-    &[u32],
-    &[f64],
-    &mut [u32],
-    &mut [u32],
-    &mut [f64],
-    &mut [u32],
-) -> Result<u32, Refusal>;
+    // Assembles triplets.
+    fn assemble(
+        n: u32,
+        rows: &[u32],
+        cols: &[u32],
+        vals: &[f64],
+        col_ptr: &mut [u32],
+        row_idx: &mut [u32],
+        values: &mut [f64],
+        work: &mut [u32],
+    ) -> Result<u32, Refusal>;
+
+    // Builds a cost graph.
+    fn build(
+        n: u32,
+        col_ptr: &[u32],
+        rows: &[u32],
+        values: &[f64],
+        logs: &[f64],
+        graph_ptr: &mut [u32],
+        graph_rows: &mut [u32],
+        cost: &mut [f64],
+        cmax: &mut [f64],
+        work: &mut [u32],
+    ) -> Result<u32, Refusal>;
+}
 
 // The three slices of a matrix.
 pub fn fill(
@@ -32,32 +49,21 @@ pub fn fill(
 }
 
 // The case, with slices of its lengths: fills them from the list, makes the call, and compares what it leaves.
-fn validate_lent(
+fn validate_lent<K: Kind>(
     input: &[u8],
     from: Place,
-    validate: Validate,
     n: u32,
     col_ptr: &mut [u32],
     rows: &mut [u32],
     values: &mut [f64],
-) -> Place
-    requires { IsAlwaysCallable validate }
-{
+) -> Place {
     let place = fill(input, from, col_ptr, rows, values);
-    let answer = validate(n, col_ptr, rows, values);
+    let answer = K::validate(n, col_ptr, rows, values);
     list::expect(input, place, refusal::answer(answer))
 }
 
 // One case of the call: the lengths of its slices, then the slices.
-pub fn validate(
-    input: &[u8],
-    from: Place,
-    validate: Validate,
-    rows: &mut [u32],
-    values: &mut [f64],
-) -> Place
-    requires { IsAlwaysCallable validate }
-{
+pub fn validate<K: Kind>(input: &[u8], from: Place, rows: &mut [u32], values: &mut [f64]) -> Place {
     let most = rows.len();
     let places = values.len();
     let n = list::next_u32(input, from);
@@ -65,10 +71,9 @@ pub fn validate(
     let l1 = list::length(input, l0, most);
     let l2 = list::length(input, l1, places);
     let mut col_ptr = [0u32; list::POINTERS];
-    validate_lent(
+    validate_lent::<K>(
         input,
         l2,
-        validate,
         list::word(n),
         &mut col_ptr[..list::size(l0, list::POINTERS)],
         &mut rows[..list::size(l1, most)],
@@ -77,10 +82,9 @@ pub fn validate(
 }
 
 // The case, with slices of its lengths: fills them from the list, makes the call, and compares what it leaves.
-fn triplets_lent(
+fn triplets_lent<K: Kind>(
     input: &[u8],
     from: Place,
-    assemble: Assemble,
     n: u32,
     rows: &mut [u32],
     cols: &mut [u32],
@@ -89,13 +93,11 @@ fn triplets_lent(
     row_idx: &mut [u32],
     values: &mut [f64],
     work: &mut [u32],
-) -> Place
-    requires { IsAlwaysCallable assemble }
-{
+) -> Place {
     let place = fill(input, from, rows, cols, vals);
     let place = fill(input, place, col_ptr, row_idx, values);
     let place = list::fill(input, place, work);
-    let answer = assemble(n, rows, cols, vals, col_ptr, row_idx, values, work);
+    let answer = K::assemble(n, rows, cols, vals, col_ptr, row_idx, values, work);
     let place = list::expect_answer(input, place, answer);
     let place = list::expect_all(input, place, col_ptr);
     let place = list::expect_all(input, place, row_idx);
@@ -104,9 +106,7 @@ fn triplets_lent(
 }
 
 // One case of the call: the lengths of its slices, then the slices.
-pub fn triplets(input: &[u8], from: Place, assemble: Assemble, rows: &mut [u32]) -> Place
-    requires { IsAlwaysCallable assemble }
-{
+pub fn triplets<K: Kind>(input: &[u8], from: Place, rows: &mut [u32]) -> Place {
     let most = rows.len();
     let n = list::next_u32(input, from);
     let l0 = list::length(input, n, most);
@@ -122,10 +122,9 @@ pub fn triplets(input: &[u8], from: Place, assemble: Assemble, rows: &mut [u32])
     let mut row_idx = [0u32; list::ENTRIES];
     let mut values = [0.0f64; list::ENTRIES];
     let mut work = [0u32; list::BUILD_WORK];
-    triplets_lent(
+    triplets_lent::<K>(
         input,
         l6,
-        assemble,
         list::word(n),
         &mut rows[..list::size(l0, most)],
         &mut cols[..list::size(l1, list::ENTRIES)],

@@ -3,9 +3,11 @@
 #![tactic(auto)]
 
 mod choices;
+mod kinds;
 
 use evidence_cases::list::{Place, State};
 use evidence_cases::{factors, graphs, list, matches, matrices};
+use kinds::{General, Symmetric};
 
 // The numbers of the calls are below this; 0 ends the list.
 const CALLS: usize = 14;
@@ -13,14 +15,14 @@ const CALLS: usize = 14;
 // One case of a call, from the word after the call's number.
 fn case(input: &[u8], from: Place, call: u32, rows: &mut [u32], values: &mut [f64]) -> Place {
     match call {
-        1 => matrices::validate(input, from, sparse::csc::validate, rows, values),
-        2 => matrices::validate(input, from, sparse::general::validate, rows, values),
-        3 => matrices::triplets(input, from, sparse::csc::from_triplets, rows),
-        4 => matrices::triplets(input, from, sparse::general::from_triplets, rows),
+        1 => matrices::validate::<Symmetric>(input, from, rows, values),
+        2 => matrices::validate::<General>(input, from, rows, values),
+        3 => matrices::triplets::<Symmetric>(input, from, rows),
+        4 => matrices::triplets::<General>(input, from, rows),
         5 => factors::root(input, from),
         6 => matches::matching(input, from, rows, values),
-        7 => graphs::graph(input, from, mc64_symmetric::build_cost_graph, rows, values),
-        8 => graphs::graph(input, from, mc64_general::build_general_graph, rows, values),
+        7 => graphs::graph::<Symmetric>(input, from, rows, values),
+        8 => graphs::graph::<General>(input, from, rows, values),
         9 => factors::symmetric(input, from),
         10 => factors::unsymmetric(input, from),
         11 => factors::iterated(input, from, rows, values),

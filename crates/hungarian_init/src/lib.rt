@@ -20,7 +20,7 @@ fn prepare(n: usize, col_ptr: &[u32], work: &mut [u32], fwork: &mut [f64])
     requires fact_3 { length fwork.old ≡ 2 * n }
     ensures { Prepared n col_ptr.now work.old work.new fwork.new }
 {
-    work[FROM * n..(FROM + 1) * n].copy_from_slice(&col_ptr[..n]);
+    slices::copy(&mut work[FROM * n..(FROM + 1) * n], &col_ptr[..n]);
     slices::fill(&mut fwork[n..], 0.0);
 }
 

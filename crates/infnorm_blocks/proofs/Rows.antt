@@ -1,5 +1,5 @@
 -- The one-pass factors come row after row, and block after block: the factors of the rows so far stand before the maxima of the others.
-use Rattle.std.proofs.Common.{◌≡◌, true, ℕ, ◌+◌, ◌<◌, ◌≤◌, List, ◌++◌, Float, length, get_or, take, drop, set, map, refl, ap, ◌∙◌, zero-add, append-nil, le_refl, arith}
+use Rattle.std.proofs.Common.{◌≡◌, true, ℕ, ◌+◌, ◌<◌, ◌≤◌, List, ◌++◌, Float, length, get_or, take, drop, set, map, refl, ap, subst, ◌∙◌, zero-add, append-nil, le_refl, arith}
 use Rattle.std.proofs.Math.Seq.{take-add}
 use Rattle.std.proofs.lemmas.List.{map-append, take_all, drop_all, length-map, length-take-le, get_or_default}
 use Rattle.std.proofs.lemmas.List.Edits.{map_over_more}
@@ -43,6 +43,9 @@ module _ (maxima factors : List Float) (i : ℕ) (scaled : Scaled maxima factors
       q ∙ ap (λ (l : List Float). map inv_sqrt_scale_guarded (take k l)) (rest_is written maxima i (long (omega arith)) is) in
       part_put written maxima i (long (omega arith)) is k part
       ∙ rw (new, ← map-append inv_sqrt_scale_guarded (take i maxima) (take k (drop i maxima)), ← take-add i k maxima, e) refl
+
+pub rows_to : (maxima factors : List Float) {i to : ℕ} → Scaled maxima factors i → i ≡ to → Scaled maxima factors to
+rows_to maxima factors s e = subst (Scaled maxima factors) e s
 
 -- the root that stands for the number at place i is its root
 pub root_there : {numbers roots : List Float} → Roots numbers 0 roots 16 → (i : ℕ) → i < 16 → (x : Float) → x ≡ get_or numbers i nan

@@ -5,6 +5,7 @@ pub mod Entries
 pub mod Columns
 pub mod Accepted
 pub mod Listed
+pub mod Validities
 pub mod Theorems
 mod Rising
 mod Triplets

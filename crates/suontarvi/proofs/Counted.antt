@@ -20,3 +20,7 @@ module _ (made : Result ℕ Refusal) {r : ℕ} (q : r ≡ number_of made) where
         outcome = (number_told ∙ ap (λ (o : Outcome (Result ℕ ℕ) S). fault_of o.answer) e, ap (λ (o : Outcome (Result ℕ ℕ) S). o.after) e);
         number = subst (OneOf numbers) (sym number_told) l;
       }
+
+-- the number of an answer by numbers is one of the list where that of the same answer is
+pub in_list : (numbers : List ℕ) {a b : Result ℕ ℕ} → OneOf numbers (fault_of a) → a ≡ b → OneOf numbers (fault_of b)
+in_list numbers l e = subst (λ (x : Result ℕ ℕ). OneOf numbers (fault_of x)) e l

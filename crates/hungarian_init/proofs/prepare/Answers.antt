@@ -5,4 +5,4 @@ use Rattle.hungarian_init.proofs.prepare.Goals as goal
 pub returns : goal.returns
 returns c =
     prepared _ _ _ _ _ _ _ _ c.requires.fact_1.words c.requires.fact_2 c.requires.fact_3
-    c.copy_from_slice.ensures.after c.fill.ensures
+    c.copy.ensures c.fill.ensures
