@@ -33,8 +33,8 @@ def crates():
 
 def named():
     """The names of several words that the docs and README have, but for TRUSTED.md, which names definitions alone, and
-    PORT.md and DESIGN-PASS.md, records."""
-    made = [INDEX, HERE / "docs" / "TRUSTED.md", HERE / "docs" / "PORT.md", HERE / "docs" / "DESIGN-PASS.md"]
+    PORT.md, DESIGN-PASS.md and LOOK-BACK.md, records."""
+    made = [INDEX, *(HERE / "docs" / f"{page}.md" for page in ["TRUSTED", "PORT", "DESIGN-PASS", "LOOK-BACK"])]
     pages = [HERE / "README.md", *(page for page in (HERE / "docs").glob("*.md") if page not in made)]
     return {name for page in pages for name in re.findall(r"`([^`\s]+[_-][^`\s]+)`", page.read_text())}
 

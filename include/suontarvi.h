@@ -19,7 +19,7 @@
  *
  * Stack. No call needs more than SUONTARVI_STACK_BYTES of stack. SUONTARVI_STACK_BYTES_NATIVE is enough for every call
  * except those on bytes and suontarvi_check_largest, which has 20,482 bytes of arrays of its own. Measured at the
- * limits by host/stack.c, not proved: 47,784 and 4,408 bytes.
+ * limits by host/stack.c, not proved: 47,768 and 4,424 bytes.
  *
  * Refusals are tested in the order in which they are listed; the first that applies is returned. "At each entry 5,
  * then 7" means that both are tested at one entry, in stored order, before the next entry. A call returns only 0 and
