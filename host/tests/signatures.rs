@@ -194,12 +194,29 @@ fn numbers(text: &str, start: &str) -> BTreeMap<u32, String> {
     found
 }
 
+/// The variants of an enum with their numbers, each named as the header names it.
+fn variants(text: &str, start: &str) -> BTreeMap<u32, String> {
+    let inside = text.split(start).nth(1).and_then(|rest| rest.split("\n}").next()).expect("the enum");
+    let mut found = BTreeMap::new();
+    for (name, number) in inside.lines().filter_map(|line| line.trim().trim_end_matches(',').split_once(" = ")) {
+        let mut upper = String::new();
+        for letter in name.chars() {
+            if letter.is_uppercase() && !upper.is_empty() {
+                upper.push('_');
+            }
+            upper.extend(letter.to_uppercase());
+        }
+        found.insert(number.parse().expect("a number behind the name"), upper);
+    }
+    found
+}
+
 #[test]
 fn refusals_have_one_number_each() {
     let header = numbers(&text("include/suontarvi.h"), "#define SUONTARVI_REFUSED_");
-    let mut rattle = numbers(&text("crates/refusal/src/lib.rt"), "pub const ");
-    // the programs' own, and 0
-    rattle.retain(|number, _| *number != 0 && !(20..30).contains(number));
+    let mut rattle = variants(&text("crates/refusal/src/lib.rt"), "pub enum Refusal {");
+    // the programs' own
+    rattle.retain(|number, _| !(20..30).contains(number));
     let ours = Refusal::ALL.iter().map(|refusal| (refusal.number(), refusal.name().to_string())).collect();
     assert_eq!(header, rattle);
     assert_eq!(header, ours);
