@@ -23,9 +23,16 @@ HEAD = """
 | edit | of | what the contract says, and the edit breaks | a fact that is false under it |
 |---|---|---|---|
 """
-# what a goal's name is made of: what is owed, and where; the names of the code stand between these words
-KIND = re.compile(r"returns|requires|preserved|init|bounds|slice_bounds|overflow_\w+|measure")
-OWN = re.compile(r"loop|then|else|in|not|clause|in_err|in_ok|(eq|ne|lt|le|gt|ge)?\d*")
+# the forms of a goal's name; what stands for a name in them has to be one of the code, or a word of WORDS
+GOAL = re.compile(
+    r"returns(-.+)?|loop-(?!loop-).+-(init|preserved|smaller)(-.+)?|.+-requires(-.+)?"
+    r"|(slice_)?bounds-.+|overflow_[a-z]+-.+")
+PARTS = re.compile(
+    r"returns|loop|init|preserved|smaller|requires|bounds|slice_bounds|overflow_(add|sub|mul|neg|step|cast)")
+WORDS = re.compile(r"then|else|in|not|clause|in_err|in_ok|(eq|ne|lt|le|gt|ge)\d*")
+NO_NAMES = set(
+    "as bool const else f64 false fn for i32 i64 if in let loop match mut pub ref return true u16 u32 u64 u8 usize use"
+    " while".split())
 faults = []
 
 
@@ -37,16 +44,16 @@ def stands(crate, place, fact, edit):
     if any(re.search(rf"^ *(?:pub )?{re.escape(fact)}(?: |$)", text, re.M) for text in texts):
         return True
     codes = [path.read_text() for path in (ROOT / "crates" / crate / "src").rglob("*.rt")]
-    function = re.compile(rf"\bfn {re.escape(place.split('/')[-1])}\b.*?\n( *)\{{\n.*?\n\1\}}\n", re.S)
+    function = re.compile(rf"^( *)(?:pub(?:\(\w+\))? )?fn {re.escape(place.split('/')[-1])}\b.*?^\1\}}$", re.S | re.M)
     bodies = "".join(found[0] for code in codes for found in function.finditer(code))
-    return bool(bodies) and is_goal(fact, set(re.findall(r"\w+", bodies + "".join(re.findall(r"^new: (.*)$", edit, re.M)))))
+    lines = "".join(re.findall(r"^new: (.*)$", edit, re.M))
+    return bool(bodies) and is_goal(fact, set(re.findall(r"\w+", bodies + lines)) - NO_NAMES)
 
 
 def is_goal(fact, names):
     """whether the name is one that the check gives a goal of a function with these names in its code"""
     words = fact.split("-")
-    return any(KIND.fullmatch(word) for word in words) and all(
-        KIND.fullmatch(word) or OWN.fullmatch(word) or word in names for word in words)
+    return bool(GOAL.fullmatch(fact)) and all(PARTS.fullmatch(w) or WORDS.fullmatch(w) or w in names for w in words)
 
 
 def false_fact(crate, label, text):

@@ -9,8 +9,10 @@ for name in "$@"; do
     suontarvi)
         (cd crates/suontarvi && rt lib)
         install -D -m 644 crates/suontarvi/out/libsuontarvi.a target/staticlib/libsuontarvi.a
-        # at one of four places where a host's linker may put it, this function's loop takes half as long again
-        objcopy --set-section-alignment '.text.infnorm::compute_infnorm=64' target/staticlib/libsuontarvi.a
+        # where a host's linker puts this function elsewhere, its loop may take up to 1.7 times as long
+        rounds=.text.infnorm::compute_infnorm
+        objdump -h target/staticlib/libsuontarvi.a | grep -qF "$rounds" || { echo "no section $rounds" >&2; exit 1; }
+        objcopy --set-section-alignment "$rounds=64" target/staticlib/libsuontarvi.a
         ;;
     ties | pairs)
         (cd "crates/$name" && rt run < stdin > /dev/null)
