@@ -2,6 +2,21 @@
 use crate::list::Place;
 use crate::matrices::Kind;
 use crate::{list, matrices};
+use refusal::Refusal;
+
+// The call that builds a graph.
+pub type Build = fn(
+    u32,
+    &[u32],
+    &[u32],
+    &[f64],
+    &[f64],
+    &mut [u32],
+    &mut [u32],
+    &mut [f64],
+    &mut [f64],
+    &mut [u32],
+) -> Result<u32, Refusal>;
 
 // The slices that a graph is built into.
 pub fn fill(
@@ -36,9 +51,10 @@ pub fn expect(
 }
 
 // The case, with slices of its lengths: fills them from the list, makes the call, and compares what it leaves.
-fn graph_lent<K: Kind>(
+fn graph_lent<F>(
     input: &[u8],
     from: Place,
+    build: F,
     n: u32,
     col_ptr: &mut [u32],
     rows: &mut [u32],
@@ -49,19 +65,49 @@ fn graph_lent<K: Kind>(
     cost: &mut [f64],
     cmax: &mut [f64],
     work: &mut [u32],
-) -> Place {
+) -> Place
+where
+    F: Fn(
+        u32,
+        &[u32],
+        &[u32],
+        &[f64],
+        &[f64],
+        &mut [u32],
+        &mut [u32],
+        &mut [f64],
+        &mut [f64],
+        &mut [u32],
+    ) -> Result<u32, Refusal>,
+    requires { F.IsAlwaysCallable build }
+{
     let place = matrices::fill(input, from, col_ptr, rows, values);
     let place = list::fill(input, place, logs);
     let place = fill(input, place, graph_ptr, graph_rows, cost, cmax, work);
-    let answer = K::build(
+    let answer = build(
         n, col_ptr, rows, values, logs, graph_ptr, graph_rows, cost, cmax, work,
     );
     let place = list::expect_answer(input, place, answer);
     expect(input, place, graph_ptr, graph_rows, cost, cmax, work)
 }
 
-// One case of the call: the lengths of its slices, then the slices.
-pub fn graph<K: Kind>(input: &[u8], from: Place, rows: &mut [u32], values: &mut [f64]) -> Place {
+// One case of a call: the lengths of its slices, then the slices.
+fn graph_by<F>(input: &[u8], from: Place, build: F, rows: &mut [u32], values: &mut [f64]) -> Place
+where
+    F: Fn(
+        u32,
+        &[u32],
+        &[u32],
+        &[f64],
+        &[f64],
+        &mut [u32],
+        &mut [u32],
+        &mut [f64],
+        &mut [f64],
+        &mut [u32],
+    ) -> Result<u32, Refusal>,
+    requires { F.IsAlwaysCallable build }
+{
     let most = rows.len();
     let places = values.len();
     let n = list::next_u32(input, from);
@@ -81,9 +127,10 @@ pub fn graph<K: Kind>(input: &[u8], from: Place, rows: &mut [u32], values: &mut 
     let mut cost = [0.0f64; list::ENTRIES];
     let mut cmax = [0.0f64; list::COLUMNS];
     let mut work = [0u32; list::BUILD_WORK];
-    graph_lent::<K>(
+    graph_lent(
         input,
         l8,
+        build,
         list::word(n),
         &mut col_ptr[..list::size(l0, list::POINTERS)],
         &mut rows[..list::size(l1, most)],
@@ -94,5 +141,37 @@ pub fn graph<K: Kind>(input: &[u8], from: Place, rows: &mut [u32], values: &mut 
         &mut cost[..list::size(l6, list::ENTRIES)],
         &mut cmax[..list::size(l7, list::COLUMNS)],
         &mut work[..list::size(l8, list::BUILD_WORK)],
+    )
+}
+
+// One case of a call that the caller has as a function; of more than seven arguments, `rt` takes it in a closure only.
+pub fn graph(input: &[u8], from: Place, build: Build, rows: &mut [u32], values: &mut [f64]) -> Place
+    requires { IsAlwaysCallable build }
+{
+    graph_by(
+        input,
+        from,
+        |n, col_ptr, rows, values, logs, graph_ptr, graph_rows, cost, cmax, work| {
+            build(
+                n, col_ptr, rows, values, logs, graph_ptr, graph_rows, cost, cmax, work,
+            )
+        },
+        rows,
+        values,
+    )
+}
+
+// One case of a kind's call.
+pub fn graph_of<K: Kind>(input: &[u8], from: Place, rows: &mut [u32], values: &mut [f64]) -> Place {
+    graph_by(
+        input,
+        from,
+        |n, col_ptr, rows, values, logs, graph_ptr, graph_rows, cost, cmax, work| {
+            K::build(
+                n, col_ptr, rows, values, logs, graph_ptr, graph_rows, cost, cmax, work,
+            )
+        },
+        rows,
+        values,
     )
 }

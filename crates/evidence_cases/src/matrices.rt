@@ -3,6 +3,21 @@ use crate::list;
 use crate::list::Place;
 use refusal::Refusal;
 
+// The call that tests a matrix.
+pub type Validate = fn(u32, &[u32], &[u32], &[f64]) -> Result<(), Refusal>;
+
+// The call that assembles triplets.
+pub type Assemble = fn(
+    u32,
+    &[u32],
+    &[u32],
+    &[f64],
+    &mut [u32],
+    &mut [u32],
+    &mut [f64],
+    &mut [u32],
+) -> Result<u32, Refusal>;
+
 // A kind of matrix, by its calls.
 pub trait Kind {
     // Tests a matrix.
@@ -49,21 +64,36 @@ pub fn fill(
 }
 
 // The case, with slices of its lengths: fills them from the list, makes the call, and compares what it leaves.
-fn validate_lent<K: Kind>(
+fn validate_lent<F>(
     input: &[u8],
     from: Place,
+    validate: F,
     n: u32,
     col_ptr: &mut [u32],
     rows: &mut [u32],
     values: &mut [f64],
-) -> Place {
+) -> Place
+where
+    F: Fn(u32, &[u32], &[u32], &[f64]) -> Result<(), Refusal>,
+    requires { F.IsAlwaysCallable validate }
+{
     let place = fill(input, from, col_ptr, rows, values);
-    let answer = K::validate(n, col_ptr, rows, values);
+    let answer = validate(n, col_ptr, rows, values);
     list::expect(input, place, refusal::answer(answer))
 }
 
-// One case of the call: the lengths of its slices, then the slices.
-pub fn validate<K: Kind>(input: &[u8], from: Place, rows: &mut [u32], values: &mut [f64]) -> Place {
+// One case of a call: the lengths of its slices, then the slices.
+fn validate_by<F>(
+    input: &[u8],
+    from: Place,
+    validate: F,
+    rows: &mut [u32],
+    values: &mut [f64],
+) -> Place
+where
+    F: Fn(u32, &[u32], &[u32], &[f64]) -> Result<(), Refusal>,
+    requires { F.IsAlwaysCallable validate }
+{
     let most = rows.len();
     let places = values.len();
     let n = list::next_u32(input, from);
@@ -71,9 +101,10 @@ pub fn validate<K: Kind>(input: &[u8], from: Place, rows: &mut [u32], values: &m
     let l1 = list::length(input, l0, most);
     let l2 = list::length(input, l1, places);
     let mut col_ptr = [0u32; list::POINTERS];
-    validate_lent::<K>(
+    validate_lent(
         input,
         l2,
+        validate,
         list::word(n),
         &mut col_ptr[..list::size(l0, list::POINTERS)],
         &mut rows[..list::size(l1, most)],
@@ -81,10 +112,40 @@ pub fn validate<K: Kind>(input: &[u8], from: Place, rows: &mut [u32], values: &m
     )
 }
 
-// The case, with slices of its lengths: fills them from the list, makes the call, and compares what it leaves.
-fn triplets_lent<K: Kind>(
+// One case of a call that the caller has as a function.
+pub fn validate(
     input: &[u8],
     from: Place,
+    validate: Validate,
+    rows: &mut [u32],
+    values: &mut [f64],
+) -> Place
+    requires { IsAlwaysCallable validate }
+{
+    validate_by(input, from, validate, rows, values)
+}
+
+// One case of a kind's call.
+pub fn validate_of<K: Kind>(
+    input: &[u8],
+    from: Place,
+    rows: &mut [u32],
+    values: &mut [f64],
+) -> Place {
+    validate_by(
+        input,
+        from,
+        |n, col_ptr, rows, values| K::validate(n, col_ptr, rows, values),
+        rows,
+        values,
+    )
+}
+
+// The case, with slices of its lengths: fills them from the list, makes the call, and compares what it leaves.
+fn triplets_lent<F>(
+    input: &[u8],
+    from: Place,
+    assemble: F,
     n: u32,
     rows: &mut [u32],
     cols: &mut [u32],
@@ -93,11 +154,24 @@ fn triplets_lent<K: Kind>(
     row_idx: &mut [u32],
     values: &mut [f64],
     work: &mut [u32],
-) -> Place {
+) -> Place
+where
+    F: Fn(
+        u32,
+        &[u32],
+        &[u32],
+        &[f64],
+        &mut [u32],
+        &mut [u32],
+        &mut [f64],
+        &mut [u32],
+    ) -> Result<u32, Refusal>,
+    requires { F.IsAlwaysCallable assemble }
+{
     let place = fill(input, from, rows, cols, vals);
     let place = fill(input, place, col_ptr, row_idx, values);
     let place = list::fill(input, place, work);
-    let answer = K::assemble(n, rows, cols, vals, col_ptr, row_idx, values, work);
+    let answer = assemble(n, rows, cols, vals, col_ptr, row_idx, values, work);
     let place = list::expect_answer(input, place, answer);
     let place = list::expect_all(input, place, col_ptr);
     let place = list::expect_all(input, place, row_idx);
@@ -105,8 +179,21 @@ fn triplets_lent<K: Kind>(
     list::expect_all(input, place, work)
 }
 
-// One case of the call: the lengths of its slices, then the slices.
-pub fn triplets<K: Kind>(input: &[u8], from: Place, rows: &mut [u32]) -> Place {
+// One case of a call: the lengths of its slices, then the slices.
+fn triplets_by<F>(input: &[u8], from: Place, assemble: F, rows: &mut [u32]) -> Place
+where
+    F: Fn(
+        u32,
+        &[u32],
+        &[u32],
+        &[f64],
+        &mut [u32],
+        &mut [u32],
+        &mut [f64],
+        &mut [u32],
+    ) -> Result<u32, Refusal>,
+    requires { F.IsAlwaysCallable assemble }
+{
     let most = rows.len();
     let n = list::next_u32(input, from);
     let l0 = list::length(input, n, most);
@@ -122,9 +209,10 @@ pub fn triplets<K: Kind>(input: &[u8], from: Place, rows: &mut [u32]) -> Place {
     let mut row_idx = [0u32; list::ENTRIES];
     let mut values = [0.0f64; list::ENTRIES];
     let mut work = [0u32; list::BUILD_WORK];
-    triplets_lent::<K>(
+    triplets_lent(
         input,
         l6,
+        assemble,
         list::word(n),
         &mut rows[..list::size(l0, most)],
         &mut cols[..list::size(l1, list::ENTRIES)],
@@ -133,5 +221,31 @@ pub fn triplets<K: Kind>(input: &[u8], from: Place, rows: &mut [u32]) -> Place {
         &mut row_idx[..list::size(l4, list::ENTRIES)],
         &mut values[..list::size(l5, list::ENTRIES)],
         &mut work[..list::size(l6, list::BUILD_WORK)],
+    )
+}
+
+// One case of a call that the caller has as a function; of more than seven arguments, `rt` takes it in a closure only.
+pub fn triplets(input: &[u8], from: Place, assemble: Assemble, rows: &mut [u32]) -> Place
+    requires { IsAlwaysCallable assemble }
+{
+    triplets_by(
+        input,
+        from,
+        |n, rows, cols, vals, col_ptr, row_idx, values, work| {
+            assemble(n, rows, cols, vals, col_ptr, row_idx, values, work)
+        },
+        rows,
+    )
+}
+
+// One case of a kind's call.
+pub fn triplets_of<K: Kind>(input: &[u8], from: Place, rows: &mut [u32]) -> Place {
+    triplets_by(
+        input,
+        from,
+        |n, rows, cols, vals, col_ptr, row_idx, values, work| {
+            K::assemble(n, rows, cols, vals, col_ptr, row_idx, values, work)
+        },
+        rows,
     )
 }

@@ -4,6 +4,8 @@
 
 mod choices;
 mod kinds;
+#[cfg(test)]
+mod tests;
 
 use evidence_cases::list::{Place, State};
 use evidence_cases::{factors, graphs, list, matches, matrices};
@@ -15,14 +17,14 @@ const CALLS: usize = 14;
 // One case of a call, from the word after the call's number.
 fn case(input: &[u8], from: Place, call: u32, rows: &mut [u32], values: &mut [f64]) -> Place {
     match call {
-        1 => matrices::validate::<Symmetric>(input, from, rows, values),
-        2 => matrices::validate::<General>(input, from, rows, values),
-        3 => matrices::triplets::<Symmetric>(input, from, rows),
-        4 => matrices::triplets::<General>(input, from, rows),
+        1 => matrices::validate_of::<Symmetric>(input, from, rows, values),
+        2 => matrices::validate_of::<General>(input, from, rows, values),
+        3 => matrices::triplets_of::<Symmetric>(input, from, rows),
+        4 => matrices::triplets_of::<General>(input, from, rows),
         5 => factors::root(input, from),
         6 => matches::matching(input, from, rows, values),
-        7 => graphs::graph::<Symmetric>(input, from, rows, values),
-        8 => graphs::graph::<General>(input, from, rows, values),
+        7 => graphs::graph_of::<Symmetric>(input, from, rows, values),
+        8 => graphs::graph_of::<General>(input, from, rows, values),
         9 => factors::symmetric(input, from),
         10 => factors::unsymmetric(input, from),
         11 => factors::iterated(input, from, rows, values),
