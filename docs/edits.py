@@ -28,7 +28,7 @@ GOAL = re.compile(
     r"returns(-.+)?|loop-(?!loop-).+-(init|preserved|smaller)(-.+)?|.+-requires(-.+)?"
     r"|(slice_)?bounds-.+|overflow_[a-z]+-.+")
 PARTS = re.compile(
-    r"returns|loop|init|preserved|smaller|requires|bounds|slice_bounds|overflow_(add|sub|mul|neg|step|cast)")
+    r"returns|loop|init|preserved|smaller|requires|bounds|slice_bounds|start|end|overflow_(add|sub|mul|neg|step|cast)")
 WORDS = re.compile(r"then|else|in|not|clause|in_err|in_ok|(eq|ne|lt|le|gt|ge)\d*")
 NO_NAMES = set(
     "as bool const else f64 false fn for i32 i64 if in let loop match mut pub ref return true u16 u32 u64 u8 usize use"

@@ -91,7 +91,8 @@ where
     expect(input, place, graph_ptr, graph_rows, cost, cmax, work)
 }
 
-// One case of a call: the lengths of its slices, then the slices.
+// One case of a call: the lengths of its slices, then the slices. The bound stands in full here and above: `rt` states
+// no trait that is short for one of `Fn`.
 fn graph_by<F>(input: &[u8], from: Place, build: F, rows: &mut [u32], values: &mut [f64]) -> Place
 where
     F: Fn(
@@ -144,7 +145,7 @@ where
     )
 }
 
-// One case of a call that the caller has as a function; of more than seven arguments, `rt` takes it in a closure only.
+// One case of a call that the caller has as a function. `rt` lends one of more than seven arguments only in a closure.
 pub fn graph(input: &[u8], from: Place, build: Build, rows: &mut [u32], values: &mut [f64]) -> Place
     requires { IsAlwaysCallable build }
 {
@@ -161,7 +162,7 @@ pub fn graph(input: &[u8], from: Place, build: Build, rows: &mut [u32], values: 
     )
 }
 
-// One case of a kind's call.
+// One case of the call of a kind of matrix.
 pub fn graph_of<K: Kind>(input: &[u8], from: Place, rows: &mut [u32], values: &mut [f64]) -> Place {
     graph_by(
         input,

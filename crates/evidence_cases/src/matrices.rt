@@ -125,7 +125,7 @@ pub fn validate(
     validate_by(input, from, validate, rows, values)
 }
 
-// One case of a kind's call.
+// One case of the call of a kind of matrix.
 pub fn validate_of<K: Kind>(
     input: &[u8],
     from: Place,
@@ -179,7 +179,8 @@ where
     list::expect_all(input, place, work)
 }
 
-// One case of a call: the lengths of its slices, then the slices.
+// One case of a call: the lengths of its slices, then the slices. The bound stands in full here and above: `rt` states
+// no trait that is short for one of `Fn`.
 fn triplets_by<F>(input: &[u8], from: Place, assemble: F, rows: &mut [u32]) -> Place
 where
     F: Fn(
@@ -224,7 +225,7 @@ where
     )
 }
 
-// One case of a call that the caller has as a function; of more than seven arguments, `rt` takes it in a closure only.
+// One case of a call that the caller has as a function. `rt` lends one of more than seven arguments only in a closure.
 pub fn triplets(input: &[u8], from: Place, assemble: Assemble, rows: &mut [u32]) -> Place
     requires { IsAlwaysCallable assemble }
 {
@@ -238,7 +239,7 @@ pub fn triplets(input: &[u8], from: Place, assemble: Assemble, rows: &mut [u32])
     )
 }
 
-// One case of a kind's call.
+// One case of the call of a kind of matrix.
 pub fn triplets_of<K: Kind>(input: &[u8], from: Place, rows: &mut [u32]) -> Place {
     triplets_by(
         input,

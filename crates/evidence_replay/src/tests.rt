@@ -1,4 +1,4 @@
-// The calls on a matrix that are lent as functions, on cases of the list: as they stand there, with another word, and
+// Calls that are lent as functions, on cases of the list: as they stand there, with one word changed, and with a length
 // beyond the room.
 use evidence_cases::list::{Place, State};
 use evidence_cases::{graphs, matrices};
